@@ -10,18 +10,18 @@ use Rattle.chain_log.specs.ChainRule.{newest_for, HasCells, HasDraft}
 use Rattle.chain_log.proofs.ChainSteps.{Rules, blank}
 use Rattle.chain_log.proofs.Names.{name_zero}
 
--- what a log has to show of its own words
+-- a chain's words have what `HasWords` asks: an idle pass knows nothing of them, and word 0 names the newest cell
 has_words : HasWords HasCells HasDraft newest_for
 has_words = record {
   idle = λ words log h empty without. blank words log h empty;
   newest_is = λ sizes words log h cells same. cells.newest ∙ ap (λ s. newest_of s log) (sym same);
 }
 
--- seats may be split and joined, and passes meet
+-- the rule is kept where seats are split and joined, a pass is issued, and passes meet
 pub keeps_seats : KeepsSeats Rules newest_for
 keeps_seats = seats_kept has_words
 
--- a log of so many words can begin
+-- a log can begin, as `OpensSeats` says, with as many words as it has, of which word 0 is 0
 pub opens : (sizes : Sizes) (words : ℕ) → words ≡ word_count sizes.sessions sizes.capacity
     → OpensSeats Rules all_passes newest_for sizes words
 opens sizes words count =

@@ -38,11 +38,11 @@ blank words log k empty = record {
 }
 
 module _ {sizes : Sizes} {words : List ℕ} {views : List SeatView} (r : ChainRule sizes words views) where
-  -- the newest cell's name, by the pass's own count of the sessions
+  -- word 0 is the newest cell's name, by the pass's own number of sessions, too
   pub newest_by : (h : PassView) → h.sessions ≡ sizes.sessions → get_or words 0 0 ≡ newest_of h.sessions r.log
   newest_by h sessions = r.spelled.newest ∙ ap (λ s. newest_of s r.log) (sym sessions)
 
-  -- a pass has seen the whole history
+  -- the rule is kept if no word changes, and a pass has then seen the whole history and has no draft
   pub seen_keeps : (id : ℕ) (h k : PassView) → get_elem? views id ≡ some (Single h) → k.sessions ≡ h.sessions
       → k.capacity ≡ h.capacity
       → k.known.number ≡ h.known.number → k.known.mine ≡ h.known.mine → k.draft ≡ [] → k.known.seen ≡ r.log
@@ -53,7 +53,7 @@ module _ {sizes : Sizes} {words : List ℕ} {views : List SeatView} (r : ChainRu
       (ap (entries_of h.known.number) all ∙ (known r id h here).fact_is.mine) (blank words r.log k draft)
       (λ g apart low other. other.own)).0
 
-  -- a word of the cell of an entry that was seen
+  -- in the cell of an entry that a pass has seen are the link, the name of the cell before, and the entry's words
   pub read_there : (h : PassView) (row index : ℕ) (entry : Entry) → Knows sizes words r.log h → index < 22
       → slice_get h.known.seen row ≡ Some entry
       → get_or words (cell_at (name_at h.sessions row entry.session) + index) 0
@@ -67,7 +67,7 @@ module _ {sizes : Sizes} {words : List ℕ} {views : List SeatView} (r : ChainRu
       (omega (arith, slice_get_within h.known.seen row entry is)))
       ∙ ap (λ s. name_before s h.known.seen row) (sym k.sessions))
 
--- a look: the load of the newest cell's name (word 0) keeps it, and tells what `Sees` says
+-- a look: the load of the newest cell's name (word 0) keeps the rule, and tells what `Sees` says
 pub look_step : (sizes : Sizes) (slots id : ℕ) (h : PassView)
     → Allows (Rules sizes) slots id (seated h) 0 (λ n. n) (Tells (Sees 0 h))
 look_step sizes slots id h =
@@ -79,7 +79,7 @@ look_step sizes slots id h =
       (refl, r.log, refl, newest_by r h k.sessions, history r h k),
     ))
 
--- the load of a cell's word keeps it, and tells what `Reads` says
+-- the load of a cell's word keeps the rule, and tells what `Reads` says
 pub read_step : (sizes : Sizes) (slots id word : ℕ) (h : PassView) → word ≢ 0
     → Allows (Rules sizes) slots id (seated h) word (λ n. n) (Tells (Reads word h))
 read_step sizes slots id word h behind =

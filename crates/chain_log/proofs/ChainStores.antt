@@ -34,7 +34,7 @@ use Rattle.chain_log.proofs.Chains.{chain_of, one_chain}
 use Rattle.chain_log.proofs.ChainSteps.{Rules, blank, newest_by, seen_keeps}
 use Rattle.chain_log.proofs.Names.{name_begins, name_low, newest_added, one_cell, one_length, within_words, words_apart}
 
--- the words alone say which history it is
+-- if the rule holds of the same words twice, with any seats, its history is the same both times
 one_log : (sizes : Sizes) (words : List ℕ) (one other : List SeatView) (p : ChainRule sizes words one)
     (q : ChainRule sizes words other) → p.log ≡ q.log
 one_log sizes words one other p q =
@@ -48,7 +48,7 @@ module _ {sizes : Sizes} {words : List ℕ} {views : List SeatView} (r : ChainRu
       let p = known r id h here in
       (omega (arith, p.low), omega (arith, p.high, r.within))
 
-  -- a pass's own cell, by the log's count of the sessions
+  -- a pass's own cell is the same by its own number of sessions and by the log's
   own_by : (h : PassView) → h.sessions ≡ sizes.sessions → own_cell h
       ≡ cell_at (name_at sizes.sessions (length h.known.seen) h.known.number)
   own_by h sessions = ap (λ s. cell_at (name_at s (length h.known.seen) h.known.number)) sessions
@@ -71,7 +71,7 @@ module _ {sizes : Sizes} {words : List ℕ} {views : List SeatView} (r : ChainRu
       (omega (arith, c.0)) is c.1)
       below' below (same ∙ ap (λ a. a + index) (own_by h k.sessions))
 
-  -- nor is it a word of the draft of a pass of another number
+  -- a word of a pass's own cell isn't a word of the draft of a pass of another number
   not_of_other : (id : ℕ) (h g : PassView) (index i : ℕ) → get_elem? views id ≡ some (Single h) → index < 22
       → g.known.number ≢ h.known.number
       → 0 < g.known.number
@@ -90,7 +90,7 @@ module _ {sizes : Sizes} {words : List ℕ} {views : List SeatView} (r : ChainRu
       (omega (arith, less, k.own.short)) below (sym (ap (λ a. a + i) (own_by g k.sessions)) ∙ same
       ∙ ap (λ a. a + index) (own_by h p.sessions))
 
-  -- the own cell is within the log
+  -- the words of a pass's own cell are words of the log, if the pass hasn't seen as much as the log can have
   own_within : (id : ℕ) (h : PassView) (index : ℕ) → get_elem? views id ≡ some (Single h) → index < 22
       → length h.known.seen < h.capacity
       → own_cell h + index < length words
@@ -103,7 +103,8 @@ module _ {sizes : Sizes} {words : List ℕ} {views : List SeatView} (r : ChainRu
       (subst (λ n. cell_at (name_at sizes.sessions (length h.known.seen) h.known.number) + index < n)
       (sym r.spelled.wide) w)
 
-  -- a word of the own cell is stored
+  -- the rule is kept, with the same history, if a pass stores the next word of its draft, or one again, into its own
+  -- cell
   pub draft_keeps : (id : ℕ) (h : PassView) (index new : ℕ) → get_elem? views id ≡ some (Single h)
       → index ≤ length h.draft → index < 22
       → length h.known.seen < h.capacity
@@ -139,7 +140,8 @@ module _ {sizes : Sizes} {words : List ℕ} {views : List SeatView} (r : ChainRu
             (λ i less. not_of_other id h g index i here below apart low other less) other.own.draft;
       })
 
-  -- who has seen all that there is wins, and the own cell is the newest
+  -- the rule is kept, with the entry appended, if a pass that has seen the whole history, and has the link and an
+  -- entry of its number as its draft, stores its own cell's name into word 0, and there was room
   pub win_keeps : (id : ℕ) (h : PassView) (entry : Entry) → get_elem? views id ≡ some (Single h) → h.known.seen ≡ r.log
       → IsEntry entry
       → entry.session ≡ h.known.number → h.draft ≡ newest_of sizes.sessions r.log ∷ words_of entry
@@ -194,7 +196,7 @@ module _ {sizes : Sizes} {words : List ℕ} {views : List SeatView} (r : ChainRu
         draft = holds_beside words 0 new (own_cell g) g.draft (λ i less e. omega arith) other.own.draft;
       })
 
-  -- an equal name means an equal history
+  -- a pass whose last cell seen is named in word 0 has seen the whole history
   pub all_seen : (h : PassView) → Knows sizes words r.log h → newest_of h.sessions h.known.seen ≡ get_or words 0 0
       → h.known.seen ≡ r.log
   all_seen h k same =
@@ -207,7 +209,7 @@ module _ {sizes : Sizes} {words : List ℕ} {views : List SeatView} (r : ChainRu
       (sym mine ∙ same ∙ r.spelled.newest) in
       begins_same h.known.seen r.log k.seen (omega (arith, lengths))
 
-  -- words that a step leaves spell what the rule has after it
+  -- if the rule holds before and after a pass stores a word of its draft into its own cell, the history stays
   pub stored_log : (views' : List SeatView) (id : ℕ) (h : PassView) (index new : ℕ)
       → get_elem? views id ≡ some (Single h) → index ≤ length h.draft → index < 22
       → length h.known.seen < h.capacity
@@ -217,6 +219,8 @@ module _ {sizes : Sizes} {words : List ℕ} {views : List SeatView} (r : ChainRu
       one_log sizes (set words (own_cell h + index) new) views' (set views id (Single (drafted h index new))) after t.0
       ∙ t.1
 
+  -- if the rule holds before and after a pass, whose last cell seen is the newest and whose draft is its entry's cell,
+  -- stores its own cell's name into word 0, the history has that entry more
   pub won_log : (views' : List SeatView) (id : ℕ) (h : PassView) (entry : Entry) → get_elem? views id ≡ some (Single h)
       → get_or words 0 0 ≡ newest_of h.sessions h.known.seen → IsEntry entry → entry.session ≡ h.known.number
       → h.draft ≡ newest_of h.sessions h.known.seen ∷ words_of entry → length h.known.seen < h.capacity
@@ -238,7 +242,7 @@ module _ {sizes : Sizes} {words : List ℕ} {views : List SeatView} (r : ChainRu
       (set views id (Single (won h entry))) after t.0 ∙ t.1)
       after
 
-  -- another name means a longer history
+  -- if word 0 has another name than the last that a pass has seen, the history is longer than what it has seen
   more_there : (h : PassView) → Knows sizes words r.log h → newest_of h.sessions h.known.seen ≢ get_or words 0 0
       → length h.known.seen < length r.log
   more_there h k other =
@@ -248,7 +252,7 @@ module _ {sizes : Sizes} {words : List ℕ} {views : List SeatView} (r : ChainRu
       ∙ sym (newest_by r h k.sessions))))
       (λ longer. omega arith)
 
--- a store into the pass's own cell, which isn't published yet, keeps the rule
+-- a store of a draft's next word, or of one again, into the pass's own cell keeps the rule, as `Drafts` says
 pub draft_step : (sizes : Sizes) (slots id word index new : ℕ) (h : PassView) → word ≡ own_cell h + index
     → index ≤ length h.draft → index < 22
     → length h.known.seen < h.capacity
@@ -257,7 +261,7 @@ draft_step sizes slots id word index new h at along below room =
     store_step sizes slots id (own_cell h) word index new h at
     (λ words views r here. (draft_keeps r id h index new here along below room).0)
 
--- a 0 that is found in the own cell is a word of the draft; any other word leaves the draft
+-- the load of a word of the own cell keeps the rule: a 0 is then a word of the draft; any other word leaves the draft
 pub find_step : (sizes : Sizes) (slots id word index : ℕ) (h : PassView) → word ≡ own_cell h + index
     → index ≤ length h.draft → index < 22
     → length h.known.seen < h.capacity
@@ -282,7 +286,8 @@ find_step sizes slots id word index h at along below room =
     ))
     (λ other. (h, unmoved r id h here, (behind, (λ blank. absurd (other blank)), (λ _. refl)))))
 
--- the exchange that publishes the cell, or fails since another was faster, keeps it, too
+-- the exchange that makes the own cell the newest, or fails since another was faster, keeps the rule, as `Exchanges`
+-- says
 pub exchange_step : (sizes : Sizes) (slots id old own : ℕ) (h : PassView) (entry : Entry)
     → old ≡ newest_of h.sessions h.known.seen
     → own ≡ name_at h.sessions (length h.known.seen) h.known.number

@@ -53,6 +53,7 @@ module _ (sizes : Sizes) (words : List ℕ) (views : List SeatView) (r : ChainRu
             (sym (holds_first words at (name_before sizes.sessions r.log row) (words_of e) cell)) before,
       ))
 
+  -- if the rule holds, the words are a chain of its history
   pub chain_of : Chain words r.log
   chain_of =
       subst (λ name. Walk words name (reverse r.log)) (sym r.spelled.newest)

@@ -5,7 +5,7 @@ use Rattle.std.specs.Prelude.{slice_get}
 use Rattle.decision_log.specs.declared.known.Known.{Known}
 use Rattle.decision_log.specs.Known.{newcomer}
 
--- equal elements that were found are equal
+-- if two elements are equal as found (`Some`), they are equal
 some_injective : {A : Type 0} (a b : A) → Some a ≡ Some b → a ≡ b
 some_injective a b is = cc
 
@@ -19,11 +19,11 @@ get_last (x ∷ xs) last zero one is = inl is
 get_last (x ∷ xs) last (suc place) one is =
     ⊎_elim (λ h. inl h) (λ h. inr (ap suc h.0, h.1)) (get_last xs last place one is)
 
--- each is a newcomer, with a number that follows from its place
+-- each pass or spare of a list is a newcomer, and its number is `number` of its place
 pub record Numbered {A : Type 0} (known : A → Known) (number : ℕ → ℕ) (xs : List A) : Type 0 where
   pub at : (place : ℕ) (one : A) → slice_get xs place ≡ Some one → known one ≡ newcomer (number place)
 
--- so is each after one more, of the next number
+-- if a list is `Numbered`, and a newcomer with the next place's number is put behind it, the longer list is, too
 pub numbered_more : {A : Type 0} (known : A → Known) (number : ℕ → ℕ) (count : ℕ) (xs ys : List A) (last : A)
     → ys ≡ xs ++ last ∷ []
     → length xs ≡ count

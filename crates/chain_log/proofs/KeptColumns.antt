@@ -41,7 +41,7 @@ session_ranged sessions log row all below =
     subst (λ n. (1 ≤ n) × (n ≤ sessions)) (sym (session_there log row e.0 e.1))
     (ranged_all sessions log all row e.0 e.1)
 
--- a longer history has the same entries where the shorter one reaches
+-- in the rows of a prefix a history has entries of the same sessions
 pub session_begins : (xs ys : List Entry) (row : ℕ) → Begins xs ys → row < length xs
     → session_at xs row ≡ session_at ys row
 session_begins xs ys row begins below =
@@ -79,7 +79,8 @@ columns_more capacity xs entry columns column room is kept =
           ∙ session_begins xs ys row begins (omega (arith, longer)));
     }
 
--- the name of the cell that a row has below it
+-- the name before a row, which isn't row 0, is that of the cell of the row before, in the column of its entry's
+-- session, and this is one of the log's
 pub column_here : (sessions : ℕ) (log : List Entry) (row name : ℕ) → AllOf sessions log → 0 < row → row ≤ length log
     → name ≡ name_before sessions log row
     → (1 ≤ session_at log (row - 1)) × (session_at log (row - 1) ≤ sessions)
@@ -94,13 +95,13 @@ column_here sessions log row name all some within is =
           (name_by_column sessions log below (session_at log below) refl),
     )
 
--- a table that is filled from the newest row back: the rows below the first are in it, and those from a row on
+-- a table that is filled from the newest row back: it is right for the rows below `first`, and for those from `row` on
 pub record IsFilling (capacity first row : ℕ) (history : List Entry) (columns : List ℕ) : Type 0 where
   pub sized : length columns ≡ capacity
   pub before : (k : ℕ) → k < first → slice_index columns k ≡ session_at history k
   pub behind : (k : ℕ) → row ≤ k → k < length history → slice_index columns k ≡ session_at history k
 
--- the table of columns is filled from the newest row back: before the first step it is right up to `first`
+-- before the first step, with `row` past the history, a table that is right for the rows below `first` is filling
 pub filling_first : (capacity first row : ℕ) (log : List Entry) (columns : List ℕ) → length log ≤ row
     → HasColumns capacity first log columns
     → IsFilling capacity first row log columns
@@ -110,7 +111,7 @@ filling_first capacity first row log columns all kept = record {
   behind = λ k from below. absurd (omega arith);
 }
 
--- the step: this row's column is that of the session whose entry it has
+-- the step: if the row before `row` gets the session of its entry, the table is filling from that row on
 pub filling_next : (capacity first row column : ℕ) (log : List Entry) (columns : List ℕ) → first < row
     → row ≤ length log → length log ≤ capacity
     → column ≡ session_at log (row - 1)
@@ -128,7 +129,7 @@ filling_next capacity first row column log columns some within room is filling =
           (λ ne. get_or-set_other columns below k column 0 ne ∙ filling.behind k (omega arith) low);
     }
 
--- at the end the table is right for the whole history
+-- if `row` has come down to `first`, the table is right for the whole history
 pub filling_last : (capacity first row : ℕ) (log : List Entry) (columns : List ℕ) → row ≤ first
     → IsFilling capacity first row log columns
     → HasColumns capacity (length log) log columns

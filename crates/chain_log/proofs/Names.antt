@@ -104,24 +104,24 @@ session_there [] row entry is = cc
 session_there (x ∷ xs) zero entry is = ap (λ e. e.session) (some_injective x entry is)
 session_there (x ∷ xs) (suc row) entry is = session_there xs row entry is
 
--- the name before the first entry is 0, which is no cell's
+-- the name before row 0 is 0, which is no cell's
 pub name_zero : (sessions : ℕ) (log : List Entry) → name_before sessions log zero ≡ 0
 unfolding name_before
 name_zero sessions log = refl
 
--- the cell before a row's next is the one with the entry of that row
+-- the name before the row after this one is that of the cell of this row's entry
 pub name_next : (sessions : ℕ) (log : List Entry) (row : ℕ) (entry : Entry) → slice_get log row ≡ Some entry
     → name_before sessions log (suc row) ≡ name_at sessions row entry.session
 unfolding name_before
 name_next sessions log row entry is = ap (name_at sessions row) (session_there log row entry is)
 
--- the cell before a row's next is the one with the entry of that row, with the next row written as row + 1
+-- the name before the row after this one, written as row + 1, is that of the cell of this row's entry
 pub name_next_one : (sessions : ℕ) (log : List Entry) (row : ℕ) (entry : Entry) → slice_get log row ≡ Some entry
     → name_before sessions log (row + 1) ≡ name_at sessions row entry.session
 name_next_one sessions log row entry is =
     ap (name_before sessions log) (add-one row) ∙ name_next sessions log row entry is
 
--- a prefix has the same names
+-- a prefix of a history has the same names before its rows
 pub name_begins : (sessions : ℕ) (xs ys : List Entry) (row : ℕ) → Begins xs ys → row ≤ length xs
     → name_before sessions xs row ≡ name_before sessions ys row
 name_begins sessions xs ys zero begins within = name_zero sessions xs ∙ sym (name_zero sessions ys)
@@ -146,13 +146,13 @@ abbrev pub Ranged : ℕ → List Entry → Type 0
 Ranged sessions log = (row : ℕ) (entry : Entry) → slice_get log row ≡ Some entry
     → (1 ≤ entry.session) × (entry.session ≤ sessions)
 
--- entries of sessions up to a number have that session's column
+-- if all entries are of sessions 1 to a number (`AllOf`), so is the entry at each row (`Ranged`)
 pub ranged_all : (sessions : ℕ) (log : List Entry) → AllOf sessions log → Ranged sessions log
 ranged_all sessions log all row entry is =
     subst (λ e. (1 ≤ e.session) × (e.session ≤ sessions)) (get_or_from_slice_get log row entry entry is)
     (all row entry (slice_get_within log row entry is))
 
--- a name that isn't 0 is of a cell
+-- the name of the cell of a row that the history has isn't 0
 pub name_some : (sessions : ℕ) (log : List Entry) (row : ℕ) → Ranged sessions log → row < length log
     → 1 ≤ name_before sessions log (suc row)
 name_some sessions log row ranged below =
@@ -161,7 +161,7 @@ name_some sessions log row ranged below =
     let low = name_low sessions row e.0.session (ranged row e.0 e.1).0 in
     omega (arith, named)
 
--- equal names are of equally long prefixes
+-- if the names before two rows of one history are equal, the rows are the same
 pub one_length : (sessions : ℕ) (log : List Entry) (m n : ℕ) → Ranged sessions log → m ≤ length log → n ≤ length log
     → name_before sessions log m ≡ name_before sessions log n → m ≡ n
 one_length sessions log zero zero ranged low low' same = refl
@@ -181,7 +181,7 @@ one_length sessions log (suc m) (suc n) ranged low low' same =
     ap suc (one_cell sessions m n e.0.session f.0.session a.0 a.1 b.0 b.1
     (sym (name_next sessions log m e.0 e.1) ∙ same ∙ name_next sessions log n f.0 f.1)).0
 
--- how long a history is, by the name of its newest cell
+-- if the name of a history's newest cell isn't 0, the history is as long as that cell's row, by its name, and one more
 pub length_by_newest : (sessions newest : ℕ) (log : List Entry) → AllOf sessions log → newest ≡ newest_of sessions log
     → newest ≢ 0
     → (newest - 1) / sessions + 1 ≡ length log
@@ -209,7 +209,7 @@ pub record IsName (sessions capacity name : ℕ) : Type 0 where
   pub high : name ≤ 16384
   pub words : (index : ℕ) → index < 22 → cell_at name + index < word_count sessions capacity
 
--- the name of a cell within the capacity is one that the code can have
+-- the name of a session's cell, in a row below the capacity, is as `IsName` says, if the log's sizes are in range
 pub cell_fits : (sessions capacity row session name : ℕ) → sessions ≤ 16 → capacity ≤ 1024 → row < capacity
     → 1 ≤ session → session ≤ sessions
     → name ≡ name_at sessions row session → IsName sessions capacity name
@@ -221,7 +221,7 @@ cell_fits sessions capacity row session name few short below low high is =
       words = λ index less. within_words sessions capacity row session index below low high less;
     })
 
--- so are the names of the cells that a pass has seen
+-- the name of the cell of each row that was seen is as `IsName` says, if the log's sizes are in range
 pub seen_fits : (sessions capacity row name : ℕ) (seen : List Entry) → sessions ≤ 16 → capacity ≤ 1024
     → AllOf sessions seen → length seen ≤ capacity
     → row < length seen → name ≡ name_before sessions seen (row + 1) → IsName sessions capacity name

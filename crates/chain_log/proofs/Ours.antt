@@ -7,7 +7,7 @@ use Rattle.chain_log.specs.Cells.{name_at, name_before}
 use Rattle.chain_log.specs.ChainSeat.{IsOurs}
 use Rattle.chain_log.proofs.Names.{IsName, seen_fits, cell_fits}
 
--- the name of a cell that was seen
+-- the name of the cell of a row that a pass has seen is one of the log's names
 pub seen_name : (log : ChainLog) (h : PassView) (name : ℕ) → IsOurs log h
     → (row : ℕ) × (row < length h.known.seen) × (name ≡ name_before h.sessions h.known.seen (row + 1))
     → IsName log.sessions log.capacity name

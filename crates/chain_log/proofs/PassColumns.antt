@@ -17,12 +17,12 @@ use Rattle.chain_log.specs.ChainTransitions.{won}
 use Rattle.chain_log.proofs.KeptColumns.{columns_longer, columns_more}
 use Rattle.chain_log.proofs.Names.{length_by_newest, length_by_zero}
 
--- a count is what a name says of how many entries there are
+-- `count` is how many entries each history has whose newest name is `newest`
 abbrev pub CountsBy : ℕ → ℕ → ℕ → Type 0
 CountsBy sessions newest count = (seen : List Entry) → AllOf sessions seen → newest ≡ newest_of sessions seen
     → count ≡ length seen
 
--- the name of the last cell tells how many entries the pass has seen
+-- if a count is right for the name of a pass's last cell, the pass has seen so many entries
 pub seen_count : (log : ChainLog) (pass : ChainPass) (count : ℕ) → log_of pass ≡ identity_of log
     → CountsBy log.sessions pass.newest count
     → count ≡ length (pass_view pass.seat).known.seen
@@ -32,7 +32,7 @@ seen_count log pass count belongs counts =
     counts h.known.seen (subst (λ n. AllOf n h.known.seen) sessions pass.state.among)
     (pass.named ∙ ap (λ n. newest_of n h.known.seen) sessions)
 
--- one name counts the same entries in every history
+-- two histories with the same newest name are equally long
 same_count : (sessions newest : ℕ) (xs ys : List Entry) → AllOf sessions xs → newest ≡ newest_of sessions xs
     → AllOf sessions ys
     → newest ≡ newest_of sessions ys → length xs ≡ length ys
@@ -41,7 +41,7 @@ same_count sessions newest xs ys x xn y yn =
     (λ none. sym (length_by_zero sessions newest xs x xn none) ∙ length_by_zero sessions newest ys y yn none)
     (λ some. sym (length_by_newest sessions newest xs x xn some) ∙ length_by_newest sessions newest ys y yn some)
 
--- what a pass counts is what the name of its last cell says
+-- what a pass keeps as its count is how many entries each history has whose newest cell is the pass's last one
 pub own_count : (log : ChainLog) (pass : ChainPass) → log_of pass ≡ identity_of log
     → CountsBy log.sessions pass.newest pass.count
 own_count log pass belongs seen all same =
@@ -52,7 +52,7 @@ own_count log pass belongs seen all same =
     (subst (λ n. AllOf n h.known.seen) sessions pass.state.among)
     (pass.named ∙ ap (λ n. newest_of n h.known.seen) sessions) all same
 
--- after a step that saw more, the table has the rows that were seen before
+-- after a step that saw more, the table is still right for the rows that were seen before, of which there are `count`
 pub kept_before : (log : ChainLog) (pass : ChainPass) (at after : PassView) (count : ℕ) → at ≡ after
     → log_of pass ≡ identity_of log
     → CountsBy log.sessions pass.newest count
@@ -66,7 +66,7 @@ kept_before log pass at after count is belongs counts capacity begins =
     (subst (λ n. HasColumns h.capacity n after.known.seen pass.columns.items)
     (sym (seen_count log pass count belongs counts)) longer))
 
--- after an exchange that won, the table has the added entry's row too
+-- after an exchange that won, the table is right if the byte of the added entry's row, `count`, gets its session
 pub kept_after : (log : ChainLog) (pass : ChainPass) (at before : PassView) (entry : Entry) (count column : ℕ)
     → at ≡ won before entry
     → log_of pass ≡ identity_of log

@@ -18,12 +18,12 @@ use Rattle.chain_log.specs.RingPass.{identity_of, log_of}
 use Rattle.chain_log.specs.RingTransitions.{won}
 use Rattle.chain_log.proofs.Tables.{window_longer, window_more}
 
--- a count is what a name says of how many entries there are
+-- `count` is how many entries each history has whose newest name is `newest`
 abbrev pub CountsBy : ℕ → ℕ → ℕ → Type 0
 CountsBy sessions newest count = (seen : List Entry) → AllOf sessions seen → newest ≡ newest_of sessions seen
     → count ≡ length seen
 
--- one name counts the same entries in every history
+-- two histories with the same newest name are equally long
 pub same_count : (sessions newest : ℕ) (xs ys : List Entry) → AllOf sessions xs → newest ≡ newest_of sessions xs
     → AllOf sessions ys
     → newest ≡ newest_of sessions ys → length xs ≡ length ys
@@ -32,7 +32,7 @@ same_count sessions newest xs ys x xn y yn =
     (λ none. sym (length_by_zero sessions newest xs x xn none) ∙ length_by_zero sessions newest ys y yn none)
     (λ some. sym (length_by_newest sessions newest xs x xn some) ∙ length_by_newest sessions newest ys y yn some)
 
--- what a pass counts is what the name of its last entry says
+-- what a pass keeps as its count is how many entries each history has whose newest name is the pass's last one
 pub own_count : (log : RingLog) (pass : RingPass) → log_of pass ≡ identity_of log
     → CountsBy log.columns pass.newest pass.count
 own_count log pass belongs seen all same =
@@ -42,12 +42,12 @@ own_count log pass belongs seen all same =
     ∙ same_count log.columns pass.newest h.known.seen seen (subst (λ n. AllOf n h.known.seen) sessions pass.state.among)
     (pass.named ∙ ap (λ n. newest_of n h.known.seen) sessions) all same
 
--- a pass's rows are the log's
+-- the number of rows by a pass's capacity is the log's
 pub rows_are : (log : RingLog) (pass : RingPass) → log_of pass ≡ identity_of log
     → rows_of (pass_view pass.seat).capacity ≡ log.rows
 rows_are log pass belongs = ap (λ (identity : LogIdentity). rows_of identity.capacity) belongs ∙ sym log.turns
 
--- after a step that saw more, the table has the places that were seen before
+-- after a step that saw more, the table is still right for the places that were seen before, from `low` to the count
 pub kept_before : (log : RingLog) (pass : RingPass) (at after : PassView) → at ≡ after → log_of pass ≡ identity_of log
     → Begins (pass_view pass.seat).known.seen after.known.seen
     → HasWindow log.rows pass.low pass.count at.known.seen pass.columns.items
@@ -60,7 +60,7 @@ kept_before log pass at after is belongs begins =
     (subst (λ n. HasWindow (rows_of h.capacity) pass.low n after.known.seen pass.columns.items)
     (sym pass.state.measured) longer))
 
--- after an exchange that won, the table has the added entry's place too
+-- after an exchange that won, the table is right if the byte of the added entry's place gets its session
 pub kept_after : (log : RingLog) (pass : RingPass) (at before : PassView) (entry : Entry) (column : ℕ)
     → at ≡ won before entry
     → log_of pass ≡ identity_of log

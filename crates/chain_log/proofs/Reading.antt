@@ -8,17 +8,18 @@ use Rattle.xa_words.specs.Words.{words_of}
 use Rattle.xa_words.proofs.Spelling.{length-words_of}
 use Rattle.xa_words.proofs.Behind.{behind_first, behind_second}
 
--- a part is read, and the words beside it stay
+-- between `old` and `new` the words from `from` to `end` became the entry's, and those beside them stayed
 pub record ReadsPart (from end : ℕ) (entry : Entry) (old new : List ℕ) : Type 0 where
   pub below : (word : ℕ) → word < from → get_or new word 0 ≡ get_or old word 0
   pub above : (word : ℕ) → end ≤ word → get_or new word 0 ≡ get_or old word 0
   pub read : (word : ℕ) → from ≤ word → word < end → get_or new word 0 ≡ get_or (words_of entry) word 0
 
--- how many words of a text are read
+-- a text of `size` bytes ends within its first `words` words, of eight: each word behind these begins past its end
 abbrev pub Fills : ℕ → ℕ → Type 0
 Fills size words = (word : ℕ) → words ≤ word → word < 8 → size ≤ 8 * word
 
--- the loop over an entry's words: one more was read
+-- if all words were 0, and then the first five were read, and as many of each text as it fills, by its length among
+-- these, each word is the entry's
 one_read : (entry : Entry) (none head one all : List ℕ) (first second : ℕ)
     → ((word : ℕ) → word < 21 → get_or none word 0 ≡ 0) → ReadsPart 0 5 entry none head
     → ReadsPart 5 (5 + first) entry head one
@@ -52,7 +53,7 @@ one_read entry none head one all first second empty h f s short fills fills' wor
     (λ within. f.read word text (omega (arith, within))))
     (λ before. f.below word (omega (arith, before)) ∙ h.read word (omega arith) (omega (arith, before))))
 
--- the loop over an entry's words ends: all 21 were read
+-- if all words were 0, and then the first five were read, and as many of each text as it fills, all 21 are the entry's
 pub all_read : (entry : Entry) (none head one all : List ℕ) (first second : ℕ)
     → ((word : ℕ) → word < 21 → get_or none word 0 ≡ 0) → ReadsPart 0 5 entry none head
     → ReadsPart 5 (5 + first) entry head one

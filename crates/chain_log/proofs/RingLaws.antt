@@ -30,12 +30,13 @@ use Rattle.chain_log.proofs.Passes.{same_count}
 use Rattle.chain_log.proofs.RingStores.{first_keeps, win_keeps, all_seen}
 
 module _ {sizes : Sizes} {words : List ℕ} {views : List SeatView} (r : RingRule sizes words views) where
-  -- the last entries are in the words
+  -- if the history has fewer entries from an entry's place on than there are rows, the entry's cell has its words
   pub spelled_last : (place : ℕ) (entry : Entry) → slice_get r.log place ≡ Some entry
       → length r.log < place + rows_of sizes.capacity
       → HasWordsAt words (cell_of sizes.capacity place entry.session) (cell_words sizes.sessions r.log place entry)
   spelled_last place entry is near = r.spelled.cells place entry is (r.spelled.fresh place entry is near)
 
+  -- after a pass stores its own name into its own cell, the rule holds with the same history
   pub named_log : (id : ℕ) (h : PassView) → get_elem? views id ≡ some (Single h)
       → (after : RingRule sizes (set words (own_cell h) (own_name h)) (set views id (Single (stored h 0 (own_name h)))))
       × (after.log ≡ r.log)
@@ -45,6 +46,8 @@ module _ {sizes : Sizes} {words : List ℕ} {views : List SeatView} (r : RingRul
       (set views id (Single (stored h 0 (own_name h))))) × (after.log ≡ r.log)) at
       (first_keeps r id h here)
 
+  -- after a pass, whose last name seen is the newest and whose draft is its entry's cell, stores its own name into
+  -- word 0, the rule holds with that entry appended
   pub won_log : (id : ℕ) (h : PassView) (entry : Entry) → get_elem? views id ≡ some (Single h)
       → get_or words 0 0 ≡ newest_for h → IsEntry entry
       → entry.session ≡ h.known.number → h.turn ≡ Without → h.draft ≡ own_name h ∷ newest_for h ∷ words_of entry
@@ -64,11 +67,13 @@ module _ {sizes : Sizes} {words : List ℕ} {views : List SeatView} (r : RingRul
 
 module _ {sizes : Sizes} {words : List ℕ} {views views' : List SeatView} (p : RingRule sizes words views)
     (q : RingRule sizes words views') where
+  -- two histories for which the rule holds of the same words are equally long
   pub one_length_of : length p.log ≡ length q.log
   one_length_of =
       same_count sizes.sessions (get_or words 0 0) p.log q.log (all_of p) p.spelled.newest (all_of q) q.spelled.newest
 
-  -- two entries that one name has are the same where both are in the words
+  -- if at one of the last places (fewer entries from there on than rows) both histories have the same name, they have
+  -- the same entry there and the same link
   same_there : (place : ℕ) (e f : Entry) → slice_get p.log place ≡ Some e → slice_get q.log place ≡ Some f
       → length p.log < place + rows_of sizes.capacity
       → name_before sizes.sessions p.log (suc place) ≡ name_before sizes.sessions q.log (suc place)
@@ -92,7 +97,7 @@ module _ {sizes : Sizes} {words : List ℕ} {views views' : List SeatView} (p : 
       (λ k below. each (suc (suc k)) (omega (arith, below, length-words_of e))) in
       (one_entry e f (p.entries place e is).0 (q.entries place f is').0 spelled, each 1 (omega arith))
 
-  -- the entry of a place whose name is the same in both
+  -- at one of the last places at which both histories have the same name, they have the same entry and the same link
   at_name : (place : ℕ) → place < length p.log → length p.log < place + rows_of sizes.capacity
       → name_before sizes.sessions p.log (suc place) ≡ name_before sizes.sessions q.log (suc place)
       → (slice_get p.log place ≡ slice_get q.log place) × (name_before sizes.sessions p.log place
@@ -104,7 +109,7 @@ module _ {sizes : Sizes} {words : List ℕ} {views views' : List SeatView} (p : 
       let both = same_there place e.0 f.0 e.1 f.1 near same in
       (e.1 ∙ ap Some both.0 ∙ sym f.1, both.1)
 
-  -- from the newest entry back the links lead to the same entries
+  -- at each of the last places, `behind` places before the newest entry, both histories have the same entry and link
   same_below : (behind place : ℕ) → place + behind + 1 ≡ length p.log → length p.log < place + rows_of sizes.capacity
       → (slice_get p.log place ≡ slice_get q.log place) × (name_before sizes.sessions p.log place
       ≡ name_before sizes.sessions q.log place)
@@ -117,6 +122,7 @@ module _ {sizes : Sizes} {words : List ℕ} {views views' : List SeatView} (p : 
   same_below (suc behind) place whole near =
       at_name place (omega arith) near (same_below behind (suc place) (omega arith) (omega arith)).1
 
+  -- two histories for which the rule holds of the same words have the same entries at the last places
   pub one_history : (place : ℕ) → length p.log < place + rows_of sizes.capacity
       → slice_get p.log place ≡ slice_get q.log place
   one_history place near =
@@ -130,7 +136,7 @@ module _ {sizes : Sizes} {words : List ℕ} {views views' : List SeatView} (p : 
       none (x ∷ xs) zero past = absurd (omega arith)
       none (x ∷ xs) (suc place) past = none xs place (omega arith)
 
--- a pass that looks has seen the whole history, which is as before
+-- after a step by which a pass's `looks` rise, it has seen the whole history, which is as long as before
 pub look_sees : (sizes : Sizes) (words words' : List ℕ) (views views' : List SeatView) (r : RingRule sizes words views)
     (after : RingRule sizes words' views')
     (step : Atomic) (found id : ℕ) (old new : PassView) → Does step words found words'

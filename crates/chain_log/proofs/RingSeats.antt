@@ -11,18 +11,18 @@ use Rattle.chain_log.specs.Places.{rows_of, word_count}
 use Rattle.chain_log.specs.RingRule.{newest_for, HasCells, HasNotes}
 use Rattle.chain_log.proofs.RingSteps.{Rules, idle}
 
--- what a log has to show of its own words
+-- a ring's words have what `HasWords` asks: an idle pass knows nothing of them, and word 0 names the newest entry
 has_words : HasWords HasCells HasNotes newest_for
 has_words = record {
   idle = λ words log h empty without. idle words log h empty without;
   newest_is = λ sizes words log h cells same. cells.newest ∙ ap (λ s. newest_of s log) (sym same);
 }
 
--- seats may be split and joined, and passes meet
+-- the rule is kept where seats are split and joined, a pass is issued, and passes meet
 pub keeps_seats : KeepsSeats Rules newest_for
 keeps_seats = seats_kept has_words
 
--- a log of so many words can begin
+-- a ring with a row can begin, as `OpensSeats` says, with as many words as it has, of which word 0 is 0
 pub opens : (sizes : Sizes) (words : ℕ) → 0 < rows_of sizes.capacity
     → words ≡ word_count sizes.sessions (rows_of sizes.capacity)
     → OpensSeats Rules all_passes newest_for sizes words

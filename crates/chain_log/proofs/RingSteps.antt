@@ -35,15 +35,15 @@ use Rattle.chain_log.specs.RingTransitions.{with_look, noted, Sees, Checks, Read
 abbrev pub Rules : Sizes → State Entry SeatView → Type 0
 Rules sizes state = RingRule sizes state.words state.views
 
--- the three cases of `Turn` (without a turn, won, fresh) are different
+-- a pass that reads no cell (`Without`) isn't one that reads its entry's cell (`Won`)
 pub without_won : Without ≡ Won → ⊥
 without_won is = cc
 
--- a pass without a turn isn't one whose turn is fresh
+-- a pass that reads no cell (`Without`) isn't one that reads a cell which is another entry's now (`Fresh`)
 pub without_fresh : Without ≡ Fresh → ⊥
 without_fresh is = cc
 
--- a pass whose turn is fresh isn't one that has won
+-- a pass that reads a cell which is another entry's now (`Fresh`) isn't one that reads its entry's cell (`Won`)
 pub fresh_won : Fresh ≡ Won → ⊥
 fresh_won is = cc
 
@@ -56,12 +56,12 @@ blank words h empty = record {
   draft = holds_nothing words (own_cell h) h.draft empty;
 }
 
--- a pass that stored no word and reads no cell has no notes to go with anything
+-- of a pass that stored no word and reads no cell, what it notes is true of any words and history
 pub idle : (words : List ℕ) (log : List Entry) (h : PassView) → h.draft ≡ [] → h.turn ≡ Without → HasNotes words log h
 idle words log h empty without =
     record { notes = subst (λ turn. Notes words log h turn) (sym without) (blank words h empty) }
 
--- the history is as long as a pass knows it to be at least
+-- if what a pass notes is true, the history is at least as long as what it has seen and what it noted beyond that
 least_by : (words : List ℕ) (log : List Entry) (h : PassView) (turn : Turn) → length h.known.seen ≤ length log
     → Notes words log h turn
     → length h.known.seen + beyond_in h turn ≤ length log
@@ -70,25 +70,27 @@ least_by words log h Won low notes = notes
 least_by words log h Fresh low notes = notes.0
 
 module _ {sizes : Sizes} {words : List ℕ} {views : List SeatView} (r : RingRule sizes words views) where
+  -- the history is at least as long as each pass at a seat knows (`least`)
   pub least_low : (id : ℕ) (h : PassView) → get_elem? views id ≡ some (Single h) → least h ≤ length r.log
   least_low id h here =
       let k = (known r id h here).fact_is in
       least_by words r.log h h.turn (length_begins h.known.seen r.log k.seen) k.own.notes
 
-  -- the newest entry's name, by the pass's own count of the sessions
+  -- word 0 is the newest entry's name, by the pass's own number of columns, too
   pub newest_by : (h : PassView) → h.sessions ≡ sizes.sessions → get_or words 0 0 ≡ newest_of h.sessions r.log
   newest_by h sessions = r.spelled.newest ∙ ap (λ s. newest_of s r.log) (sym sessions)
 
-  -- a cell, by the pass's own sizes
+  -- a cell is the same by the pass's own sizes and by the ring's
   pub cell_by : (h : PassView) (place session : ℕ) → Knows sizes words r.log h
       → cell_of h.capacity place session ≡ cell_of sizes.capacity place session
   cell_by h place session k = λ i. cell_of (k.capacity i) place session
 
+  -- a name is the same by the pass's own number of columns and by the ring's
   pub name_by : (h : PassView) (place session : ℕ) → Knows sizes words r.log h
       → name_at h.sessions place session ≡ name_at sizes.sessions place session
   name_by h place session k = λ i. name_at (k.sessions i) place session
 
-  -- the words of the cell of an entry that was seen
+  -- what the words of a seen entry's cell are to be is the same by the history and by what the pass has seen of it
   pub words_by : (h : PassView) (place : ℕ) (entry : Entry) → Knows sizes words r.log h
       → slice_get h.known.seen place ≡ Some entry
       → cell_words sizes.sessions r.log place entry ≡ cell_words h.sessions h.known.seen place entry
@@ -99,7 +101,7 @@ module _ {sizes : Sizes} {words : List ℕ} {views : List SeatView} (r : RingRul
       ∙ ap (λ s. name_before s h.known.seen place) (sym k.sessions) in
       λ i. sym (name_by h place entry.session k) i ∷ link i ∷ words_of entry
 
-  -- a pass has seen the whole history
+  -- the rule is kept if no word changes, and a pass has then seen the whole history, has no draft and reads no cell
   pub seen_keeps : (id : ℕ) (h k : PassView) → get_elem? views id ≡ some (Single h) → k.sessions ≡ h.sessions
       → k.capacity ≡ h.capacity
       → k.known.number ≡ h.known.number → k.known.mine ≡ h.known.mine → k.draft ≡ [] → k.turn ≡ Without
@@ -111,7 +113,7 @@ module _ {sizes : Sizes} {words : List ℕ} {views : List SeatView} (r : RingRul
       (ap (entries_of h.known.number) all ∙ (known r id h here).fact_is.mine) (idle words r.log k draft turn)
       (λ g apart low other. other.own)).0
 
-  -- a pass notes what it found
+  -- the rule is kept if no word changes, and a pass notes a cell's word, a name and a number, and this is true
   pub note_keeps : (id : ℕ) (h : PassView) (word name more : ℕ) (turn : Turn) → get_elem? views id ≡ some (Single h)
       → Notes words r.log (noted h word name more turn) turn
       → RingRule sizes words (set views id (Single (noted h word name more turn)))
@@ -121,14 +123,15 @@ module _ {sizes : Sizes} {words : List ℕ} {views : List SeatView} (r : RingRul
       (record { notes = notes })
       (λ g apart low other. other.own)).0
 
-  -- how many entries the pass hasn't seen
+  -- what a pass has seen and what it hasn't are together no more than the history
   pub unseen : (h : PassView) → Knows sizes words r.log h
       → length h.known.seen + (length r.log - length h.known.seen) ≤ length r.log
   unseen h k =
       let low = length_begins h.known.seen r.log k.seen in
       omega arith
 
-  -- a cell has the name of its entry until so many follow
+  -- if a seen entry's cell has another name, the history has at least as many entries from its place on as there are
+  -- rows
   pub follows : (h : PassView) (place word : ℕ) (entry : Entry) → Knows sizes words r.log h
       → slice_get h.known.seen place ≡ Some entry
       → word ≡ cell_of h.capacity place entry.session → get_or words word 0 ≢ name_at h.sessions place entry.session
@@ -144,7 +147,7 @@ module _ {sizes : Sizes} {words : List ℕ} {views : List SeatView} (r : RingRul
       ∙ r.spelled.fresh place entry (get_begins h.known.seen r.log place entry k.seen is) (omega (arith, rows))
       ∙ sym (name_by h place entry.session k))))
 
-  -- a word of a cell that has the name of an entry that was seen
+  -- if a seen entry's cell has the entry's name, each of its words is the one that it is to be (`cell_words`)
   pub read_there : (h : PassView) (place index : ℕ) (entry : Entry) → Knows sizes words r.log h → index < 23
       → slice_get h.known.seen place ≡ Some entry
       → get_or words (cell_of h.capacity place entry.session) 0 ≡ name_at h.sessions place entry.session
@@ -170,12 +173,12 @@ look_step sizes slots id h =
       (refl, r.log, refl, newest_by r h k.sessions, history r h k, least_low r id h here),
     ))
 
--- a pass that read a cell which is another entry's now knows what follows for the history's length
+-- a pass that takes the cell it reads for another entry's (`Fresh`) is right
 broken : (words : List ℕ) (log : List Entry) (h : PassView) → HasNotes words log h → h.turn ≡ Fresh → IsBroken words h
 broken words log h own fresh = let notes : Notes words log h Fresh =
     subst (λ turn. Notes words log h turn) fresh own.notes in notes.1
 
--- the load of a cell's name, which shows whether the cell was overwritten, keeps it, and tells what `Checks` says
+-- the load of a cell's name, which shows whether the cell was overwritten, keeps the rule, and tells what `Checks` says
 pub check_step : (sizes : Sizes) (slots id word : ℕ) (h : PassView) → word ≢ 0
     → Allows (Rules sizes) slots id (seated h) word (λ n. n) (Tells (Checks word h))
 check_step sizes slots id word h behind =
@@ -197,14 +200,14 @@ check_step sizes slots id word h behind =
       ),
     ))
 
--- the load of a cell's word keeps it, and tells what `Reads` says
+-- the load of a cell's word keeps the rule, and tells what `Reads` says
 pub read_step : (sizes : Sizes) (slots id word : ℕ) (h : PassView) → word ≢ 0
     → Allows (Rules sizes) slots id (seated h) word (λ n. n) (Tells (Reads word h))
 read_step sizes slots id word h behind =
     load_step sizes slots id word h (Reads word h)
     (λ words views r here. by_turn words views r here h.turn refl)
   where
-    -- it reads nothing, or another's cell
+    -- a pass that reads no cell, or one that is another entry's now, stays as it is
     stays : (words : List ℕ) (views : List SeatView) (r : RingRule sizes words views)
         → get_elem? views id ≡ some (Single h) → (h.turn ≡ Won → ⊥)
         → (k : PassView) × RingRule sizes words (set views id (Single k)) × Reads word h (get_or words word 0) k
@@ -227,6 +230,7 @@ read_step sizes slots id word h behind =
       ),
     )
 
+    -- by how the pass reads: it finds the name in the cell once more, or notes that the cell is another entry's now
     by_turn : (words : List ℕ) (views : List SeatView) (r : RingRule sizes words views)
         → get_elem? views id ≡ some (Single h) → (turn : Turn) → h.turn ≡ turn
         → (k : PassView) × RingRule sizes words (set views id (Single k)) × Reads word h (get_or words word 0) k

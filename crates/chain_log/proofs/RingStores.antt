@@ -50,11 +50,12 @@ module _ {sizes : Sizes} {words : List ℕ} {views : List SeatView} (r : RingRul
       let p = known r id h here in
       (omega (arith, p.low), omega (arith, p.high, r.within))
 
-  -- a pass's own cell and name, by the log's sizes
+  -- a pass's own cell is the same by its own sizes and by the ring's
   own_by : (h : PassView) → Knows sizes words r.log h → own_cell h
       ≡ cell_of sizes.capacity (length h.known.seen) h.known.number
   own_by h k = λ i. cell_of (k.capacity i) (length h.known.seen) h.known.number
 
+  -- a pass's own name is the same by its own number of columns and by the ring's
   own_name_by : (h : PassView) → Knows sizes words r.log h
       → own_name h ≡ name_at sizes.sessions (length h.known.seen) h.known.number
   own_name_by h k = λ i. name_at (k.sessions i) (length h.known.seen) h.known.number
@@ -72,7 +73,8 @@ module _ {sizes : Sizes} {words : List ℕ} {views : List SeatView} (r : RingRul
       later_other h.known.number h.known.seen r.log h.known.mine place entry k.seen k.mine k.part
       (omega (arith, c.0)) is c.1
 
-  -- an entry of which a pass's own cell has a word is the pass's, and so many entries follow as there are rows
+  -- if an entry's cell shares a word with a pass's own cell, the history has at least as many entries from its place
+  -- on as there are rows
   own_old : (id : ℕ) (h : PassView) (place i index : ℕ) (entry : Entry) → get_elem? views id ≡ some (Single h)
       → slice_get r.log place ≡ Some entry → i < 23
       → index < 23
@@ -109,7 +111,7 @@ module _ {sizes : Sizes} {words : List ℕ} {views : List SeatView} (r : RingRul
       (omega (arith, less, d.short)) below
       (sym (ap (λ a. a + i) (own_by g k)) ∙ same ∙ ap (λ a. a + index) (own_by h p))).1
 
-  -- the own cell is within the ring
+  -- the words of a pass's own cell are words of the ring
   own_within : (id : ℕ) (h : PassView) (index : ℕ) → get_elem? views id ≡ some (Single h) → index < 23
       → own_cell h + index < length words
   own_within id h index here below =
@@ -120,7 +122,8 @@ module _ {sizes : Sizes} {words : List ℕ} {views : List SeatView} (r : RingRul
       subst (λ a. a + index < length words) (sym (own_by h k))
       (subst (λ n. cell_of sizes.capacity (length h.known.seen) h.known.number + index < n) (sym r.spelled.wide) w)
 
-  -- after a store into the own cell, which has the own name then, a cell that has an entry's name is another
+  -- a word that was stored into a pass's own cell, which has the own name then, isn't one of an entry's cell, if this
+  -- has the entry's name
   not_own : (id : ℕ) (h : PassView) (index new place i : ℕ) (entry : Entry) → get_elem? views id ≡ some (Single h)
       → index < 23 → i < 23
       → get_or (set words (own_cell h + index) new) (own_cell h) 0 ≡ own_name h
@@ -142,7 +145,7 @@ module _ {sizes : Sizes} {words : List ℕ} {views : List SeatView} (r : RingRul
       name_apart id h place entry here is
       (sym intact ∙ ap (λ a. get_or (set words (own_cell h + index) new) a 0) (one ∙ sym (own_by h k)) ∙ named)
 
-  -- the words then still spell the history
+  -- after a store into a pass's own cell, which has the own name then, the words still spell the history
   spelled_beside : (id : ℕ) (h : PassView) (index new : ℕ) → get_elem? views id ≡ some (Single h) → index < 23
       → get_or (set words (own_cell h + index) new) (own_cell h) 0 ≡ own_name h
       → HasCells sizes (set words (own_cell h + index) new) r.log
@@ -170,7 +173,8 @@ module _ {sizes : Sizes} {words : List ℕ} {views : List SeatView} (r : RingRul
             get_or-set_other words word cell new 0 apart ∙ r.spelled.fresh place entry is young;
       }
 
-  -- what another pass knows is so
+  -- after a store into a pass's own cell, which has the own name then, what a pass of another number notes is still
+  -- true
   notes_beside : (id : ℕ) (h g : PassView) (index new : ℕ) (turn : Turn) → get_elem? views id ≡ some (Single h)
       → index < 23
       → get_or (set words (own_cell h + index) new) (own_cell h) 0 ≡ own_name h
@@ -201,7 +205,8 @@ module _ {sizes : Sizes} {words : List ℕ} {views : List SeatView} (r : RingRul
         ∙ still)),
   )
 
-  -- a word of the own cell is stored
+  -- the rule is kept, with the same history, by a store into a pass's own cell, if this has the own name then, and what
+  -- the pass then keeps as its draft is true
   store_keeps : (id : ℕ) (h : PassView) (index new : ℕ) → get_elem? views id ≡ some (Single h) → index < 23
       → get_or (set words (own_cell h + index) new) (own_cell h) 0 ≡ own_name h
       → IsDraft (set words (own_cell h + index) new) (stored h index new)
@@ -216,7 +221,8 @@ module _ {sizes : Sizes} {words : List ℕ} {views : List SeatView} (r : RingRul
       (λ g apart low other. record
       { notes = notes_beside id h g index new g.turn here below named apart low other other.own.notes })
 
-  -- the first is the name, and a pass may be reading before
+  -- the rule is kept, with the same history, if a pass stores its own name into its own cell, whatever its draft was
+  -- before
   pub first_keeps : (id : ℕ) (h : PassView) → get_elem? views id ≡ some (Single h)
       → RuleOf HasCells HasNotes sizes (set words (own_cell h + 0) (own_name h))
       (set views id (Single (stored h 0 (own_name h)))) r.log
@@ -237,7 +243,8 @@ module _ {sizes : Sizes} {words : List ℕ} {views : List SeatView} (r : RingRul
             (λ i less. absurd (omega arith));
       })
 
-  -- and the others follow it
+  -- the rule is kept, with the same history, if a pass that has stored the name stores its draft's next word, or one
+  -- again
   pub next_keeps : (id : ℕ) (h : PassView) (index new : ℕ) → get_elem? views id ≡ some (Single h) → h.turn ≡ Without
       → 0 < index → index ≤ length h.draft
       → index < 23
@@ -267,7 +274,7 @@ module _ {sizes : Sizes} {words : List ℕ} {views : List SeatView} (r : RingRul
       first (x ∷ xs) ys zero behind along = absurd (omega arith)
       first (x ∷ xs) ys (suc index) behind along = refl
 
-  -- what another pass knows is so where word 0 changes and the history gets longer
+  -- what a pass notes is still true after a store into word 0, if the history gets no shorter
   notes_longer : (new : ℕ) (log : List Entry) (g : PassView) (turn : Turn) → length r.log ≤ length log
       → Notes words r.log g turn
       → Notes (set words 0 new) log g turn
@@ -287,7 +294,8 @@ module _ {sizes : Sizes} {words : List ℕ} {views : List SeatView} (r : RingRul
             (λ e. omega (arith, at, low, e))) ∙ still)),
       )
 
-  -- who has seen all that there is wins, and its entry is the newest
+  -- the rule is kept, with the entry appended, if a pass that has seen the whole history, and has its name, the link
+  -- and an entry of its number as its draft, stores its own name into word 0, and there was room
   pub win_keeps : (id : ℕ) (h : PassView) (entry : Entry) → get_elem? views id ≡ some (Single h) → h.known.seen ≡ r.log
       → h.turn ≡ Without → IsEntry entry
       → entry.session ≡ h.known.number → h.draft ≡ own_name h ∷ newest_of sizes.sessions r.log ∷ words_of entry
@@ -360,7 +368,7 @@ module _ {sizes : Sizes} {words : List ℕ} {views : List SeatView} (r : RingRul
       first : (at : ℕ) → at ≡ at + 0
       first at = omega arith
 
-  -- an equal name means an equal history
+  -- a pass whose last name seen is in word 0 has seen the whole history
   pub all_seen : (h : PassView) → Knows sizes words r.log h → newest_of h.sessions h.known.seen ≡ get_or words 0 0
       → h.known.seen ≡ r.log
   all_seen h k same =
@@ -373,7 +381,7 @@ module _ {sizes : Sizes} {words : List ℕ} {views : List SeatView} (r : RingRul
       (sym mine ∙ same ∙ r.spelled.newest) in
       begins_same h.known.seen r.log k.seen (omega (arith, lengths))
 
-  -- another name means a longer history
+  -- if word 0 has another name than the last that a pass has seen, the history is longer than what it has seen
   more_there : (h : PassView) → Knows sizes words r.log h → newest_of h.sessions h.known.seen ≢ get_or words 0 0
       → length h.known.seen < length r.log
   more_there h k other =
@@ -409,7 +417,7 @@ name_step sizes slots id word new h at is =
     subst (λ n. RingRule sizes (set words (own_cell h + 0) n) (set views id (Single (stored h 0 n)))) (sym is)
     (first_keeps r id h here).0)
 
--- so does a store of another word of the cell, which isn't published yet
+-- a store of a draft's next word after the name, or of one again, into the pass's own cell keeps the rule
 pub word_step : (sizes : Sizes) (slots id word index new : ℕ) (h : PassView) → word ≡ own_cell h + index
     → h.turn ≡ Without → 0 < index
     → index ≤ length h.draft → index < 23
@@ -418,7 +426,7 @@ word_step sizes slots id word index new h at without behind along below =
     draft_step sizes slots id word index new h at
     (λ words views r here. (next_keeps r id h index new here without behind along below).0)
 
--- a word that is found in the own cell is a word of the draft
+-- the load of a word of the own cell after the name keeps the rule: what it finds is then a word of the draft
 pub find_step : (sizes : Sizes) (slots id word index : ℕ) (h : PassView) → word ≡ own_cell h + index → h.turn ≡ Without
     → 0 < index
     → index ≤ length h.draft → index < 23
@@ -437,7 +445,7 @@ find_step sizes slots id word index h at without behind along below =
       (far, refl),
     ))
 
--- and the exchange that publishes the cell, or fails since another was faster
+-- the exchange that makes the own entry the newest, or fails since another was faster, keeps the rule
 pub exchange_step : (sizes : Sizes) (slots id old own : ℕ) (h : PassView) (entry : Entry)
     → old ≡ newest_of h.sessions h.known.seen → own ≡ own_name h
     → IsEntry entry → entry.session ≡ h.known.number → h.turn ≡ Without → h.draft ≡ own ∷ old ∷ words_of entry

@@ -26,7 +26,8 @@ window_longer rows low xs ys columns begins is = record {
       is.filled place from below (omega arith) ∙ session_begins xs ys place begins below;
 }
 
--- the table of columns with one place more, below those that it had
+-- if the table is right from place + 1 on, and the place's byte gets the session of its entry, it is right from there
+-- on
 pub window_lower : (rows place count column : ℕ) (log : List Entry) (columns : List ℕ) → 0 < rows → count ≤ length log
     → length log ≤ place + rows
     → column ≡ session_at log place
@@ -53,7 +54,7 @@ pub beside_set : (rows place other column : ℕ) (columns : List ℕ) → other 
 beside_set rows place other column columns apart near near' =
     get_or-set_other columns (place % rows) (other % rows) column 0 (rows_apart rows other place apart near near')
 
--- a table of which only the newest entry's column was filled is right for that place alone
+-- if the byte of the last place gets the session of its entry, the table is right from that place on
 pub window_top : (rows count column : ℕ) (log : List Entry) (columns : List ℕ) → 0 < rows → 0 < count
     → count ≡ length log → length columns ≡ rows
     → column ≡ session_at log (count - 1)
@@ -62,7 +63,9 @@ window_top rows count column log columns some more whole sized is =
     window_lower rows (count - 1) (length log) column log columns some (omega arith) (omega arith) is
     (record { sized = sized; filled = λ place from below near. absurd (omega arith) })
 
--- from `stop` on the table was walked, and below it nothing was touched that counts
+-- if the table was right from `low` to `first` before, is right from `stop` on now, and below `stop` only the byte of
+-- the last place was set, it is right from `low` on; between `first` and `stop` lie only places that its rows don't
+-- reach
 pub window_joined : (rows low first stop count column : ℕ) (log : List Entry) (before after : List ℕ) → 0 < rows
     → count ≡ length log → stop < count
     → (first < stop → count ≡ stop + rows) → HasWindow rows low first log before

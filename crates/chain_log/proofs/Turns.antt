@@ -36,7 +36,7 @@ same_row rows place later same less =
     let c : a + rows ≤ b = further p q rows (omega arith) in
     omega (arith, same, whole, whole'))
 
--- two places with fewer between them don't share one
+-- two different places that are less than so many apart as there are rows don't share a row
 pub rows_apart : (rows place other : ℕ) → place ≢ other → place < other + rows → other < place + rows
     → place % rows ≢ other % rows
 rows_apart rows place other apart near near' same =

@@ -16,7 +16,7 @@ session_fits log h place ours below =
     let few = session_ranged h.sessions h.known.seen place ours.among below in
     (few.0, omega (arith, few.1, ours.sessions))
 
--- the column of a name is the session whose cell has this name
+-- `column` is the session of each place and session that have this name
 abbrev pub ColumnsBy : ℕ → ℕ → ℕ → Type 0
 ColumnsBy sessions name column = (place session : ℕ) → 1 ≤ session → session ≤ sessions
     → name ≡ name_at sessions place session → column ≡ session
@@ -37,7 +37,8 @@ name_some log h place name ours below named =
     let low = name_low log.columns place (session_at h.known.seen place) few.0 in
     omega (arith, named)
 
--- the cell of a place, at a pass that knows the same
+-- a cell, computed by the log's capacity and the session of a place's entry at the view h, is the place's cell at a
+-- later view g of the pass, which keeps what h knew
 pub cell_is : (log : RingLog) (h g : PassView) (place start column : ℕ) → IsOurs log h → KeepsPass h g
     → start ≡ cell_of log.capacity place column
     → column ≡ session_at h.known.seen place
@@ -46,14 +47,16 @@ cell_is log h g place start column ours keeps at is =
     at ∙ ap (cell_of log.capacity place) (is ∙ ap (λ known. session_at known.seen place) (sym keeps.known))
     ∙ (λ i. cell_of (sym (keeps.capacity ∙ ours.capacity) i) place (session_at g.known.seen place))
 
--- the name of the cell of a place that was seen, by its entry's session
+-- a name, computed by the log's columns and the session of a place's entry at the view h, is the entry's name at a
+-- later view g of the pass, which keeps what h knew
 pub name_is : (log : RingLog) (h g : PassView) (place name : ℕ) → IsOurs log h → KeepsPass h g
     → name ≡ name_at log.columns place (session_at h.known.seen place)
     → name ≡ name_at g.sessions place (session_at g.known.seen place)
 name_is log h g place name ours keeps named =
     named ∙ (λ i. name_at (sym (keeps.sessions ∙ ours.sessions) i) place (session_at (sym keeps.known i).seen place))
 
--- the link is the name of the place below
+-- the link in a place's cell, at a view g of the pass that keeps what h knew, is the name of the entry at the place
+-- below, by the log's columns
 pub link_is : (log : RingLog) (h g : PassView) (below link : ℕ) → IsOurs log h → KeepsPass h g
     → link ≡ name_before g.sessions g.known.seen (below + 1)
     → link ≡ name_at log.columns below (session_at h.known.seen below)
@@ -61,7 +64,7 @@ link_is log h g below link ours keeps is =
     is ∙ (λ i. name_before ((keeps.sessions ∙ ours.sessions) i) (keeps.known i).seen (below + 1))
     ∙ sym (name_by_column log.columns h.known.seen below (session_at h.known.seen below) refl)
 
--- the newest name is that of the last place
+-- the newest name that a pass has seen is that of the entry at the last place that it has seen
 pub newest_is : (log : RingLog) (h : PassView) (newest count : ℕ) → IsOurs log h
     → newest ≡ newest_of h.sessions h.known.seen → count ≡ length h.known.seen
     → 0 < count

@@ -16,7 +16,7 @@ use Rattle.chain_log.specs.RingTransitions.{KeepsWatch, Checks, Reads}
 use Rattle.chain_log.specs.RingSeat.{KeepsPass, ReadsCell}
 use Rattle.chain_log.proofs.RingSteps.{without_won}
 
--- what is looked for: an entry that was seen, its cell and its name
+-- what is looked for: an entry that was seen at this place, whose cell begins at `start` and whose name is `name`
 pub record IsLookedFor (start name place : ℕ) (entry : Entry) (h : PassView) : Type 0 where
   pub seen : slice_get h.known.seen place ≡ Some entry
   pub cell : start ≡ cell_of h.capacity place entry.session
@@ -102,7 +102,8 @@ watch_itself h =
       whole = λ whole. whole;
     }
 
--- the cell has another name: so many entries came behind the one that is looked for that its cell was used again
+-- if the cell has another name, the pass knows that the history has at least as many entries from the place on as there
+-- are rows
 pub missed : (start found name place : ℕ) (entry : Entry) (h k : PassView) → Checks start h found k
     → IsLookedFor start name place entry h → found ≢ name
     → place + rows_of h.capacity ≤ least k
@@ -125,7 +126,8 @@ watched start found name place entry h k checks is same =
       ap (λ v. v.turn) checks.2,
     )
 
--- and its name once more: what was read between was the entry's
+-- if the pass has found the entry's name in its cell, goes on reading that cell, and then finds the name there once
+-- more, it still took the cell for the entry's before that (`Won`), so what was read between was the entry's
 pub whole : (start found name place : ℕ) (entry : Entry) (g h k : PassView) → ReadsCell start place entry g
     → g.turn ≡ Won → KeepsWatch g h
     → IsLookedFor start name place entry h → Checks start h found k → found ≡ name → h.turn ≡ Won
@@ -143,7 +145,8 @@ whole start found name place entry g h k reads won keeps is checks same =
     by_turn Fresh turn = absurd (never turn)
     by_turn Without turn = absurd (keeps.reads (λ without. without_won (sym without ∙ won)) turn)
 
--- a cell with another name, of a pass that looked for an entry before: so many entries came behind that one
+-- if the cell of an entry that the pass looked for at its view h has another name at a later load, the pass knows that
+-- the history has at least as many entries from the place on as there are rows
 pub missed_later : (start found name place : ℕ) (entry : Entry) (h g k : PassView) → KeepsPass h g
     → Checks start g found k
     → IsLookedFor start name place entry h → found ≢ name
@@ -152,7 +155,8 @@ missed_later start found name place entry h g k keeps checks is other =
     subst (λ c. place + rows_of c ≤ least k) keeps.capacity
     (missed start found name place entry g k checks (still_for start name place entry h g keeps is) other)
 
--- a name that is found before and after a word is read: the word is of its entry's cell
+-- if the entry's name is found before and after words are read, the pass read the entry's cell, and took it for the
+-- entry's (`Won`) up to the second load
 pub won_between : (start first second name place : ℕ) (entry : Entry) (h g v k : PassView)
     → IsLookedFor start name place entry h → Checks start h first g
     → first ≡ name → KeepsWatch g v → Checks start v second k → second ≡ name
@@ -182,7 +186,7 @@ link_there start first second name place link entry h g v k is before same reads
     (word_there start place 1 link entry g v b.0 reads b.1 (omega arith)).1
     ∙ (λ i. name_before (keeps.sessions i) (keeps.known i).seen place)
 
--- the words of a cell behind its name and its link
+-- the word at 2 + index of a cell's words, which begin with the name and the link, is the entry's word at index
 pub behind_link : (name link index : ℕ) (words : List ℕ)
     → get_or (name ∷ link ∷ words) (2 + index) 0 ≡ get_or words index 0
 behind_link name link index words =

@@ -26,11 +26,11 @@ session_at [] row = 0
 session_at (entry ∷ log) zero = entry.session
 session_at (entry ∷ log) (suc row) = session_at log row
 
--- the cell of the row below, in the column of its entry's session; 0 if no row is below
+-- the name of the cell of the row before, in the column of its entry's session; 0 in row 0
 unfoldable pub name_before : ℕ → List Entry → ℕ → ℕ
 name_before sessions log zero = 0
 name_before sessions log (suc row) = name_at sessions row (session_at log row)
 
--- the cell of the last entry; 0 if there is none
+-- the name of the cell of the last entry; 0 if there is none
 abbrev pub newest_of : ℕ → List Entry → ℕ
 newest_of sessions log = name_before sessions log (length log)

@@ -30,7 +30,7 @@ read_counts =
     (ap (λ h. h.known.tries) is.1) (ap (λ h. h.known.since) is.1) is.0
     (λ never. never))
 
--- the load that finds what is behind what was seen is no look and no try
+-- the load of a word of the own cell is no look and no try, whether it finds a 0 or not
 pub find_counts : IsCounted newest_for try_word (AtLoad Finds)
 find_counts =
     counts_at_load Finds

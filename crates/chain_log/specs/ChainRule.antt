@@ -37,7 +37,8 @@ pub record HasCells (sizes : Sizes) (words : List ℕ) (log : List Entry) : Type
       → HasWordsAt words (cell_at (name_at sizes.sessions row entry.session))
       (name_before sizes.sessions log row ∷ words_of entry)
 
--- a pass's draft is what its own cell begins with
+-- a pass's draft, of at most 22 words, is what its own cell begins with; a pass with a draft has one of the log's
+-- numbers
 pub record HasDraft (words : List ℕ) (log : List Entry) (pass_view : PassView) : Type 0 where
   pub short : length pass_view.draft ≤ 22
   pub column : 0 < length pass_view.draft → pass_view.known.number ≤ pass_view.sessions

@@ -1,6 +1,6 @@
 -- A seat at a chain.
 --     IsSeat          it is a seat of this log, and knows one pass
---     IsOurs          the pass has this log's sizes, one of its numbers, and has seen what it can have
+--     IsOurs          the pass has this log's sizes, one of its numbers, and has seen no more than the log can have
 use Rattle.std.specs.Prelude.{◌≡◌, ◌≤◌, length}
 use Rattle.atomic_table.specs.declared.shared.Seat.{Seat}
 use Rattle.xa_words.specs.Entry.{Entry}
@@ -14,7 +14,8 @@ use Rattle.chain_log.specs.declared.chain.ChainLog.{ChainLog}
 abbrev pub IsSeat : ChainLog → Seat Entry SeatView → Type 0
 IsSeat log seat = KnowsOne log.table.inner.shared.table_id seat
 
--- what holds of the view of each of the log's passes, also within a call
+-- what holds of the view of each of the log's passes, also within a call: it has the log's sizes and a number of one of
+-- its sessions, and has seen no more entries than the log can have, each of one of its sessions
 pub record IsOurs (log : ChainLog) (pass_view : PassView) : Type 0 where
   pub sessions : pass_view.sessions ≡ log.sessions
   pub capacity : pass_view.capacity ≡ log.capacity

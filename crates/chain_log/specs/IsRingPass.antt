@@ -6,7 +6,8 @@ use Rattle.decision_log.specs.declared.view.PassView.{PassView}
 use Rattle.decision_log.specs.History.{entries_of}
 use Rattle.decision_log.specs.Known.{AllOf}
 
--- the view is of a pass with this number, that has seen so many entries
+-- the view is of a pass with this number, one of the log's columns, and with `front` entries seen, no more than the log
+-- can have; each is of one of its columns, and those of the pass's number are its own
 pub record IsRingPass (number front : ℕ) (h : PassView) : Type 0 where
   pub numbered : number ≡ h.known.number
   pub measured : front ≡ length h.known.seen

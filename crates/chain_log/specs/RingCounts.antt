@@ -22,7 +22,7 @@ see_counts =
       since = ((λ _. ap (λ h. h.known.since) is.2), (λ never. absurd never), (λ other _. absurd (other is.0)));
     })
 
--- the load that checks whether a cell was overwritten is no look and no try
+-- the load of the name in a cell is no look and no try
 pub check_counts : IsCounted newest_for try_word (AtLoad Checks)
 check_counts =
     counts_at_load Checks
@@ -38,7 +38,7 @@ read_counts =
     (ap (λ k. k.tries) is.1.known) (ap (λ k. k.since) is.1.known) is.0
     (λ never. never))
 
--- the load that finds what is behind what was seen is no look and no try
+-- the load of a word of the own cell is no look and no try
 pub find_counts : IsCounted newest_for try_word (AtLoad Finds)
 find_counts =
     counts_at_load Finds

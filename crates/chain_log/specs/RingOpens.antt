@@ -1,5 +1,5 @@
 -- What opening a ring gives, and why it is refused.
---     AreRows, IsCount, AreSpares      a number of rows, one of sessions and one of spares, in range
+--     AreRows, AreSpares      a number of rows, and one of spares, in range
 --     OpensPasses, OpensSpares      the passes and the spares that a ring begins with
 --     OpensRing       the ring with both
 --     Refuses         the only cause of each fault

@@ -3,13 +3,14 @@
 --     own_cell        the first word of the cell of that entry
 --     try_word        which word passes exchange when they try to add
 --     newest_for      what that word is if a pass has seen the whole history
---     watched_word, watched_name, beyond      what a pass that reads keeps
+--     watched_word, watched_name, beyond      what a pass that reads a cell keeps in place of a draft
+--     beyond_in       `beyond` of a pass that reads a cell, else 0
 --     least           how many entries the history has at least, as a pass knows
 --     HasCells        the words spell the last entries of a history
 --     IsDraft         what a pass has stored in its own cell
---     IsBroken        the cell that a pass reads is another entry's now
---     Notes, HasNotes what a pass knows of the words is so
---     Knows           what a pass knows of the log is so
+--     IsBroken        the cell that a pass reads has another name now
+--     Notes, HasNotes what a pass keeps as its draft is true of the words, by its `turn`
+--     Knows           what a pass knows of the log is true
 --     RingRule        the rule
 -- Here `h` is a pass's view: what a seat of the log knows of that pass.
 use Rattle.std.specs.Prelude.{◌≡◌, ◌≢◌, ◌<◌, ◌≤◌, ◌+◌, ℕ, List, length, slice_get, slice_index, Some}
@@ -48,11 +49,11 @@ watched_word h = slice_index h.draft 0
 abbrev pub watched_name : PassView → ℕ
 watched_name h = slice_index h.draft 1
 
--- how many entries there were then beyond those that it has seen
+-- how many entries the history had, when the pass noted this, beyond those that it has seen
 abbrev pub beyond : PassView → ℕ
 beyond h = slice_index h.draft 2
 
--- a pass that reads knows of entries that it hasn't seen
+-- how many entries beyond those that it has seen a pass knows of: what it noted, if it reads a cell; else 0
 abbrev pub beyond_in : PassView → Turn → ℕ
 beyond_in h Without = 0
 beyond_in h Won = beyond h
@@ -62,8 +63,9 @@ beyond_in h Fresh = beyond h
 abbrev pub least : PassView → ℕ
 least h = length h.known.seen + beyond_in h h.turn
 
--- word 0 names the newest entry; a cell that has an entry's name has the entry; and it has the name until so many
--- entries follow as there are rows
+-- word 0 names the newest entry (`newest`); if an entry's cell has the entry's name, it has its link and its words
+-- (`cells`); and it has that name while the history has fewer entries from the entry's place on than there are rows
+-- (`fresh`)
 pub record HasCells (sizes : Sizes) (words : List ℕ) (log : List Entry) : Type 0 where
   pub some : 0 < rows_of sizes.capacity
   pub wide : length words ≡ word_count sizes.sessions (rows_of sizes.capacity)
@@ -75,27 +77,30 @@ pub record HasCells (sizes : Sizes) (words : List ℕ) (log : List Entry) : Type
       → length log < place + rows_of sizes.capacity
       → slice_index words (cell_of sizes.capacity place entry.session) ≡ name_at sizes.sessions place entry.session
 
--- a pass's draft is what its own cell begins with, and the first word is the name
+-- a pass's draft, of at most 23 words, is what its own cell begins with; its first word is the own name, and a pass
+-- with a draft has one of the log's numbers
 pub record IsDraft (words : List ℕ) (h : PassView) : Type 0 where
   pub short : length h.draft ≤ 23
   pub column : 0 < length h.draft → h.known.number ≤ h.sessions
   pub named : 0 < length h.draft → slice_index h.draft 0 ≡ own_name h
   pub draft : HasWordsAt words (own_cell h) h.draft
 
--- if the name that the pass found is of an entry that it has seen, and of that entry's cell, it isn't there any more
+-- if the pass found the name of an entry that it has seen, in that entry's cell, another name is there now
 abbrev pub IsBroken : List ℕ → PassView → Type 0
 IsBroken words h =
     (place : ℕ) (entry : Entry) → slice_get h.known.seen place ≡ Some entry
     → watched_word h ≡ cell_of h.capacity place entry.session
     → watched_name h ≡ name_at h.sessions place entry.session → slice_index words (watched_word h) ≢ watched_name h
 
--- `Without` a pass may have a draft; `Won` it reads a cell; `Fresh` it reads one that is another entry's now
+-- by the turn, in which a ring keeps how the pass reads: `Without`, it reads no cell, and its draft is in its own cell;
+-- `Won`, it reads a cell, and the history is at least as long as what it has seen and noted beyond that; `Fresh`, so it
+-- is too, and the cell has another name now, if it found an entry's there (`IsBroken`)
 abbrev pub Notes : List ℕ → List Entry → PassView → Turn → Type 0
 Notes words log h Without = IsDraft words h
 Notes words log h Won = length h.known.seen + beyond h ≤ length log
 Notes words log h Fresh = (length h.known.seen + beyond h ≤ length log) × IsBroken words h
 
--- what the pass notes of its own cell goes with how far it has come with its try
+-- what the pass keeps as its draft is true, as `Notes` says for its `turn`
 pub record HasNotes (words : List ℕ) (log : List Entry) (h : PassView) : Type 0 where
   pub notes : Notes words log h h.turn
 

@@ -1,7 +1,7 @@
 -- A seat at a ring.
 --     IsSeat          it is a seat of this log, and knows one pass
 --     IsStart         a cell of this log begins at a word
---     IsOurs          the pass has this log's sizes, one of its numbers, and has seen what it can have
+--     IsOurs          the pass has this log's sizes, one of its numbers, and has seen no more than the log can have
 --     KeepsPass       a call leaves what the pass knows of the history
 --     ReadsCell       the pass reads the cell of an entry that it has seen
 -- Here `h` is a pass's view: what a seat of the log knows of that pass.
@@ -21,12 +21,13 @@ use Rattle.chain_log.specs.declared.ring.RingLog.{RingLog}
 abbrev pub IsSeat : RingLog → Seat Entry SeatView → Type 0
 IsSeat log seat = KnowsOne log.table.inner.shared.table_id seat
 
--- the 23 words from here on are words of this log, after the first
+-- the 23 words from here on are words of this log, after word 0
 pub record IsStart (log : RingLog) (start : ℕ) : Type 0 where
   pub behind : 1 ≤ start
   pub within : start + 22 < log.table.inner.shared.table_id.words
 
--- what holds of the view of each of the ring's passes, also within a call
+-- what holds of the view of each of the ring's passes, also within a call: it has the ring's sizes and a number of one
+-- of its columns, and has seen no more entries than the ring can have, each of one of these numbers
 pub record IsOurs (log : RingLog) (pass_view : PassView) : Type 0 where
   pub sessions : pass_view.sessions ≡ log.columns
   pub capacity : pass_view.capacity ≡ log.capacity
@@ -35,13 +36,13 @@ pub record IsOurs (log : RingLog) (pass_view : PassView) : Type 0 where
   pub within : length pass_view.known.seen ≤ pass_view.capacity
   pub among : AllOf pass_view.sessions pass_view.known.seen
 
--- the lists and the counts stay
+-- all that contracts see of the pass (`known`) and the log's sizes stay; its draft and what it reads may change
 pub record KeepsPass (old new : PassView) : Type 0 where
   pub known : new.known ≡ old.known
   pub sessions : new.sessions ≡ old.sessions
   pub capacity : new.capacity ≡ old.capacity
 
--- the pass has found the entry's name in the entry's cell, which begins at this word
+-- the pass has seen this entry at this place, and has found the entry's name in its cell, which begins at `start`
 pub record ReadsCell (start place : ℕ) (entry : Entry) (h : PassView) : Type 0 where
   pub seen : slice_get h.known.seen place ≡ Some entry
   pub cell : start ≡ cell_of h.capacity place entry.session

@@ -1,5 +1,5 @@
 -- What each step of a ring does to the pass that takes it, and what the pass learns.
---     with_look, won, lost, stored, noted     the pass after a step
+--     with_look, won, lost, with_words, stored, noted     the pass after a step
 --     KeepsWatch      what a load of a word leaves of a pass
 --     Sees, Checks, Reads, Finds, Drafts, Exchanges      the steps, each by its word, its operands, the pass before,
 --                                                        what was found and the pass after
@@ -54,7 +54,7 @@ won h entry = record {
   turn = Without;
 }
 
--- the pass after an exchange that lost: one more try, this history seen, and looks counted anew since then
+-- the pass after an exchange that lost: one more try, no look since, and this history seen
 abbrev pub lost : PassView → List Entry → PassView
 lost h seen = record {
   known = record {
@@ -93,7 +93,8 @@ noted h word name more turn =
       turn = turn;
     }
 
--- a pass that reads goes on reading the same cell
+-- the pass knows what it knew, and if it reads a cell, it still reads the same one; if it still takes the cell for the
+-- entry's (`Won`), it did so before
 pub record KeepsWatch (old new : PassView) : Type 0 where
   pub known : new.known ≡ old.known
   pub sessions : new.sessions ≡ old.sessions

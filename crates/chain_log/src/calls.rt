@@ -49,8 +49,10 @@ impl DecisionLog for ChainLog {
 
     fn look(&self, pass: &mut ChainPass) -> u64 {
         let first = pass.count;
+        // The history as it is at this load is what the pass has seen afterwards.
         let newest = self.load_newest(&mut pass.seat);
         let count = count_from(self.sessions, pass.newest, first, newest);
+        // The table of columns lacks the rows that are new: `first` up to `count`.
         self.fill(&mut pass.seat, &mut pass.columns, first, count, newest);
         pass.newest = newest;
         pass.count = count;
@@ -78,6 +80,7 @@ impl DecisionLog for ChainLog {
         if row == self.capacity {
             return Err(AddFault::Full);
         }
+        // Each session has a cell of its own in each row, so no other writes into this one.
         let own = cell_name(self.sessions, row, pass.number.get());
         self.write_cell(&mut pass.seat, own, pass.newest, entry);
         // Others may have appended since `pass.newest` was loaded: the exchange tests it.

@@ -13,8 +13,8 @@ use decision_log::SeatView;
 use xa_words::{Entry, WORDS, encode, is_behind_text, read_back};
 
 impl ChainLog {
-    /// Returns the entry's word at `index` in the cell of an entry that was seen, if the words before it
-    /// are known.
+    /// Returns the entry's word at `index` in the cell of an entry that was seen. `words` has the entry's words
+    /// before that one.
     ///
     /// A word after the end of its text isn't loaded: other sessions' cells are far, and most texts are
     /// short.
@@ -48,7 +48,7 @@ impl ChainLog {
         self.load_word(seat, name, 1 + index)
     }
 
-    /// Loads the entry's words in the cell of an entry that was seen.
+    /// Loads the entry's words in the cell `name`, that of an entry that was seen.
     fn read_cell(&self, seat: &mut Seat<Entry, SeatView>, name: u64) -> [u64; WORDS]
         requires seat { IsSeat self.now seat.old }
         requires ours { IsOurs self.now (pass_view seat.old) }
@@ -84,7 +84,8 @@ impl ChainLog {
         read_back(&words).unwrap()
     }
 
-    /// Writes a link and an entry's words into the pass's own cell, over what was stored there before.
+    /// Writes a link and an entry's words into the cell `name`, the pass's own, over what was stored there before.
+    /// `link` is the name of the cell of the entry before.
     pub(crate) fn write_cell(
         &self,
         seat: &mut Seat<Entry, SeatView>,
@@ -100,6 +101,7 @@ impl ChainLog {
         ensures seat { IsSeat self.now seat.new }
         ensures written { pass_view seat.new ≡ with_draft (pass_view seat.old) (link ∷ words_of entry.now) }
     {
+        // No other pass reads this cell before `exchange` makes it the newest.
         self.put_word(seat, name, 0, link);
         let words = encode(entry);
         for index in 0..WORDS {

@@ -24,7 +24,8 @@ impl ChainLog {
         cell_name(self.sessions, row, u64::from(pass.columns[row as usize]))
     }
 
-    /// Fills the table for the rows from `first` to `count`, from the newest cell back along the links.
+    /// Fills the table `columns`, which has the session of each row's entry, for the rows from `first` up to but not
+    /// including `count`. It goes from `newest`, the name of the history's newest cell, back along the links.
     pub(crate) fn fill(
         &self,
         seat: &mut Seat<Entry, SeatView>,

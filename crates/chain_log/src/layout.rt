@@ -48,6 +48,7 @@ pub(crate) fn cell_start(name: u64) -> usize
     requires high { name ≤ 16384 }
     ensures { result ≡ cell_at name }
 {
+    // Names begin at 1, and the first cell begins at word 1, after the word that names the newest.
     1 + (name as usize - 1) * CELL
 }
 
@@ -63,7 +64,8 @@ pub(crate) fn row_count(sessions: u64, newest: u64) -> u64
     (newest - 1) / sessions + 1
 }
 
-/// Returns the same, if the count for another name is known. Most often it is the same name.
+/// Returns how many entries a history has whose newest cell is `newest`, as `row_count` does. `count` is that number
+/// for the cell `known`, which most often is the same cell.
 pub(crate) fn count_from(sessions: u64, known: u64, count: u64, newest: u64) -> u64
     requires sessions { 1 ≤ sessions }
     requires counted { (seen : List Entry) → AllOf sessions seen → known ≡ newest_of sessions seen

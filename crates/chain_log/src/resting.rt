@@ -13,7 +13,8 @@ use xa_xid::SessionNo;
 
 /// A pass at rest: nobody looks or adds with it.
 ///
-/// A `RingPass` may be sent to another thread, and not be shared by threads. A pass at rest may be shared, too.
+/// A `RingPass` may be sent to another thread, and not be shared by threads. A pass at rest may be shared, too. Its
+/// fields are those of a `RingPass`, with the seat on a perch.
 #[derive(Drop)]
 pub struct RestingPass {
     pub(crate) perch: Perch<Entry, SeatView>,
@@ -22,7 +23,7 @@ pub struct RestingPass {
     pub(crate) count: u64,
     pub(crate) low: u64,
     pub(crate) columns: Vec<u8>,
-    // The perch keeps one pass, and no word that it stored.
+    // The seat on the perch knows one pass, and holds no slot.
     ghost held: { (perch.view, []) ≡ seated (pass_view_of perch.view) },
     // That pass has this number, and has seen `count` entries.
     ghost state: { IsRingPass number count (pass_view_of perch.view) },
@@ -32,7 +33,7 @@ pub struct RestingPass {
     ghost kept: { HasWindow (rows_of (pass_view_of perch.view).capacity) low
         (length (pass_view_of perch.view).known.seen) (pass_view_of perch.view).known.seen
         columns.items },
-    // The last place is one of these, unless nothing was seen.
+    // If anything was seen, the table has the last place.
     ghost bottom: { 0 < low → low < length (pass_view_of perch.view).known.seen },
 }
 
@@ -41,7 +42,7 @@ pub struct RestingPass {
 pub struct RestingSpare {
     pub(crate) perch: Perch<Entry, SeatView>,
     pub(crate) count: u64,
-    // The perch keeps one pass, and no word that it stored.
+    // The seat on the perch knows one pass, and holds no slot.
     ghost held: { (perch.view, []) ≡ seated (pass_view_of perch.view) },
     // It has seen `count` entries.
     ghost counted: { count ≡ length (pass_view_of perch.view).known.seen },

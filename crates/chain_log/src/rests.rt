@@ -29,7 +29,7 @@ impl RingPass {
             columns,
         } = self;
         let perch = Perch::new(&seat, 0);
-        // The perch is empty, so the seat stays there.
+        // The word of a perch is 2 or more while a seat is there. It is 0 here, so the seat stays, and the word is 2.
         let _rests = perch.give(seat, 0, 2);
         RestingPass {
             perch,
@@ -43,7 +43,7 @@ impl RingPass {
 }
 
 impl RestingPass {
-    /// Wakes the pass. It is there, since `rest` left it.
+    /// Wakes the pass. `None` would mean that its seat isn't on the perch, but `rest` left it there.
     ///
     /// Takes no memory. Doesn't wait.
     /// Own rule: docs/INTERNALS.md#the-ring.
@@ -61,6 +61,7 @@ impl RestingPass {
             low,
             columns,
         } = self;
+        // The perch's word becomes 0: no seat is there. What it was isn't needed, as the seat itself comes back.
         let (_, found) = perch.take(0);
         let seat = found?;
         Some(RingPass {
@@ -87,14 +88,14 @@ impl RingSpare {
     {
         let RingSpare { seat, count } = self;
         let perch = Perch::new(&seat, 0);
-        // The perch is empty, so the seat stays there.
+        // The word of a perch is 2 or more while a seat is there. It is 0 here, so the seat stays, and the word is 2.
         let _rests = perch.give(seat, 0, 2);
         RestingSpare { perch, count }
     }
 }
 
 impl RestingSpare {
-    /// Wakes the spare. It is there, since `rest` left it.
+    /// Wakes the spare. `None` would mean that its seat isn't on the perch, but `rest` left it there.
     ///
     /// Takes no memory. Doesn't wait.
     /// Own rule: docs/INTERNALS.md#the-ring.
@@ -105,6 +106,7 @@ impl RestingSpare {
         ensures known { IfSome result (λ spare. spare_known_of spare ≡ resting_spare_known_of self) }
     {
         let RestingSpare { perch, count } = self;
+        // The perch's word becomes 0: no seat is there. What it was isn't needed, as the seat itself comes back.
         let (_, found) = perch.take(0);
         let seat = found?;
         Some(RingSpare { seat, count })

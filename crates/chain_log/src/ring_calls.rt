@@ -92,8 +92,10 @@ impl RingLog {
         ensures length { result ≡ length (known_of pass.new).seen }
     {
         let first = pass.count;
+        // The history as it is at this load is what the pass has seen afterwards.
         let newest = self.load_newest(&mut pass.seat);
         let count = count_from(self.columns, pass.newest, first, newest);
+        // The table of columns lacks the places that are new: `first` up to `count`.
         pass.low = self.fill(
             &mut pass.seat,
             &mut pass.columns,
@@ -154,6 +156,7 @@ impl RingLog {
             pass.count = front;
             return Err(AddFault::Overtaken { front });
         }
+        // The byte was that of the entry a whole turn back, if there is one. The table still begins at `low`.
         pass.columns[(place % self.rows) as usize] = number as u8;
         pass.newest = own;
         pass.count = place + 1;
@@ -177,9 +180,10 @@ impl RingLog {
         self.meet_at(&mut first.seat, first.count, second);
     }
 
-    /// Lets a pass meet what a seat knows, which has seen `front` entries.
+    /// Lets the pass `second` meet the pass or the spare at the seat `first`, which has seen `front` entries and
+    /// stays as it is.
     ///
-    /// The pass has then seen all of these. Takes no memory. Doesn't wait.
+    /// `second` has then seen all of these. Takes no memory. Doesn't wait.
     pub(crate) fn meet_at(
         &self,
         first: &mut Seat<Entry, SeatView>,
@@ -196,7 +200,7 @@ impl RingLog {
     {
         let newest = self.table.meet(first, &mut second.seat);
         let unseen = second.count;
-        // Else the pass has seen as much already, and stays as it is.
+        // Else `second` has seen as much already, and stays as it is.
         if unseen < front {
             // `newest` was loaded at a seat that knows both passes, so what the second has seen ends there.
             let count = place_count(self.columns, newest);
@@ -213,7 +217,8 @@ impl RingLog {
         }
     }
 
-    /// Returns the entry at place `at`, in `[0, length)`, or `None` if its cell is another entry's now.
+    /// Returns the entry at place `at`, in `[0, length)`, or `None` if it is lost: its cell is another entry's now, or
+    /// the pass can't learn any more in which column it is.
     ///
     /// `None` is returned only if the history has at least `at + rows` entries. The pass then knows so (`least_of`).
     /// What it has seen is unchanged. Takes no memory. Doesn't wait.
@@ -246,8 +251,8 @@ impl RingLog {
         self.read_entry(&mut pass.seat, start, name, at)
     }
 
-    /// Fills the table of a pass back to a place, as far as that is possible. Returns whether the table then has the
-    /// place.
+    /// Fills the table of a pass back to the place `at`. Returns whether the table then has the place. If not, a link
+    /// on the way is lost, and so is the entry at `at`.
     fn reach(&self, pass: &mut RingPass, at: u64) -> bool
         requires belongs { log_of pass.old ≡ identity_of self.now }
         requires seen { at < length (known_of pass.old).seen }
@@ -261,6 +266,7 @@ impl RingLog {
         if low <= at {
             return true;
         }
+        // The walk begins at `low`, the lowest place that the table has.
         let session = self.column(pass, low);
         let name = entry_name(self.columns, low, session);
         pass.low = self.walk(&mut pass.seat, &mut pass.columns, low, name, at);

@@ -17,7 +17,8 @@ use decision_log::SeatView;
 use xa_words::{Entry, WORDS, encode, read_back};
 
 impl RingLog {
-    /// Loads the entry's words at `[from, end)` in the cell that the pass reads.
+    /// Loads the entry's words at `[from, end)` of the cell that begins at `start`, which the pass reads. They are the
+    /// entry's only if its name is in the cell before and afterwards.
     fn read_words(
         &self,
         seat: &mut Seat<Entry, SeatView>,
@@ -48,7 +49,8 @@ impl RingLog {
         }
     }
 
-    /// Returns the entry's words in the cell that the pass reads. A word after the end of its text is 0, and isn't
+    /// Returns the entry's words in the cell that begins at the word `start`. They may be any words if the cell is used
+    /// again meanwhile: the caller tests its name before and after. A word after the end of its text is 0, and isn't
     /// loaded: most texts are short, and a pass reads each entry of all others.
     fn read_cell(&self, seat: &mut Seat<Entry, SeatView>, start: usize) -> [u64; WORDS]
         requires seat { IsSeat self.now seat.old }
@@ -61,8 +63,10 @@ impl RingLog {
             → IsEntry entry × (result ≡ words_of entry) }
     {
         let mut words = [0; WORDS];
+        // An entry's words 0 to 4 are its session, kind, both lengths and formatID. The first text is in the words 5 to
+        // 12, the second in 13 to 20.
         self.read_words(seat, start, 0, 5, &mut words);
-        // The lengths of both texts are among the first words.
+        // Words 2 and 3 are the texts' lengths. If the cell is written meanwhile, they may be any numbers.
         let first = 5 + words_filled(words[2]);
         self.read_words(seat, start, 5, first, &mut words);
         let second = 13 + words_filled(words[3]);
@@ -70,7 +74,8 @@ impl RingLog {
         words
     }
 
-    /// Returns the entry of a place that was seen, or `None` if its cell is another entry's now.
+    /// Returns the entry of a place that was seen, or `None` if its cell is another entry's now. `start` is the first
+    /// word of the cell, `name` the entry's name.
     pub(crate) fn read_entry(
         &self,
         seat: &mut Seat<Entry, SeatView>,
@@ -99,11 +104,12 @@ impl RingLog {
         if self.check_name(seat, start) != name {
             return None;
         }
+        // The words are those of an entry of the history, so an entry is found.
         read_back(&words)
     }
 
     /// Returns the link in the cell of a place that was seen, or `None` if the cell is another entry's now. The link is
-    /// the name of the entry before.
+    /// the name of the entry before. `start` is the first word of the cell, `name` the name of the place's entry.
     pub(crate) fn read_link(
         &self,
         seat: &mut Seat<Entry, SeatView>,
@@ -136,7 +142,8 @@ impl RingLog {
         Some(link)
     }
 
-    /// Writes a name, a link and an entry's words into the own cell, over what was there before.
+    /// Writes a name, a link and an entry's words into the own cell, over what was there before. `start` is the cell's
+    /// first word, `link` the name of the entry before.
     pub(crate) fn write_cell(
         &self,
         seat: &mut Seat<Entry, SeatView>,
@@ -152,6 +159,8 @@ impl RingLog {
         ensures seat { IsSeat self.now seat.new }
         ensures written { pass_view seat.new ≡ with_words (pass_view seat.old) (name ∷ link ∷ words_of entry.now) }
     {
+        // The name goes first. Readers load it before and after the words, so they never take a new word for the old
+        // entry's.
         self.store_name(seat, start, name);
         self.store_word(seat, start, 1, link);
         let words = encode(entry);

@@ -15,8 +15,8 @@ use atomic_table::Seat;
 use decision_log::SeatView;
 use xa_words::Entry;
 
-/// How many places are filled at once at most: each takes a load of a cell that may be far, and a session that
-/// goes on from a checkpoint never needs those below it.
+/// How many new places `fill` fills at most; of more, it fills the newest alone. Each takes loads of a cell that may be
+/// far, and a session that goes on from a checkpoint never needs those below it.
 const MOST_FILLED: u64 = 64;
 
 impl RingLog {
@@ -33,8 +33,9 @@ impl RingLog {
         u64::from(pass.columns[(place % self.rows) as usize])
     }
 
-    /// Fills the table from a place that it has back to `stop`, along the links. Returns the place from which on the
-    /// table has the columns. If that is above `stop`, the cell there is another entry's now.
+    /// Fills the table from `top`, a place that it has, back to `stop`, along the links. `newest` is the name of the
+    /// entry at `top`. Returns the place from which on the table has the columns. If that is above `stop`, the cell
+    /// there is another entry's now.
     pub(crate) fn walk(
         &self,
         seat: &mut Seat<Entry, SeatView>,
@@ -66,6 +67,7 @@ impl RingLog {
     {
         let mut name = newest;
         for place in (stop..top).rev() {
+            // `name` is that of the entry at `place + 1`. The link in its cell names the entry at `place`.
             let session = u64::from(name_column(self.columns, name));
             let start = self.start(place + 1, session);
             match self.read_link(seat, start, name, place + 1) {
@@ -73,15 +75,17 @@ impl RingLog {
                     columns[(place % self.rows) as usize] = name_column(self.columns, link);
                     name = link;
                 }
+                // The cell of `place + 1` was used again, so the way down ends here.
                 None => return place + 1,
             }
         }
         stop
     }
 
-    /// Fills the table for the places from `first` to `count`, as far as its rows reach, from the newest entry back
-    /// along the links; or for the newest alone, if there are many. Returns the place from which on the table then has
-    /// the columns.
+    /// Fills the table for the new places, from `first` up to but not including `count`, as far as its rows reach and
+    /// until a link is lost, from the newest entry, whose name is `newest`, back along the links; or for the newest
+    /// alone, if more than `MOST_FILLED` are new. Before, the table has the columns of the places from `low` up to but
+    /// not including `first`. Returns the place from which on it then has the columns, both as far as its rows reach.
     pub(crate) fn fill(
         &self,
         seat: &mut Seat<Entry, SeatView>,
@@ -116,7 +120,8 @@ impl RingLog {
         }
         let stop = walk_stop(self.rows, first, count);
         let reached = self.walk(seat, columns, top, newest, stop);
-        // If all places between are known, the places below them that were known still are.
+        // If the walk came to `stop`, the table lacks no place between, so it still begins at `low`, as far as its rows
+        // reach. Else it begins where a link was lost.
         if reached == stop { low } else { reached }
     }
 }

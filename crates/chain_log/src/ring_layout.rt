@@ -20,7 +20,8 @@ pub(crate) const MOST: u64 = 576_460_752_303_423_488;
 /// How many rows a ring can have at most. With 20 columns of 23 words, 65,536 rows take 241 MB.
 pub const MOST_ROWS: u64 = 65_536;
 
-/// How many spares a ring can have at most. Each has a column of its own, as a session has.
+/// How many spares a ring can have at most: one for each checkpoint of an endless store, and it has up to four. Each
+/// has a column of its own, as a session has.
 pub const MOST_SPARES: u64 = 4;
 
 /// How many words a ring has. It has a column for each pass, spares included, but a spare uses no cell of its own.
@@ -62,6 +63,7 @@ pub(crate) fn cell_start(rows: u64, place: u64, session: u64) -> usize
     ensures { result ≡ cell_at (name_at rows (session - 1) (place % rows + 1)) }
 {
     // The cells of a column lie side by side, so that a session's next cell is in the caches already, or on its way.
+    // Cells are numbered from 1, and the first begins at word 1, after the word that names the newest entry.
     let cell = (session - 1) as usize * rows as usize + (place % rows) as usize + 1;
     1 + (cell - 1) * CELL
 }
@@ -71,7 +73,8 @@ pub(crate) fn words_filled(size: u64) -> usize
     ensures most { result ≤ 8 }
     ensures behind { (word : ℕ) → result ≤ word → word < 8 → size ≤ 8 * word }
 {
-    // No text fills more words. In a cell that is written meanwhile any number may be found.
+    // A text of 57 to 64 bytes fills all eight, and none is longer. In a cell that is written meanwhile any number may
+    // be found.
     if size > 56 {
         return 8;
     }
@@ -90,8 +93,8 @@ pub(crate) fn place_count(columns: u64, newest: u64) -> u64
     (newest - 1) / columns + 1
 }
 
-/// Returns how many entries there are up to the one of a name, as `place_count` does. The count of another name is
-/// known, which most often is the same name.
+/// Returns how many entries a history has if its newest entry has the name `newest`, as `place_count` does. `count` is
+/// that number for the name `known`, which most often is the same name.
 pub(crate) fn count_from(columns: u64, known: u64, count: u64, newest: u64) -> u64
     requires columns { 1 ≤ columns }
     requires counted { (seen : List Entry) → AllOf columns seen → known ≡ newest_of columns seen → count ≡ length seen }

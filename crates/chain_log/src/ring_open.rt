@@ -46,13 +46,14 @@ impl RingLog {
             return Err(RingFault::SparesOutOfRange);
         }
         let (log, mut rest) = lay_out(alloc, rows, sessions, spares)?;
+        // The passes of the sessions go first, so the spares' numbers follow theirs.
         let passes = deal_all(alloc, &log, &mut rest)?;
         let others = deal_spares(alloc, &log, rest, spares)?;
         Ok((log, passes, others))
     }
 }
 
-/// The log, and the seat that knows all passes.
+/// Makes the log, with all words 0, and the seat that knows all its passes, spares included.
 fn lay_out(
     alloc: Global,
     rows: u64,
@@ -70,7 +71,8 @@ fn lay_out(
 {
     let columns = sessions + spares;
     let capacity = MOST + rows;
-    // The rule knows no spares: to it they are the passes of the last numbers.
+    // The rule knows no spares: to it they are the passes of the last numbers. So these sizes may be greater than those
+    // of a log in which each pass is a session's.
     let sizes = Sizes {
         sessions: columns,
         capacity,
@@ -87,7 +89,7 @@ fn lay_out(
     Ok((log, rest))
 }
 
-/// The passes of the sessions, in order. The seat then knows the spares.
+/// Issues the passes of the sessions, in order, from the seat `rest`, which knows all passes. It then knows the spares.
 fn deal_all(
     alloc: Global,
     log: &RingLog,
@@ -110,7 +112,7 @@ fn deal_all(
     Ok(passes)
 }
 
-/// The spares, in order.
+/// Issues `count` spares, in order, from the seat `rest`, which knows them.
 fn deal_spares(
     alloc: Global,
     log: &RingLog,

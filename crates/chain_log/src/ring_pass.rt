@@ -25,8 +25,8 @@ pub struct RingPass {
     pub(crate) newest: u64,
     /// How many entries it has seen.
     pub(crate) count: u64,
-    /// The place from which on the table has the columns, as far as its rows reach. If it isn't 0, the links ended
-    /// there: the pass found that the cell was another entry's.
+    /// The place from which on the table has the columns, as far as its rows reach. If it isn't 0, the table wasn't
+    /// filled further back: too many places were new at once, no read needed those below, or a link was lost.
     pub(crate) low: u64,
     /// A byte for each row.
     pub(crate) columns: Vec<u8>,
@@ -43,6 +43,6 @@ pub struct RingPass {
     ghost kept: { HasWindow (rows_of (pass_view_of seat.me.0).capacity) low (length (pass_view_of seat.me.0).known.seen)
         (pass_view_of seat.me.0).known.seen
         columns.items },
-    // The last place is one of these, unless nothing was seen.
+    // If anything was seen, the table has the last place.
     ghost bottom: { 0 < low → low < length (pass_view_of seat.me.0).known.seen },
 }

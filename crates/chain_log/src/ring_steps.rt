@@ -105,7 +105,7 @@ impl RingLog {
         self.table.store::<DraftWord>(seat, start, name)
     }
 
-    /// Loads a word of the own cell after its name.
+    /// Loads a word of the own cell after its name, and returns it. It then counts as if the pass had stored it.
     fn find_word(&self, seat: &mut Seat<Entry, SeatView>, start: usize, index: usize) -> u64
         requires seat { IsSeat self.now seat.old }
         requires start { IsStart self.now start }
@@ -149,7 +149,7 @@ impl RingLog {
         self.store_word(seat, start, index, new);
     }
 
-    /// Stores another word into the own cell.
+    /// Stores a word of the own cell after its name: the link at 1, and the entry's words after it.
     pub(crate) fn store_word(
         &self,
         seat: &mut Seat<Entry, SeatView>,
@@ -172,7 +172,8 @@ impl RingLog {
         self.table.store::<DraftWord>(seat, word, new)
     }
 
-    /// Makes the own entry the newest, if the one that was seen last still is. Returns the name that was the newest.
+    /// Makes the own entry, of the name `own`, the newest, if the one that was seen last, of the name `old`, still is.
+    /// Returns the name that was the newest: the exchange is won if that is `old`.
     pub(crate) fn exchange(
         &self,
         seat: &mut Seat<Entry, SeatView>,
@@ -197,7 +198,7 @@ impl RingLog {
             × HistoryIs (pass_view seat.old) seen
             × (length (pass_view seat.old).known.seen < length seen) }
     {
-        // The proof needs that the entry's session is one of 1 to 16.
+        // The proof needs `IsEntry` of the entry, which the contract of this call gives.
         let _session = entry.session();
         // The exchange itself tests whether `old` is still the newest, and with it whether all that was seen is the
         // history.

@@ -25,7 +25,7 @@ impl LogTransition<Turning> for CheckName {
     ghost counts = { check_counts };
 }
 
-/// A load of another word of a cell.
+/// A load of a word of a cell that the pass reads.
 pub(crate) struct ReadWord;
 
 impl LogTransition<Turning> for ReadWord {

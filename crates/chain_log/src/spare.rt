@@ -6,7 +6,7 @@ use atomic_table::Seat;
 use decision_log::SeatView;
 use xa_words::Entry;
 
-/// A handle on a ring that remembers a first part of the history, and no more.
+/// A handle on a ring that remembers a prefix of the history, and no more.
 ///
 /// It is a pass that appends nothing and reads no entry. Passes tell it what they have seen, and others hear that from
 /// it. Its number is behind those of the sessions.

@@ -74,7 +74,7 @@ impl ChainLog {
         self.table.load::<ReadWord>(seat, word)
     }
 
-    /// Loads a word of the own cell that is to be 0, and returns whether it is.
+    /// Loads a word of the own cell that is to be 0, and returns whether it is. If so, it counts as if it were stored.
     fn find_blank(&self, seat: &mut Seat<Entry, SeatView>, name: u64, index: usize) -> bool
         requires seat { IsSeat self.now seat.old }
         requires ours { IsOurs self.now (pass_view seat.old) }
@@ -141,7 +141,8 @@ impl ChainLog {
         self.store_word(seat, name, index, 0);
     }
 
-    /// Makes the own cell the newest, if the last cell seen is still the newest. Returns the newest before.
+    /// Makes the own cell, of the name `own`, the newest, if the last cell seen, of the name `old`, still is. Returns
+    /// the name of the newest before: the exchange is won if that is `old`.
     pub(crate) fn exchange(
         &self,
         seat: &mut Seat<Entry, SeatView>,
@@ -166,7 +167,7 @@ impl ChainLog {
             × HistoryIs (pass_view seat.old) seen
             × (length (pass_view seat.old).known.seen < length seen) }
     {
-        // The proof needs that the entry's session is one of 1 to 16.
+        // The proof needs `IsEntry` of the entry, which the contract of this call gives.
         let _session = entry.session();
         // The exchange itself tests whether `old` is still the newest, and so whether what was seen is the
         // history.

@@ -7,6 +7,7 @@ use Rattle.decision_log.specs.declared.view.PassView.{PassView}
 use Rattle.decision_log.specs.Atomic.{Atomic, Load, Store, Exchange, Does, Counts}
 
 module _ (newest : PassView → ℕ) (tried : ℕ) where
+  -- a step by which `tries` rises exchanges the word at which passes try
   pub try_is : (step : Atomic) (found : ℕ) (old new : PassView) → Counts newest tried step found old new
       → new.known.tries ≢ old.known.tries
       → (from to : ℕ) × (said : Option Entry) × (step ≡ Exchange tried from to said)
@@ -15,7 +16,7 @@ module _ (newest : PassView → ℕ) (tried : ℕ) where
   try_is (Exchange word from to said) found old new counts rose =
       ⊎_elim (λ t. (from, to, said, ap (λ at. Exchange at from to said) t.1)) (λ t. absurd (rose t.0)) counts.tries
 
-  -- a look loads word 0, and leaves the words
+  -- at a step by which `looks` rises, word 0 is `newest` of the pass after it, and no word changes
   pub look_is : (step : Atomic) (found : ℕ) (old new : PassView) (words words' : List ℕ) → Does step words found words'
       → Counts newest tried step found old new
       → new.known.looks ≢ old.known.looks

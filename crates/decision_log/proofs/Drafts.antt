@@ -18,7 +18,8 @@ pub holds_beside : (words : List ℕ) (word new at : ℕ) (draft : List ℕ) →
 holds_beside words word new at draft out holds i below =
     get_or-set_other words word (at + i) new 0 (out i below) ∙ holds i below
 
--- the next word is stored, or one again
+-- where a draft stands, a store of its next word, or of one of its words once more, leaves the draft up to that word,
+-- and the new word after it
 pub holds_one_more : (words : List ℕ) (at index new : ℕ) (draft : List ℕ) → index ≤ length draft
     → at + index < length words → HasWordsAt words at draft
     → HasWordsAt (set words (at + index) new) at (take index draft ++ new ∷ [])
@@ -38,7 +39,8 @@ holds_one_more words at index new draft along within holds i below =
     front ys (x ∷ xs) (suc n) zero less along = refl
     front ys (x ∷ xs) (suc n) (suc i) less along = front ys xs n i (omega arith) (omega arith)
 
--- the loop over words: one more was read
+-- if the first `index` words that were read are those of a spelling, and the next one read is too, so are index + 1
+-- words
 pub one_more : (words spelled : List ℕ) (index word : ℕ) → index < length words → word ≡ get_or spelled index 0
     → ((k : ℕ) → k < index → get_or words k 0 ≡ get_or spelled k 0) → (k : ℕ) → k < index + 1
     → get_or (set words index word) k 0 ≡ get_or spelled k 0

@@ -1,4 +1,4 @@
--- Lists of entries: the ring of lemmas on prefixes, and that on the entries of a session.
+-- Lists of entries: lemmas on prefixes, on the entries of a session, and on the entries at places.
 use Rattle.std.proofs.Common.{◌≡◌, ◌≢◌, ◌⊎◌, ℕ, zero, suc, ◌<◌, ◌≤◌, List, [], ◌∷◌, ◌++◌, length, take, drop, get_or}
 use Rattle.std.proofs.Common.{refl, ap, sym, ◌∙◌, subst, inl, inr}
 use Rattle.std.proofs.Common.{⊎_elim, Some, None, arith, eq-eqb, ne_eqb, length-append, append-nil}
@@ -22,7 +22,7 @@ begins_itself xs = take_all (length xs) xs (omega arith)
 pub begins_nothing : (xs : List Entry) → Begins [] xs
 begins_nothing xs = refl
 
--- a longer history begins with what it was made longer from
+-- a history with more entries behind it begins with itself
 pub begins_append : (xs ys : List Entry) → Begins xs (xs ++ ys)
 begins_append xs ys = take-append_seam xs ys
 
@@ -72,7 +72,7 @@ there [] place below = absurd (omega arith)
 there (x ∷ xs) zero below = (x, refl)
 there (x ∷ xs) (suc place) below = there xs place (omega arith)
 
--- equal entries that were found are equal
+-- if two entries are equal as found (`Some`), they are equal
 pub some_injective : (a b : Entry) → Some a ≡ Some b → a ≡ b
 some_injective a b is = cc
 
@@ -123,7 +123,8 @@ pub nothing_left : (xs ys : List Entry) → length (xs ++ ys) ≡ length xs → 
 nothing_left xs [] is = refl
 nothing_left xs (y ∷ ys) is = absurd (omega (arith, length-append xs (y ∷ ys)))
 
--- a session with no entry between two prefixes has none behind the first of them
+-- of three histories, each a prefix of the next, the second has the same entries of a session as the others, if the
+-- first and the third have the same
 pub own_between : (number : ℕ) (xs ys zs mine : List Entry) → Begins xs ys → Begins ys zs → entries_of number xs ≡ mine
     → entries_of number zs ≡ mine
     → entries_of number ys ≡ mine

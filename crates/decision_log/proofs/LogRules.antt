@@ -1,10 +1,10 @@
 -- The rule of a log, whatever its words are: what it says of a pass, and how the steps of a pass keep it.
---     Rules               the rule, over a table's state
+--     Rules, RuleOf       the rule, over a table's state; the rule with a stated history
 --     known, ranged, all_of, among, history, has_machine     what the rule says
 --     reseated            it is kept where only seats change
 --     stepped, unmoved    it is kept where a pass steps and the words spell the same history
 --     appended            it is kept where they spell one entry more
---     load_step, store_step      the steps of a pass on the table
+--     loaded, load_step, store_step      the steps of a pass on the table
 --     looked_log          who looks has seen the whole history
 -- Here `h` is a pass's view: what a seat of the log knows of that pass.
 use Rattle.std.proofs.Common.{◌≡◌, ◌≢◌, ℕ, ◌+◌, ◌-◌, ◌<◌, ◌≤◌, List, [], ◌∷◌, ◌++◌, length, set, get_or, refl, ap, sym}
@@ -47,7 +47,7 @@ module _ (Spells : Sizes → List ℕ → List Entry → Type 0) (KnowsWords : L
 module _ {Spells : Sizes → List ℕ → List Entry → Type 0} {KnowsWords : List ℕ → List Entry → PassView → Type 0}
     {sizes : Sizes} {words : List ℕ}
     {views : List SeatView} (r : LogRule Spells KnowsWords sizes words views) where
-  -- what is known of a seat's pass
+  -- what a seat knows of its one pass is true, and the seat is the home of that pass's number
   pub known : (id : ℕ) (h : PassView) → get_elem? views id ≡ some (Single h)
       → Placed (KnowsLog KnowsWords sizes words r.log) r.home r.next id h
   known id h here = r.seats id (Single h) here
@@ -59,10 +59,11 @@ module _ {Spells : Sizes → List ℕ → List Entry → Type 0} {KnowsWords : L
       let e = r.entries place entry is in
       (e.0.first_session, omega (arith, e.1, r.within))
 
+  -- all entries of the history are of sessions of the log
   pub all_of : AllOf sizes.sessions r.log
   all_of = all_from_places (λ entry. (1 ≤ entry.session) × (entry.session ≤ sizes.sessions)) r.log ranged
 
-  -- and so is all that was seen
+  -- all entries of a prefix of the history are of sessions of the log
   pub among : (h : PassView) (seen : List Entry) → h.sessions ≡ sizes.sessions → Begins seen r.log
       → AllOf h.sessions seen
   among h seen sessions begins =
@@ -70,6 +71,7 @@ module _ {Spells : Sizes → List ℕ → List Entry → Type 0} {KnowsWords : L
       (λ place entry is. let e = ranged place entry (get_begins seen r.log place entry begins is) in
       (e.0, omega (arith, e.1, sessions)))
 
+  -- for a pass that knows the log, the whole history is as `HistoryIs` says
   pub history : (h : PassView) → KnowsLog KnowsWords sizes words r.log h → HistoryIs h r.log
   history h k =
       record {
@@ -87,7 +89,8 @@ module _ {Spells : Sizes → List ℕ → List Entry → Type 0} {KnowsWords : L
       (λ pass_view k. record { begins = k.seen; own = k.mine; part = k.part })
       sizes.capacity views r.seats sizes.sessions r.room all_of
 
-  -- other seats, and maybe more numbers that were given out
+  -- the rule is kept with other seats and other homes, if what the seats know is true; more numbers may have been given
+  -- out, none above the log's sessions
   pub reseated : (home : ℕ → ℕ) (next : ℕ) (views' : List SeatView) → r.next ≤ next → next ≤ sizes.sessions + 1
       → Seats (KnowsLog KnowsWords sizes words r.log) home next views'
       → LogRule Spells KnowsWords sizes words views'
@@ -103,7 +106,9 @@ module _ {Spells : Sizes → List ℕ → List Entry → Type 0} {KnowsWords : L
     seats = seats;
   }
 
-  -- the words change and spell the same history: of that the pass has seen a prefix, and no entry of its own was added
+  -- the rule is kept, with the same history, if the words change and still spell it, and a pass h becomes k: of the
+  -- same number, with the same entries of its own, and with a prefix of the history seen, in which they are all of
+  -- its number. What k and every pass of another number know of the words must be true
   pub stepped : (words' : List ℕ) (id : ℕ) (h k : PassView) → get_elem? views id ≡ some (Single h)
       → Spells sizes words' r.log → k.sessions ≡ h.sessions
       → k.capacity ≡ h.capacity → k.known.number ≡ h.known.number → k.known.mine ≡ h.known.mine
@@ -145,14 +150,16 @@ module _ {Spells : Sizes → List ℕ → List Entry → Type 0} {KnowsWords : L
         refl,
       )
 
-  -- nothing changes
+  -- the rule is kept if the pass at a seat is put there again
   pub unmoved : (id : ℕ) (h : PassView) → get_elem? views id ≡ some (Single h)
       → LogRule Spells KnowsWords sizes words (set views id (Single h))
   unmoved id h here =
       let k = (known id h here).fact_is in
       (stepped words id h h here r.spelled refl refl refl refl k.seen k.part k.own (λ g apart low other. other.own)).0
 
-  -- the words change and spell one entry more, of a pass that had seen the whole history
+  -- the rule is kept, with one entry more in its history, if the words change and spell that, a pass h that has seen
+  -- the whole history becomes k, which has seen this entry of its number too, and there was room. What k and every
+  -- pass of another number know of the words must be true
   pub appended : (words' : List ℕ) (id : ℕ) (h k : PassView) (entry : Entry) → get_elem? views id ≡ some (Single h)
       → h.known.seen ≡ r.log → IsEntry entry
       → entry.session ≡ h.known.number → length r.log < sizes.capacity → Spells sizes words' (r.log ++ entry ∷ [])
@@ -211,12 +218,13 @@ module _ {Spells : Sizes → List ℕ → List Entry → Type 0} {KnowsWords : L
 
 module _ {Spells : Sizes → List ℕ → List Entry → Type 0} {KnowsWords : List ℕ → List Entry → PassView → Type 0}
     (sizes : Sizes) where
-  -- a load leaves the words
+  -- the rule is kept if what a word holds is stored there again, as after a load
   pub loaded : (words : List ℕ) (word : ℕ) (views : List SeatView) → LogRule Spells KnowsWords sizes words views
       → LogRule Spells KnowsWords sizes (set words word (get_or words word 0)) views
   loaded words word views r = subst (λ ws. LogRule Spells KnowsWords sizes ws views) (sym (set-get_or words word 0)) r
 
-  -- a load, after which the pass is another
+  -- a load at the seat of a pass keeps the rule and tells what `then` says, if for all words and seats of the rule
+  -- there is a pass k that may stand at the seat afterwards and of which `then` holds with the word
   pub load_step : (slots id word : ℕ) (h : PassView) (then : ℕ → PassView → Type 0)
       → ((words : List ℕ) (views : List SeatView) → LogRule Spells KnowsWords sizes words views
       → get_elem? views id ≡ some (Single h)
@@ -226,7 +234,8 @@ module _ {Spells : Sizes → List ℕ → List Entry → Type 0} {KnowsWords : L
       let s = each state.words state.views r here in
       (Single s.0, keeps, tt, loaded state.words word (set state.views id (Single s.0)) s.1, (s.0, refl, s.2))
 
-  -- a store of a word of the draft, which begins at a word
+  -- a store at word at + index keeps the rule, and the pass has then drafted the new word at `index`, if that is so
+  -- for all words and seats of the rule; `at` is where the draft begins
   pub store_step : (slots id at word index new : ℕ) (h : PassView) → word ≡ at + index
       → ((words : List ℕ) (views : List SeatView) → LogRule Spells KnowsWords sizes words views
       → get_elem? views id ≡ some (Single h)
@@ -254,7 +263,8 @@ module _ {Spells : Sizes → List ℕ → List Entry → Type 0} {KnowsWords : L
     (all_seen : (words : List ℕ) (views : List SeatView) (r : LogRule Spells KnowsWords sizes words views)
     (h : PassView)
     → KnowsLog KnowsWords sizes words r.log h → slice_index words 0 ≡ newest h → h.known.seen ≡ r.log) where
-  -- who looks has seen the whole history, which stays
+  -- after a step by which a pass's `looks` rise, it has seen the whole history, which stays; premises: the same words
+  -- have one history (`one_log`), and who finds its `newest` in word 0 has seen all (`all_seen`)
   pub looked_log : (words words' : List ℕ) (views views' : List SeatView)
       (r : LogRule Spells KnowsWords sizes words views)
       (after : LogRule Spells KnowsWords sizes words' views') (step : Atomic) (found id : ℕ) (old new : PassView)

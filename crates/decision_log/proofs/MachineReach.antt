@@ -1,5 +1,5 @@
--- Each state of the machine is reached: the entries are added in their order, and after each add those look who have
--- still more to see.
+-- Each state of the machine, the target, is reached: its entries are added in their order, and after each add those
+-- sessions look that have seen the entry in the target.
 use Rattle.std.proofs.Common.{◌≡◌, ◌≢◌, ℕ, zero, suc, ◌<◌, ◌≤◌, Bool, true, false, cond, nat_eq, List, [], ◌∷◌, ◌++◌}
 use Rattle.std.proofs.Common.{length, take, drop, refl, ap, sym, ◌∙◌}
 use Rattle.std.proofs.Common.{subst, Some, arith, eq-eqb, ne_eqb}
@@ -85,7 +85,7 @@ record LookedTo (due : ℕ → Bool) (last : ℕ) (old new : Machine) : Type 0 w
       → (new.knows session).seen ≡ cond (due session) old.history (old.knows session).seen
   pub above : (session : ℕ) → last < session → (new.knows session).seen ≡ (old.knows session).seen
 
--- events that come to that: a round of looks
+-- events of sessions 1 to a number by which those that are due look, up to `last`, and nothing else changes
 record Round (sessions : ℕ) (due : ℕ → Bool) (last : ℕ) (old : Machine) : Type 0 where
   pub events : List Event
   pub own : EventsOf sessions events
@@ -93,7 +93,7 @@ record Round (sessions : ℕ) (due : ℕ → Bool) (last : ℕ) (old : Machine) 
   pub runs : Runs events old new
   pub looked : LookedTo due last old new
 
--- one session more, which looks if it is due
+-- if a round of looks goes up to `last`, there is one up to the session after it, which looks if it is due
 one_more : (sessions : ℕ) (due : ℕ → Bool) (last : ℕ) (old : Machine) → suc last ≤ sessions
     → Round sessions due last old → (now : Bool) → due (suc last) ≡ now
     → Round sessions due (suc last) old
@@ -162,13 +162,14 @@ look_round sessions due old zero within = record {
 look_round sessions due old (suc last) within =
     one_more sessions due last old within (look_round sessions due old last (omega arith)) (due (suc last)) refl
 
--- as many entries of a prefix as it has
+-- the first n entries of a prefix are those of the history, if the prefix has so many
 take_begins : (n : ℕ) (xs ys : List Entry) → Begins xs ys → n ≤ length xs → take n xs ≡ take n ys
 take_begins n xs ys begins short =
     sym (take-append-le n xs (drop (length xs) ys) short) ∙ ap (take n) (behind xs ys begins)
 
 module _ (sessions : ℕ) (target : Machine) (is : IsState target) (all : AllOf sessions target.history) where
-  -- the first entries are added, and of them each session has seen what it has seen of all
+  -- the target's first `count` entries are added, and each session has seen those of them that it has seen in the
+  -- target
   record At (count : ℕ) (machine : Machine) : Type 0 where
     pub history : machine.history ≡ take count target.history
     pub capacity : machine.capacity ≡ target.capacity
@@ -177,6 +178,7 @@ module _ (sessions : ℕ) (target : Machine) (is : IsState target) (all : AllOf 
     pub mine : (session : ℕ) → 1 ≤ session → session ≤ sessions
         → (machine.knows session).mine ≡ entries_of session (take count target.history)
 
+  -- events of sessions 1 to a number that lead from the start to a machine with the first `count` entries (`At`)
   record Reached (count : ℕ) : Type 0 where
     pub events : List Event
     pub own : EventsOf sessions events
@@ -184,7 +186,7 @@ module _ (sessions : ℕ) (target : Machine) (is : IsState target) (all : AllOf 
     pub runs : Runs events (opening_machine target.capacity) machine
     pub at : At count machine
 
-  -- who adds the next entry has seen it
+  -- in the target, the session of each entry has seen that entry
   has_seen : (count : ℕ) (entry : Entry) → slice_get target.history count ≡ Some entry
       → count < length (target.knows entry.session).seen
   has_seen count entry here =
@@ -195,14 +197,17 @@ module _ (sessions : ℕ) (target : Machine) (is : IsState target) (all : AllOf 
       (is.part entry.session) long here refl))
       (λ short. omega arith)
 
-  -- a session looks after an add where it has seen the entry
+  -- whether a session looks after the add of the entry at `count`: if it has seen that entry in the target
   abbrev due_at : ℕ → ℕ → Bool
   due_at count session = nat_eq (length (take (suc count) (target.knows session).seen)) (suc count)
 
+  -- if a session has seen more than `count` entries in the target, the first suc count of them are suc count
   full : (count session : ℕ) → count < length (target.knows session).seen
       → length (take (suc count) (target.knows session).seen) ≡ suc count
   full count session more = length-take-le (suc count) (target.knows session).seen more
 
+  -- after the looks that are due, a session has seen the first suc count of the entries that it has seen in the
+  -- target; if these are no more than `count`, it must have seen them before
   seen_where_due : (count session : ℕ) (old : Machine) → old.history ≡ take (suc count) target.history
       → (known : List Entry)
       → (length (target.knows session).seen ≤ count → known ≡ take count (target.knows session).seen)
@@ -220,7 +225,7 @@ module _ (sessions : ℕ) (target : Machine) (is : IsState target) (all : AllOf 
       rw (eq-eqb (length (take (suc count) seen)) (suc count) (full count session more))
       (history ∙ sym (take_begins (suc count) seen target.history (is.seen session) more)))
 
-  -- the next entry is added, and those look who have seen it
+  -- one entry more is reached: it is added, and those sessions look that have seen it in the target
   next : (count : ℕ) (entry : Entry) → slice_get target.history count ≡ Some entry → 1 ≤ entry.session
       → entry.session ≤ sessions
       → suc count ≤ length target.history → Reached count → Reached (suc count)
@@ -266,12 +271,14 @@ module _ (sessions : ℕ) (target : Machine) (is : IsState target) (all : AllOf 
         };
       }
 
+  -- an entry of the target's history is of a session from 1 to a number
   of_log : (count : ℕ) (entry : Entry) → count < length target.history → slice_get target.history count ≡ Some entry
       → (1 ≤ entry.session) × (entry.session ≤ sessions)
   of_log count entry within here =
       subst (λ e. (1 ≤ e.session) × (e.session ≤ sessions)) (entry_is target.history count entry here)
       (all count entry within)
 
+  -- for each count up to the history's length, events lead to a machine with so many of the target's entries
   reach : (count : ℕ) → count ≤ length target.history → Reached count
   reach zero within = record {
     events = [];
@@ -291,6 +298,7 @@ module _ (sessions : ℕ) (target : Machine) (is : IsState target) (all : AllOf 
       let of = of_log count e.0 (omega (arith, within)) e.1 in
       next count e.0 e.1 of.0 of.1 within (reach count (omega (arith, within)))
 
+  -- the target is reached by events of these sessions, as `IsReached` says
   pub reached : IsReached sessions target
   reached =
       let r = reach (length target.history) (omega arith) in

@@ -22,10 +22,11 @@ abbrev pub seen_by : PassView → Seen
 seen_by pass_view = record { seen = pass_view.known.seen; mine = pass_view.known.mine }
 
 module _ (log : List Entry) where
-  -- a session whose pass stands at no seat is taken as having seen all
+  -- what a session knows whose pass is not found at a seat: it is taken as having seen the whole history
   absent : ℕ → Seen
   absent session = record { seen = log; mine = entries_of session log }
 
+  -- what a session knows by a seat: what its pass there has seen, if there is one of its number, and else all
   known_at : ℕ → SeatView → Seen
   known_at session Empty = absent session
   known_at session (Single pass_view) =
@@ -35,17 +36,19 @@ module _ (log : List Entry) where
       (cond (nat_eq second.known.number session) (seen_by second) (absent session))
   known_at session (Unissued pass_view) = absent session
 
+  -- what a session knows by a seat that may be missing: if it is, all
   known_in : ℕ → Option SeatView → Seen
   known_in session none = absent session
   known_in session (some view) = known_at session view
 
+  -- what a session whose pass is not found is taken to know fits the history
   absent_knows : (session : ℕ) → Knows log session (absent session)
   unfolding absent
   absent_knows session = record { begins = begins_itself log; own = refl; part = refl }
 
   module _ (F : PassView → Type 0) (home : ℕ → ℕ) (next : ℕ)
       (facts : (pass_view : PassView) → F pass_view → Knows log pass_view.known.number (seen_by pass_view)) where
-    -- where the number is the session's, the pass; else something that the session knows too
+    -- what a pass has seen, if its number is the session's, and else `other`, fits the history, if both do
     chosen : (pass_view : PassView) (session : ℕ) (other : Seen) → F pass_view → Knows log session other
         → Knows log session (cond (nat_eq pass_view.known.number session) (seen_by pass_view) other)
     chosen pass_view session other fact else_known =
@@ -54,6 +57,7 @@ module _ (log : List Entry) where
         (subst (λ n. Knows log n (seen_by pass_view)) is (facts pass_view fact)))
         (λ isnt. rw (ne_eqb pass_view.known.number session isnt) else_known)
 
+    -- if what a seat knows is true, what a session knows by that seat fits the history
     known_knows : (id session : ℕ) (view : SeatView) → Fits F home next id view
         → Knows log session (known_at session view)
     unfolding known_at
@@ -67,21 +71,24 @@ module _ (log : List Entry) where
     known_knows id session (Unissued pass_view) fits = absent_knows session
 
     module _ (capacity : ℕ) (views : List SeatView) (seats : Seats F home next views) where
+      -- the machine of this history, in which each session knows what it does by the seat of its number
       machine : Machine
       machine = record
           { history = log; capacity = capacity; knows = λ session. known_in session (get_elem? views (home session)) }
 
+      -- what a session knows by the seat of its number, or without one, fits the history
       sound_at : (session : ℕ) (view : Option SeatView) → get_elem? views (home session) ≡ view
           → Knows log session (known_in session view)
       unfolding known_in
       sound_at session none is = absent_knows session
       sound_at session (some view) is = known_knows (home session) session view (seats (home session) view is)
 
+      -- what each session of the machine knows fits the history
       sound : Sound machine
       unfolding machine
       sound session = sound_at session (get_elem? views (home session)) refl
 
-      -- at the seat of its number a pass is found
+      -- a pass at the seat of its number knows what the machine's session knows, if `known_at` gives its own view there
       found : (pass_view : PassView) (id : ℕ) (view : SeatView) → home pass_view.known.number ≡ id
           → get_elem? views id ≡ some view
           → known_at pass_view.known.number view ≡ seen_by pass_view → KnownTo machine pass_view
@@ -89,6 +96,7 @@ module _ (log : List Entry) where
       found pass_view id view at here same =
           ap (λ v. known_in pass_view.known.number v) (ap (get_elem? views) at ∙ here) ∙ same
 
+      -- each pass at a seat knows what the machine's session of its number knows
       passes : (id : ℕ) (view : SeatView) → get_elem? views id ≡ some view → SeatKnownTo machine view
       unfolding known_at
       passes id Empty here = tt
@@ -109,6 +117,8 @@ module _ (log : List Entry) where
           )
       passes id (Unissued pass_view) here = tt
 
+      -- if the history fits into the capacity and its entries are of sessions 1 to a number, there is a machine that
+      -- has this history and these passes, as `HasPasses` says
       pub has_passes : (sessions : ℕ) → length log ≤ capacity → AllOf sessions log
           → (m : Machine) × HasPasses sessions capacity log views m
       unfolding machine

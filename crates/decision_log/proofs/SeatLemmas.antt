@@ -35,6 +35,7 @@ at_end (x ∷ xs) a b zero e = inl e
 at_end (x ∷ xs) a b (suc j) e = ⊎_elim (λ h. inl h) (λ h. inr (ap suc h.0, h.1)) (at_end xs a b j e)
 
 module _ (F G : PassView → Type 0) (home : ℕ → ℕ) (next : ℕ) where
+  -- at the seat of a pass may stand another one of the same number, of which the fact G holds
   pub placed : {id : ℕ} {h : PassView} (k : PassView) → Placed F home next id h → k.known.number ≡ h.known.number → G k
       → Placed G home next id k
   placed k p same fact =
@@ -46,7 +47,8 @@ module _ (F G : PassView → Type 0) (home : ℕ → ℕ) (next : ℕ) where
         fact_is = fact;
       }
 
-  -- what a seat knows of passes of other numbers
+  -- at any other seat than that of h, what is known is true with G in place of F, if F gives G for passes of other
+  -- numbers
   others : (h : PassView) (id j : ℕ) → home h.known.number ≡ id → h.known.number < next → j ≢ id
       → ((g : PassView) → g.known.number ≢ h.known.number → 0 < g.known.number → F g → G g) → (v : SeatView)
       → Fits F home next j v → Fits G home next j v
@@ -62,7 +64,8 @@ module _ (F G : PassView → Type 0) (home : ℕ → ℕ) (next : ℕ) where
       let rest = p.1 in
       (p.0, p.1, keep g (λ e. omega arith) (omega arith) p.2)
 
-  -- a pass steps: what is known of it changes, and what is known of passes of other numbers is kept
+  -- after a pass h steps to k, of the same number, what all seats know is true with G in place of F, if G holds of k,
+  -- and of each pass of another number of which F holds
   pub step_seat : (views : List SeatView) (id : ℕ) (h k : PassView) → Seats F home next views
       → get_elem? views id ≡ some (Single h)
       → k.known.number ≡ h.known.number
@@ -78,7 +81,8 @@ module _ (F G : PassView → Type 0) (home : ℕ → ℕ) (next : ℕ) where
       (at_set views id j (Single k) v e)
 
 module _ (F : PassView → Type 0) (home : ℕ → ℕ) (next : ℕ) where
-  -- two passes at one seat step, and no word changes
+  -- what all seats know stays true if two passes at one seat become two others, of the same numbers, of which the
+  -- fact holds
   pub step_two : (views : List SeatView) (id : ℕ) (g h g' h' : PassView) → Seats F home next views
       → get_elem? views id ≡ some (Pair g h)
       → g'.known.number ≡ g.known.number → h'.known.number ≡ h.known.number
@@ -96,6 +100,7 @@ module _ (F : PassView → Type 0) (home : ℕ → ℕ) (next : ℕ) where
       (at_set views id j (Pair g' h') v e)
 
   module _ (number target : ℕ) where
+    -- a pass of another number stays at its seat if this number moves to the seat `target`
     placed_elsewhere : {j : ℕ} {g : PassView} → Placed F home next j g → g.known.number ≢ number
         → Placed F (moved home number target) next j g
     placed_elsewhere {j} {g} p apart =
@@ -107,7 +112,7 @@ module _ (F : PassView → Type 0) (home : ℕ → ℕ) (next : ℕ) where
           fact_is = p.fact_is;
         }
 
-    -- a number moves to another seat: a seat that hadn't it knows what it knew
+    -- what a seat knows stays true if a number moves to another seat, and this seat isn't the one that it leaves
     rehomed : (j : ℕ) → 0 < number → home number ≢ j → (v : SeatView) → Fits F home next j v
         → Fits F (moved home number target) next j v
     rehomed j low apart Empty p = tt
@@ -120,7 +125,8 @@ module _ (F : PassView → Type 0) (home : ℕ → ℕ) (next : ℕ) where
     )
     rehomed j low apart (Unissued g) p = (moved_else home number target 0 (λ e. omega arith) ∙ p.0, p.1, p.2)
 
-  -- a seat takes in the pass of another
+  -- what all seats know stays true if a seat takes in the pass of another, which is then empty, and the pass's number
+  -- moves
   pub join_seats : (views : List SeatView) (id other : ℕ) (g h : PassView) → Seats F home next views
       → get_elem? views id ≡ some (Single g) → other ≢ id
       → get_elem? (set views id (Pair g h)) other ≡ some (Single h)
@@ -145,7 +151,8 @@ module _ (F : PassView → Type 0) (home : ℕ → ℕ) (next : ℕ) where
       (at_set views id j (Pair g h) v t.1))
       (at_set (set views id (Pair g h)) other j Empty v e)
 
-  -- a seat with two passes is split into two
+  -- what all seats know stays true if a seat with two passes is split: the second pass, with its number, gets a seat
+  -- at the end
   pub split_two : (views : List SeatView) (id : ℕ) (g h : PassView) → Seats F home next views
       → get_elem? views id ≡ some (Pair g h)
       → Seats F (moved home h.known.number (length views)) next (set views id (Single g) ++ Single h ∷ [])
@@ -171,7 +178,7 @@ module _ (F : PassView → Type 0) (home : ℕ → ℕ) (next : ℕ) where
       }))
       (at_end (set views id (Single g)) (Single h) v j e)
 
-  -- a seat with one pass is split into itself and a spent one
+  -- what all seats know stays true if a seat with one pass splits off an empty seat, which is put at the end
   pub split_one : (views : List SeatView) (id : ℕ) (g : PassView) → Seats F home next views
       → get_elem? views id ≡ some (Single g)
       → Seats F home next (set views id (Single g) ++ Empty ∷ [])
@@ -183,7 +190,8 @@ module _ (F : PassView → Type 0) (home : ℕ → ℕ) (next : ℕ) where
       (λ t. subst (λ w. Fits F home next j w) t.1 tt)
       (at_end (set views id (Single g)) Empty v j e)
 
-  -- the next pass is given out
+  -- what all seats know stays true if the next pass is given out, with a seat at the end, `next` rises by one, and
+  -- the fact holds of the pass after it
   pub deal_seat : (views : List SeatView) (id : ℕ) (h : PassView) → 0 < next → Seats F home next views
       → get_elem? views id ≡ some (Unissued h)
       → F (following h)

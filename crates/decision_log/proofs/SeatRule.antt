@@ -46,27 +46,32 @@ module _ {Spells : Sizes → List ℕ → List Entry → Type 0} {KnowsWords : L
     (has : HasWords Spells KnowsWords newest) where
   module _ {sizes : Sizes} {words : List ℕ} {views : List SeatView}
       (r : LogRule Spells KnowsWords sizes words views) where
+    -- the rule, of the same words with other seats
     abbrev Rule : List SeatView → Type 0
     Rule views' = LogRule Spells KnowsWords sizes words views'
 
+    -- what a pass knows of the log is true
     abbrev Known : PassView → Type 0
     Known pass_view = KnowsLog KnowsWords sizes words r.log pass_view
 
-    -- where no pass is issued
+    -- the rule is kept with other seats and other homes, if what the seats know is true and no pass is issued
     rehoused : (home : ℕ → ℕ) (views' : List SeatView) → Seats Known home r.next views' → Rule views'
     rehoused home views' seats = reseated r home r.next views' (omega arith) r.within seats
 
+    -- the rule is kept if a seat with one pass splits off an empty seat
     split_empty : (id : ℕ) (g : PassView) → get_elem? views id ≡ some (Single g)
         → Rule (set views id (Single g) ++ Empty ∷ [])
     split_empty id g here =
         rehoused r.home (set views id (Single g) ++ Empty ∷ []) (split_one Known r.home r.next views id g r.seats here)
 
+    -- the rule is kept if a seat with two passes is split: the second pass gets a seat at the end
     split : (id : ℕ) (g h : PassView) → get_elem? views id ≡ some (Pair g h)
         → Rule (set views id (Single g) ++ Single h ∷ [])
     split id g h here =
         rehoused (moved r.home h.known.number (length views)) (set views id (Single g) ++ Single h ∷ [])
         (split_two Known r.home r.next views id g h r.seats here)
 
+    -- the rule is kept if a seat with one pass takes in the pass of another seat, which is then empty
     join : (id other : ℕ) (g h : PassView) → get_elem? views id ≡ some (Single g) → (other ≡ id → ⊥)
         → get_elem? (set views id (Pair g h)) other ≡ some (Single h)
         → Rule (set (set views id (Pair g h)) other Empty)
@@ -74,7 +79,8 @@ module _ {Spells : Sizes → List ℕ → List Entry → Type 0} {KnowsWords : L
         rehoused (moved r.home h.known.number id) (set (set views id (Pair g h)) other Empty)
         (join_seats Known r.home r.next views id other g h r.seats here apart there)
 
-    -- the next pass knows the history of which it has seen nothing
+    -- if h is the next pass to be issued, what the one after it knows is true: it has seen nothing, and no entry is
+    -- its own
     issued : (h : PassView) → Known h → h.known.number ≡ r.next → Known (following h)
     issued h k number = record {
       sessions = k.sessions;
@@ -86,6 +92,7 @@ module _ {Spells : Sizes → List ℕ → List Entry → Type 0} {KnowsWords : L
       own = has.idle words r.log (following h) refl refl;
     }
 
+    -- the rule is kept if the next pass is issued, as long as its number is one of the log's
     issue : (id : ℕ) (h : PassView) → h.known.number ≤ h.sessions → get_elem? views id ≡ some (Unissued h)
         → Rule (set views id (Unissued (following h)) ++ Single h ∷ [])
     issue id h low here =
@@ -97,6 +104,8 @@ module _ {Spells : Sizes → List ℕ → List Entry → Type 0} {KnowsWords : L
         (omega (arith, number, sessions, low))
         (deal_seat Known r.home r.next views id h r.begun r.seats here (issued h p.2 number))
 
+    -- the rule is kept if the second of two passes at a seat has then seen any prefix of the history in which the
+    -- entries of its number are its own
     meet_keeps : (id : ℕ) (g h : PassView) (seen : List Entry) → get_elem? views id ≡ some (Pair g h)
         → Begins seen r.log
         → entries_of h.known.number seen ≡ h.known.mine → Rule (set views id (Pair g (met h seen)))
@@ -114,7 +123,8 @@ module _ {Spells : Sizes → List ℕ → List Entry → Type 0} {KnowsWords : L
           own = has.idle words r.log (met h seen) refl refl;
         }))
 
-    -- where the second pass has seen as much as the first it stays, and else it sees all
+    -- if two passes at a seat meet, the rule is kept and `Meets` holds: the second has then seen what it had seen, if
+    -- that was as much as the first, and else the whole history
     meet : (id : ℕ) (g h : PassView) → get_elem? views id ≡ some (Pair g h)
         → (seen : List Entry) × Rule (set views id (Pair g (met h seen)))
         × Meets newest g h (slice_index words 0) (seated_two g (met h seen))
@@ -163,7 +173,7 @@ module _ {Spells : Sizes → List ℕ → List Entry → Type 0} {KnowsWords : L
           ),
         ))
 
-  -- the load leaves the words
+  -- the load of word 0 at a seat with two passes keeps the rule, and tells what `Meets` says
   meet_step : (sizes : Sizes) (slots id : ℕ) (g h : PassView)
       → Allows (Rules Spells KnowsWords sizes) slots id (seated_two g h) 0 (λ n. n) (Meets newest g h)
   meet_step sizes slots id g h state r homes here small =
@@ -176,6 +186,7 @@ module _ {Spells : Sizes → List ℕ → List Entry → Type 0} {KnowsWords : L
         m.2,
       )
 
+  -- a rule whose words have what `HasWords` asks is kept by every step of `KeepsSeats`
   pub seats_kept : KeepsSeats (Rules Spells KnowsWords) newest
   seats_kept = record {
     split_empty = λ sizes id g state r here. split_empty r id g here;
@@ -185,7 +196,7 @@ module _ {Spells : Sizes → List ℕ → List Entry → Type 0} {KnowsWords : L
     meet = meet_step;
   }
 
-  -- an empty log, none of whose passes is given out
+  -- words that spell the empty history keep the rule with one seat, which knows all passes
   at_opening : (sizes : Sizes) (words : List ℕ) → Spells sizes words []
       → LogRule Spells KnowsWords sizes words (all_passes sizes ∷ [])
   at_opening sizes words spelled = record {
@@ -220,6 +231,8 @@ module _ {Spells : Sizes → List ℕ → List Entry → Type 0} {KnowsWords : L
           )
       first (suc id) view is = absurd (some-ne-none view (sym is))
 
+  -- if any words, so many and with a 0 in word 0, spell the empty history, a log can begin with them as `OpensSeats`
+  -- says
   pub opens_seats : (sizes : Sizes) (word_count : ℕ) → 0 < word_count
       → ((words : List ℕ) → length words ≡ word_count → slice_index words 0 ≡ 0 → Spells sizes words [])
       → OpensSeats (Rules Spells KnowsWords) all_passes newest sizes word_count

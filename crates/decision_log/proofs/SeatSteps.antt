@@ -1,5 +1,10 @@
--- The steps of seats at what a seat knows.
---     at_spare, at_join, at_split, at_issue, at_meet     the same at a seat's own view
+-- What a log shows of seats with stated passes (`Single g`, `Pair g h` and so on), for a seat `me` that is known to
+-- have these passes.
+--     at_spare        an empty seat is split off
+--     at_split        two passes are split
+--     at_issue        the next pass is issued
+--     at_join         two seats are joined
+--     at_meet         two passes meet
 use Rattle.std.proofs.Common.{◌≡◌, ℕ, sym, subst}
 use Rattle.atomic_table.specs.Table.{State, Me, Allows, Splits, Joins}
 use Rattle.xa_words.specs.Entry.{Entry}
@@ -12,21 +17,22 @@ use Rattle.decision_log.specs.declared.sizes.Sizes.{Sizes}
 use Rattle.decision_log.specs.Atomic.{Meets}
 use Rattle.decision_log.specs.AtTable.{KeepsSeats}
 
--- the rule of a seat with one pass (`g`), for a seat that has it: the seat is made free
+-- if the rule is kept where a seat with one pass (`g`) splits off an empty seat, it is where a seat that has it is
+-- split
 pub at_spare : {holds : State Entry SeatView → Type 0} {id : ℕ} {g : PassView} (me : Me Entry SeatView)
     → ◌≡◌ {A = Me Entry SeatView} me (seated g)
     → Splits holds id (Single g) (Single g) Empty → Splits holds id me.0 (left_of me.0) (right_of me.0)
 at_spare {holds} {id} {g} me held is =
     subst (λ (m : Me Entry SeatView). Splits holds id m.0 (left_of m.0) (right_of m.0)) (sym held) is
 
--- the rule of a seat with two passes (`g`, `h`), for a seat that has them: one gets a seat of its own
+-- if the rule is kept where a seat with two passes (`g`, `h`) is split, it is for a seat that has them
 pub at_split : {holds : State Entry SeatView → Type 0} {id : ℕ} {g h : PassView} (me : Me Entry SeatView)
     → ◌≡◌ {A = Me Entry SeatView} me (seated_two g h)
     → Splits holds id (Pair g h) (Single g) (Single h) → Splits holds id me.0 (left_of me.0) (right_of me.0)
 at_split {holds} {id} {g} {h} me held is =
     subst (λ (m : Me Entry SeatView). Splits holds id m.0 (left_of m.0) (right_of m.0)) (sym held) is
 
--- the rule of a seat that issues passes, for such a seat: the next pass gets a seat of its own
+-- if the rule is kept where the next pass (`g`) is issued, it is where the seat that has the rest is split
 pub at_issue : {holds : State Entry SeatView → Type 0} {id : ℕ} {g : PassView} (me : Me Entry SeatView)
     → ◌≡◌ {A = Me Entry SeatView} me (seated_rest g)
     → Splits holds id (Unissued g) (Unissued (following g)) (Single g)
@@ -34,7 +40,7 @@ pub at_issue : {holds : State Entry SeatView → Type 0} {id : ℕ} {g : PassVie
 at_issue {holds} {id} {g} me held is =
     subst (λ (m : Me Entry SeatView). Splits holds id m.0 (left_of m.0) (right_of m.0)) (sym held) is
 
--- the rule of two seats with a pass each, for such seats: they are joined in one
+-- if the rule is kept where two seats with a pass each (`g`, `h`) are joined, it is for two seats that have them
 pub at_join : {holds : State Entry SeatView → Type 0} {id other : ℕ} {g h : PassView} (me you : Me Entry SeatView)
     → ◌≡◌ {A = Me Entry SeatView} me (seated g)
     → ◌≡◌ {A = Me Entry SeatView} you (seated h) → Joins holds id (Single g) other (Single h) (Pair g h) Empty
@@ -44,7 +50,7 @@ at_join {holds} {id} {other} {g} {h} me you held held' is =
     (subst (λ (m : Me Entry SeatView). Joins holds id (Single g) other m.0 (both_of (Single g) m.0) Empty)
     (sym held') is)
 
--- the rule of a seat with two passes, for such a seat: the passes meet
+-- a rule as in `KeepsSeats` allows a seat that has two passes (`g`, `h`) the load of word 0 by which they meet
 pub at_meet : {holds : Sizes → State Entry SeatView → Type 0} {newest : PassView → ℕ} (rule : KeepsSeats holds newest)
     (sizes : Sizes) (slots id : ℕ)
     (g h : PassView)

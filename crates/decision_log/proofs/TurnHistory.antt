@@ -30,7 +30,7 @@ Spelled words from list =
     (place : ℕ) (entry : Entry) → slice_get list place ≡ Some entry
     → IsEntry entry × HasWordsAt words (row_at (from + place)) (words_of entry)
 
--- the words from the first place on spell the entries whose words stand at each place
+-- what stands in the row of a place stands in the row of that place counted from 0 on, as `Spelled` counts
 first_rows : (words : List ℕ) (place : ℕ) (entry : Entry)
     → IsEntry entry × HasWordsAt words (row_at place) (words_of entry)
     → IsEntry entry × HasWordsAt words (row_at (0 + place)) (words_of entry)
@@ -38,7 +38,7 @@ first_rows words place entry is =
     let here : place ≡ 0 + place = omega arith in
     subst (λ n. IsEntry entry × HasWordsAt words (row_at n) (words_of entry)) here is
 
--- the words of a row spell one entry
+-- two lists that the rows from a place on spell begin with the same entry
 one_row : (words : List ℕ) (from : ℕ) (x y : Entry) (xs ys : List Entry) → Spelled words from (x ∷ xs)
     → Spelled words from (y ∷ ys) → x ≡ y
 unfolding Spelled
@@ -49,7 +49,7 @@ one_row words from x y xs ys s t =
     (ext_get_or 0 (words_of x) (words_of y) (length-words_of x ∙ sym (length-words_of y))
     (λ k below. sym (left.1 k below) ∙ right.1 k (omega (arith, below, length-words_of x, length-words_of y))))
 
--- the words that spell a history: those after the first entry's spell the rest
+-- if the rows from a place on spell a list, those from the next place on spell it without its first entry
 spelled_rest : (words : List ℕ) (from : ℕ) (x : Entry) (xs : List Entry) → Spelled words from (x ∷ xs)
     → Spelled words (from + 1) xs
 unfolding Spelled
@@ -57,7 +57,7 @@ spelled_rest words from x xs s place entry is =
     let here : from + suc place ≡ from + 1 + place = omega arith in
     subst (λ n. IsEntry entry × HasWordsAt words (row_at n) (words_of entry)) here (s (suc place) entry is)
 
--- the words of as many rows spell one list
+-- two lists of the same length that the rows from a place on spell are equal
 one_list : (words : List ℕ) (from : ℕ) (xs ys : List Entry) → length xs ≡ length ys → Spelled words from xs
     → Spelled words from ys → xs ≡ ys
 one_list words from [] [] same s t = refl
@@ -70,11 +70,12 @@ one_list words from (x ∷ xs) (y ∷ ys) same s t =
     λ i. first i ∷ rest i
 
 module _ (sizes : Sizes) (words : List ℕ) (views : List SeatView) (r : TurnRule sizes words views) where
+  -- if the rule holds, the rows from place 0 on spell its history
   spelled : Spelled words 0 r.log
   unfolding Spelled
   spelled place entry is = first_rows words place entry ((r.entries place entry is).0, r.spelled.rows place entry is)
 
--- the words of a log spell one history only
+-- if the rule holds of the same words twice, with any seats, its history is the same both times
 one_log : (sizes : Sizes) (words : List ℕ) (views views' : List SeatView) (p : TurnRule sizes words views)
     (q : TurnRule sizes words views') → p.log ≡ q.log
 one_log sizes words views views' p q =
@@ -82,6 +83,7 @@ one_log sizes words views views' p q =
     (spelled sizes words views' q)
 
 module _ (sizes : Sizes) (words : List ℕ) (views views' : List SeatView) (r : TurnRule sizes words views) where
+  -- if the rule holds before and after a store to the turn's word, its history stays
   pub turn_log : (new : ℕ) (after : TurnRule sizes (set words 1 new) views') → after.log ≡ r.log
   unfolding Spelled
   turn_log new after =
@@ -94,6 +96,8 @@ module _ (sizes : Sizes) (words : List ℕ) (views views' : List SeatView) (r : 
             (r.spelled.rows place entry is),
       ))
 
+  -- if the rule holds before and after a pass with the turn, which has looked, stores a word of its draft into the row
+  -- after all that it has seen, its history stays
   pub stored_log : (id : ℕ) (h : PassView) (index new : ℕ) → get_elem? views id ≡ some (Single h) → h.turn ≡ Fresh
       → index ≤ length h.draft → index < 21
       → length h.known.seen < h.capacity
@@ -109,6 +113,8 @@ module _ (sizes : Sizes) (words : List ℕ) (views views' : List SeatView) (r : 
       one_log sizes (set words (row_at (length r.log) + index) new) views'
       (set views id (Single (drafted h index new))) after t.0 ∙ t.1) after
 
+  -- if the rule holds before and after a pass with the turn, which has looked and whose draft is an entry's words,
+  -- stores the count, one higher, the history has that entry more
   pub counted_log : (id : ℕ) (h : PassView) (entry : Entry) → get_elem? views id ≡ some (Single h) → h.turn ≡ Fresh
       → IsEntry entry
       → entry.session ≡ h.known.number

@@ -9,7 +9,7 @@ use Rattle.decision_log.proofs.Drafts.{holds_nothing}
 use Rattle.decision_log.proofs.SeatRule.{HasWords, seats_kept, opens_seats}
 use Rattle.decision_log.proofs.TurnSteps.{Rules}
 
--- what a log has to show of its own words
+-- the words of a log with a turn have what `HasWords` asks: an idle pass knows nothing of them, and word 0 is the count
 has_words : HasWords HasRows HasDraft count_for
 has_words = record {
   idle = λ words log h blank without. record {
@@ -23,7 +23,7 @@ has_words = record {
 pub keeps_seats : KeepsSeats Rules count_for
 keeps_seats = seats_kept has_words
 
--- a log of any sizes can begin: all its words are 0, and the rule holds
+-- a log of any sizes can begin: with as many words as it has, and 0 in word 0, the rule holds, as `OpensSeats` says
 pub opens : (sizes : Sizes) → OpensSeats Rules all_passes count_for sizes (row_at sizes.capacity)
 opens sizes =
     opens_seats has_words sizes (row_at sizes.capacity) (omega arith)

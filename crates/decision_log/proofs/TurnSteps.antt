@@ -20,14 +20,14 @@ use Rattle.decision_log.proofs.LogRules.{known, history, stepped, unmoved, load_
 abbrev pub Rules : Sizes → State Entry SeatView → Type 0
 Rules sizes state = TurnRule sizes state.words state.views
 
--- a pass that has looked still has the turn, if it had it
+-- what a pass knows of its turn is true after a look too, by which it has seen the whole history
 looked_has : (words : List ℕ) (log : List Entry) (h : PassView) (turn : Turn) → HasTurn words log h turn
     → HasTurn words log (with_look h log) (looked_turn turn)
 looked_has words log h Without has = has
 looked_has words log h Won has = (refl, has.1)
 looked_has words log h Fresh has = (refl, has.1)
 
--- a look: the load of the count of entries (word 0) keeps it, and tells what `Sees` says
+-- a look: the load of the count of entries (word 0) keeps the rule, and tells what `Sees` says
 pub look_step : (sizes : Sizes) (slots id : ℕ) (h : PassView)
     → Allows (Rules sizes) slots id (seated h) 0 (λ n. n) (Tells (Sees 0 h))
 look_step sizes slots id h =
@@ -41,7 +41,7 @@ look_step sizes slots id h =
       (refl, r.log, refl, r.spelled.count, history r h k),
     ))
 
--- the load of an entry's word keeps it, and tells what `Reads` says
+-- the load of an entry's word keeps the rule, and tells what `Reads` says
 pub read_step : (sizes : Sizes) (slots id word : ℕ) (h : PassView) → word ≢ 0
     → Allows (Rules sizes) slots id (seated h) word (λ n. n) (Tells (Reads word h))
 read_step sizes slots id word h behind =

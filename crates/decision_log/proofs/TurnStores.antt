@@ -53,10 +53,11 @@ blank : (words : List ℕ) (log : List Entry) (k : PassView) → k.draft ≡ [] 
 blank words log k empty turn = record { draft = holds_nothing words (row_at (length log)) k.draft empty; turn = turn }
 
 module _ {sizes : Sizes} {words : List ℕ} {views : List SeatView} (r : TurnRule sizes words views) where
+  -- there is a word 1
   two_words : 1 < length words
   two_words = omega (arith, r.spelled.wide)
 
-  -- the turn word changes
+  -- whatever is stored into the turn's word, the words still spell the history
   retaken : (new : ℕ) → HasRows sizes (set words 1 new) r.log
   retaken new = record {
     wide = length-set words 1 new ∙ r.spelled.wide;
@@ -65,7 +66,7 @@ module _ {sizes : Sizes} {words : List ℕ} {views : List SeatView} (r : TurnRul
         (r.spelled.rows place entry is);
   }
 
-  -- the turn is free, and the pass takes it
+  -- the rule is kept if the turn is free and the pass's number is stored into the turn's word: the pass has won it
   take_keeps : (id : ℕ) (h : PassView) → get_elem? views id ≡ some (Single h) → get_or words 1 0 ≡ 0
       → TurnRule sizes (set words 1 h.known.number) (set views id (Single (tried h Won)))
   take_keeps id h here free =
@@ -75,7 +76,7 @@ module _ {sizes : Sizes} {words : List ℕ} {views : List SeatView} (r : TurnRul
       (blank words' r.log (tried h Won) refl (refl, get_or-set_same words 1 h.known.number 0 two_words))
       (λ g apart low other. aside words words' r.log r.log g (λ e. omega arith) other.own)).0
 
-  -- the turn is another's
+  -- the rule is kept if no word changes and the pass has tried in vain
   miss_keeps : (id : ℕ) (h : PassView) → get_elem? views id ≡ some (Single h)
       → TurnRule sizes words (set views id (Single (tried h Without)))
   miss_keeps id h here =
@@ -84,7 +85,7 @@ module _ {sizes : Sizes} {words : List ℕ} {views : List SeatView} (r : TurnRul
       (blank words r.log (tried h Without) refl refl)
       (λ g apart low other. other.own)).0
 
-  -- the turn is given back
+  -- the rule is kept if a pass whose number is in the turn's word stores 0 there
   release_keeps : (id : ℕ) (h : PassView) → get_elem? views id ≡ some (Single h) → slice_index words 1 ≡ h.known.number
       → TurnRule sizes (set words 1 0) (set views id (Single (released h)))
   release_keeps id h here mine =
@@ -93,7 +94,8 @@ module _ {sizes : Sizes} {words : List ℕ} {views : List SeatView} (r : TurnRul
       (blank (set words 1 0) r.log (released h) refl refl)
       (λ g apart low other. aside words (set words 1 0) r.log r.log g (λ e. apart (sym e ∙ mine)) other.own)).0
 
-  -- a word of the row at the count is stored
+  -- the rule is kept, with the same history, if a pass that has the turn and has seen the whole history stores the
+  -- next word of its draft, or one again, into the row at the count
   pub draft_keeps : (id : ℕ) (h : PassView) (index new : ℕ) → get_elem? views id ≡ some (Single h)
       → h.known.seen ≡ r.log → slice_index words 1 ≡ h.known.number
       → h.turn ≡ Fresh
@@ -124,7 +126,8 @@ module _ {sizes : Sizes} {words : List ℕ} {views : List SeatView} (r : TurnRul
       })
       (λ g apart low other. aside words words' r.log r.log g (λ e. apart (sym e ∙ mine)) other.own)
 
-  -- the count is stored, one higher
+  -- the rule is kept, with the entry appended, if a pass that has the turn and has seen the whole history, and whose
+  -- draft is the words of an entry of its number, stores the count, one higher, and there was room
   pub publish_keeps : (id : ℕ) (h : PassView) (entry : Entry) → get_elem? views id ≡ some (Single h)
       → h.known.seen ≡ r.log
       → slice_index words 1 ≡ h.known.number

@@ -6,7 +6,7 @@
 --     identity_at     the identity of a log at a table
 --     belongs_at      of which log the pass at a seat is
 --     KeepsSeats      a rule is kept when seats are split and joined, when a pass is issued, and when two passes meet
---     OpensSeats      words of zeros keep a rule if one seat knows all passes, and so does all that follows
+--     OpensSeats      words with a 0 in word 0 keep a rule if one seat knows all passes, and `KeepsSeats` holds of it
 use Rattle.std.specs.Prelude.{◌≡◌, ◌<◌, ◌≤◌, ℕ, List, [], length, slice_index}
 use Rattle.atomic_table.specs.Seated.{TableId}
 use Rattle.atomic_table.specs.Table.{State, Allows, Splits, Joins, opening}
@@ -50,7 +50,8 @@ abbrev pub belongs_at : Seat Entry SeatView → LogIdentity
 belongs_at seat =
     record { table = seat.table_id; sessions = (pass_view seat).sessions; capacity = (pass_view seat).capacity }
 
--- the rule holds after each of these steps if it held before; a pass is issued only if there is a number left
+-- the rule holds after each of these steps if it held before: an empty seat is split off, two seats are joined or split
+-- again, a pass is issued (only if there is a number left), two passes meet by a load of word 0
 pub record KeepsSeats (holds : Sizes → State Entry SeatView → Type 0) (newest : PassView → ℕ) : Type 0 where
   pub split_empty : (sizes : Sizes) (id : ℕ) (pass : PassView)
       → Splits (holds sizes) id (Single pass) (Single pass) Empty
@@ -63,7 +64,8 @@ pub record KeepsSeats (holds : Sizes → State Entry SeatView → Type 0) (newes
   pub meet : (sizes : Sizes) (slots id : ℕ) (first second : PassView)
       → Allows (holds sizes) slots id (seated_two first second) 0 (λ n. n) (Meets newest first second)
 
--- a log begins with words of zeros and one seat that knows all passes, and seats are split and joined from there on
+-- there is a word; if the words are so many, and word 0 is 0, the rule holds with no slot and with one seat that
+-- knows all passes; and the rule is kept as `KeepsSeats` says
 pub record OpensSeats (holds : Sizes → State Entry SeatView → Type 0) (first : Sizes → SeatView) (newest : PassView → ℕ)
     (sizes : Sizes)
     (word_count : ℕ) : Type 0 where

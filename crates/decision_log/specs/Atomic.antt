@@ -4,9 +4,9 @@
 --     Does            what the step finds, and the words after it
 --     IsLoad          the step loads this word
 --     IsTry           the step exchanges this word
---     Counts          `looks` rises by the load of word 0 that sees the history, `tries` by each exchange of one word,
---                     and neither by anything else;
---                     `since` counts the looks from the last try on
+--     Counts          `looks` rises by each load of word 0, which sees the history, `tries` by each exchange of the
+--                     word at which passes try, and neither by anything else; `since` counts the looks from the last
+--                     try on
 --     Tells           a transition at a seat that knows one pass
 --     Meets           the load of word 0 at a seat that knows two
 use Rattle.std.specs.Prelude.{◌≡◌, ◌≢◌, ◌⊎◌, ◌<◌, ◌+◌, ℕ, List, length, set, slice_index}
@@ -44,7 +44,8 @@ AtExchange tells (Load word) old found new = ⊥
 AtExchange tells (Store word value) old found new = ⊥
 AtExchange tells (Exchange word from to said) old found new = tells word from to said old found new
 
--- a load and an exchange find what was there; an exchange leaves it if it isn't what was asked for
+-- a load finds the word, and leaves it; a store sets it, whatever is found; an exchange finds the word, and sets it if
+-- that is what was asked for
 abbrev pub Does : Atomic → List ℕ → ℕ → List ℕ → Type 0
 Does (Load word) old found new = (found ≡ slice_index old word) × (new ≡ old)
 Does (Store word value) old found new = new ≡ set old word value
@@ -63,8 +64,9 @@ IsTry at (Load word) = ⊥
 IsTry at (Store word value) = ⊥
 IsTry at (Exchange word from to said) = word ≡ at
 
--- a look is the load of word 0, which is then what the pass has seen; a try is an exchange of the word at which passes
--- try
+-- `looks` rises by one at a load of word 0, which finds `newest` of the pass after it; `tries` rises by one at an
+-- exchange of the word at which passes try; neither rises at any other step; `since` rises with `looks`, is 0 after a
+-- try, and else stays
 pub record Counts (newest : PassView → ℕ) (tried : ℕ) (step : Atomic) (found : ℕ) (old new : PassView) : Type 0 where
   pub looks : ((new.known.looks ≡ old.known.looks + 1) × IsLoad 0 step × (found ≡ newest new))
       ⊎ ((new.known.looks ≡ old.known.looks) × (IsLoad 0 step → ⊥))
@@ -77,7 +79,8 @@ pub record Counts (newest : PassView → ℕ) (tried : ℕ) (step : Atomic) (fou
 abbrev pub Tells : (ℕ → PassView → Type 0) → ℕ → Me Entry SeatView → Type 0
 Tells then found me = (pass_view : PassView) × (me ≡ seated pass_view) × then found pass_view
 
--- the first pass is unchanged; if the second had seen less, it has now seen the whole history
+-- the first pass is unchanged, and the second has seen what `MetAt` says; if it had seen less than the first, the word
+-- found is `newest` of the second after the meeting
 abbrev pub Meets : (PassView → ℕ) → PassView → PassView → ℕ → Me Entry SeatView → Type 0
 Meets newest first second found me =
     (seen : List Entry) × (me ≡ seated_two first (met second seen))

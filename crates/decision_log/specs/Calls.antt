@@ -10,7 +10,7 @@ use Rattle.decision_log.specs.declared.fault.AddFault.{AddFault}
 use Rattle.decision_log.specs.declared.fault.AddFault.TheVariants.{Overtaken, Full, Busy}
 use Rattle.decision_log.specs.History.{Begins, entries_of}
 
--- what was seen begins what is seen now, and one more look is counted
+-- what was seen begins what is seen now, and one more look is counted, in `looks` and `since`; the rest stays
 pub record Looked (old new : Known) : Type 0 where
   pub number : new.number ≡ old.number
   pub seen : Begins old.seen new.seen
@@ -19,7 +19,7 @@ pub record Looked (old new : Known) : Type 0 where
   pub tries : new.tries ≡ old.tries
   pub since : new.since ≡ old.since + 1
 
--- the entry comes after all that was seen, and nothing else was appended
+-- the entry comes right after all that was seen, and after the pass's own entries; one more try is counted
 pub record IsAdded (entry : Entry) (old new : Known) : Type 0 where
   pub number : new.number ≡ old.number
   pub seen : new.seen ≡ old.seen ++ entry ∷ []
@@ -27,7 +27,7 @@ pub record IsAdded (entry : Entry) (old new : Known) : Type 0 where
   pub looks : old.looks ≤ new.looks
   pub tries : new.tries ≡ old.tries + 1
 
--- others were faster: more is seen, and nothing was appended
+-- others were faster: more is seen, `count` entries now, nothing of the pass was appended, and one more try is counted
 pub record IsOvertaken (count : ℕ) (old new : Known) : Type 0 where
   pub number : new.number ≡ old.number
   pub seen : Begins old.seen new.seen
@@ -37,8 +37,8 @@ pub record IsOvertaken (count : ℕ) (old new : Known) : Type 0 where
   pub looks : old.looks ≤ new.looks
   pub tries : new.tries ≡ old.tries + 1
 
--- another pass has the turn: the lists are unchanged, and the pass hasn't looked (it would have to, before it gave its
--- own turn back)
+-- another pass has the turn: the lists are unchanged, one more try is counted, and no look: only a pass that gets the
+-- turn looks
 pub record IsBusy (old new : Known) : Type 0 where
   pub number : new.number ≡ old.number
   pub seen : new.seen ≡ old.seen
@@ -53,7 +53,7 @@ Adds turns capacity entry (Err (Overtaken front)) old new = IsOvertaken front ol
 Adds turns capacity entry (Err Full) old new = (length old.seen ≡ capacity) × (new ≡ old)
 Adds turns capacity entry (Err Busy) old new = IsTrue turns × IsBusy old new
 
--- the first of two that meet
+-- the first of two that meet: it stays as it was, except that `looks` may rise; of `since` nothing is said
 pub record MeetsFirst (old new : Known) : Type 0 where
   pub number : new.number ≡ old.number
   pub seen : new.seen ≡ old.seen

@@ -16,7 +16,8 @@ IsCounted newest tried then = (step : Atomic) (old : PassView) (found : ℕ) (ne
     → Counts newest tried step found old new
 
 module _ {newest : PassView → ℕ} {tried : ℕ} where
-  -- a step that is no look and no try may leave looks, tries and what it knows to be new as they are
+  -- if a step neither loads word 0 nor exchanges the word at which passes try, and leaves `looks`, `tries` and `since`,
+  -- the counts rise as they should
   pub leaves_counts : (step : Atomic) (found : ℕ) (old new : PassView) → new.known.looks ≡ old.known.looks
       → new.known.tries ≡ old.known.tries
       → new.known.since ≡ old.known.since → (IsLoad 0 step → ⊥) → (IsTry tried step → ⊥)
@@ -36,7 +37,7 @@ module _ {newest : PassView → ℕ} {tried : ℕ} where
   counts_at_load tells each (Store word value) old found new is = absurd is
   counts_at_load tells each (Exchange word from to said) old found new is = absurd is
 
-  -- a store neither looks nor tries
+  -- a transition whose steps are all stores raises the counts as it should if none of its stores changes them
   pub counts_at_store : (tells : ℕ → ℕ → PassView → ℕ → PassView → Type 0)
       → ((word value : ℕ) (old : PassView) (found : ℕ) (new : PassView) → tells word value old found new
       → (new.known.looks ≡ old.known.looks) × (new.known.tries ≡ old.known.tries) × (new.known.since ≡ old.known.since))
@@ -47,7 +48,7 @@ module _ {newest : PassView → ℕ} {tried : ℕ} where
       leaves_counts (Store word value) found old new same.0 same.1 same.2 (λ never. never) (λ never. never)
   counts_at_store tells each (Exchange word from to said) old found new is = absurd is
 
-  -- the same for a transition whose steps are all exchanges
+  -- a transition whose steps are all exchanges raises the counts as it should if each of its exchanges does
   pub counts_at_exchange : (tells : ℕ → ℕ → ℕ → Option Entry → PassView → ℕ → PassView → Type 0)
       → ((word from to : ℕ) (said : Option Entry) (old : PassView) (found : ℕ) (new : PassView)
       → tells word from to said old found new

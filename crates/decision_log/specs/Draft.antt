@@ -10,7 +10,7 @@ use Rattle.decision_log.specs.declared.view.PassView.{PassView}
 abbrev pub HasWordsAt : List ℕ → ℕ → List ℕ → Type 0
 HasWordsAt words at draft = (i : ℕ) → i < length draft → slice_index words (at + i) ≡ slice_index draft i
 
--- a pass with these words stored
+-- the pass with these words as its draft
 abbrev pub with_draft : PassView → List ℕ → PassView
 with_draft h words =
     record { known = h.known; sessions = h.sessions; capacity = h.capacity; draft = words; turn = h.turn }

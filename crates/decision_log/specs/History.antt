@@ -1,5 +1,6 @@
 -- Lists of entries: prefixes, and the entries of a session.
 --     Begins front list           `front` is a prefix of `list`
+--     is_of session entry         whether an entry is of a session
 --     entries_of session list     the entries of a session, in their order
 use Rattle.std.specs.Prelude.{◌≡◌, ℕ, Bool, List, length, take, filter, nat_eq}
 use Rattle.xa_words.specs.Entry.{Entry}

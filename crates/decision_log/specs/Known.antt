@@ -1,5 +1,5 @@
 -- What a contract sees of a log and of a pass.
---     Known           number, seen, mine, looks, tries, since
+-- A pass is seen as a `Known` (src/known.rt): number, seen, mine, looks, tries, since.
 --     LogIdentity     the log's table, how many sessions it has, and how many entries it can have
 --     newcomer        what a pass knows before its first call
 --     AllOf           each entry is of a session from 1 to a number

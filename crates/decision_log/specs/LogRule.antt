@@ -9,8 +9,8 @@ use Rattle.decision_log.specs.declared.sizes.Sizes.{Sizes}
 use Rattle.decision_log.specs.History.{Begins, entries_of}
 use Rattle.decision_log.specs.Seats.{Seats}
 
--- the pass knows the log's sizes, a prefix of its history with all entries of its own number, and something of the
--- words
+-- the pass knows the log's sizes, a prefix of its history with all entries of its own number, and of the words what
+-- `KnowsWords` says
 pub record KnowsLog (KnowsWords : List ℕ → List Entry → PassView → Type 0) (sizes : Sizes) (words : List ℕ)
     (log : List Entry)
     (pass_view : PassView) : Type 0 where
@@ -21,7 +21,9 @@ pub record KnowsLog (KnowsWords : List ℕ → List Entry → PassView → Type 
   pub part : entries_of pass_view.known.number pass_view.known.seen ≡ pass_view.known.mine
   pub own : KnowsWords words log pass_view
 
--- the words spell a history, whose entries are of sessions that were given out, and what all seats know is true
+-- the words spell a history with room in the log, each entry is of a number below `next`, and what all seats know is
+-- true. Passes with numbers below `next` were issued; `home` gives the seat of each of them, and for 0 the seat of the
+-- passes not yet issued
 pub record LogRule (Spells : Sizes → List ℕ → List Entry → Type 0)
     (KnowsWords : List ℕ → List Entry → PassView → Type 0) (sizes : Sizes) (words : List ℕ)
     (views : List SeatView) : Type 0 where

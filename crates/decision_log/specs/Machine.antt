@@ -2,6 +2,7 @@
 --     Seen            what one session knows: a prefix of the history, and its own entries
 --     Machine         a history, a capacity, and what each session knows
 --     Event           a session looks, or it appends an entry
+--     Looks, Appends  what a look does to the machine, and what an append does
 --     Happens         one event, from one machine to the next
 --     Runs            any list of events
 --     opening_machine  the machine at the start
@@ -21,7 +22,7 @@ pub record Machine : Type 0 where
   pub capacity : ℕ
   pub knows : ℕ → Seen
 
--- what a session can do
+-- what a session can do: look, or append an entry
 pub data Event : Type 0 where
   Look : ℕ → Event
   Add : ℕ → Entry → Event
@@ -60,7 +61,8 @@ abbrev pub opening_machine : ℕ → Machine
 opening_machine capacity =
     record { history = []; capacity = capacity; knows = λ session. record { seen = []; mine = [] } }
 
--- each session has seen a prefix of the history, in which it has all of the history's entries of its number
+-- the history isn't longer than the capacity; each session has seen a prefix of it, and its own entries are those of
+-- its number, in that prefix and in the whole history
 pub record IsState (machine : Machine) : Type 0 where
   pub room : length machine.history ≤ machine.capacity
   pub seen : (session : ℕ) → Begins (machine.knows session).seen machine.history

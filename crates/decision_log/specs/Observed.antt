@@ -18,7 +18,9 @@ pub record HistoryIs (h : PassView) (seen : List Entry) : Type 0 where
   pub all : AllOf h.sessions seen
   pub part : entries_of h.known.number seen ≡ h.known.mine
 
--- two passes meet: the second has seen all that the first has
+-- two passes, g and h, meet, and h has then seen `seen`: it begins with all that each of them had seen, and is what h
+-- had seen if g had seen no more; in it the entries of each one's number are that one's own; it is no longer than the
+-- log can have, and each entry is of one of the log's sessions
 pub record MetAt (g h : PassView) (seen : List Entry) : Type 0 where
   pub begins : Begins h.known.seen seen
   pub whole : Begins g.known.seen seen
@@ -28,7 +30,7 @@ pub record MetAt (g h : PassView) (seen : List Entry) : Type 0 where
   pub all : AllOf h.sessions seen
   pub part : entries_of h.known.number seen ≡ h.known.mine
 
--- a pass after it met another, and so has seen this history
+-- a pass after it met another, and so has seen this history; it has no draft and no turn, and its counts stay
 abbrev pub met : PassView → List Entry → PassView
 met h seen = record {
   known = record {

@@ -17,7 +17,7 @@ abbrev pub KnownTo : Machine → PassView → Type 0
 KnownTo machine pass_view =
     machine.knows pass_view.known.number ≡ record { seen = pass_view.known.seen; mine = pass_view.known.mine }
 
--- each pass that was given out and is at the seat does
+-- each issued pass at the seat knows what the session of its number knows; of passes not yet issued nothing is asked
 abbrev pub SeatKnownTo : Machine → SeatView → Type 0
 SeatKnownTo machine Empty = Unit {0}
 SeatKnownTo machine (Single pass_view) = KnownTo machine pass_view

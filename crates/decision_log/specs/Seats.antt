@@ -77,26 +77,28 @@ seated_rest pass_view = (Unissued pass_view, [])
 abbrev pub spent : Me Entry SeatView
 spent = (Empty, [])
 
--- what a seat keeps when it is split
+-- what a seat keeps when it is split: its one pass, the first of two, or the passes not yet issued after the next
 abbrev pub left_of : SeatView → SeatView
 left_of Empty = Empty
 left_of (Single pass_view) = Single pass_view
 left_of (Pair first second) = Single first
 left_of (Unissued pass_view) = Unissued (following pass_view)
 
--- the passes that the new seat gets where a seat is divided
+-- what the new seat gets when a seat is split: nothing of one pass, the second of two, or the next pass to be issued
 abbrev pub right_of : SeatView → SeatView
 right_of Empty = Empty
 right_of (Single pass_view) = Empty
 right_of (Pair first second) = Single second
 right_of (Unissued pass_view) = Single pass_view
 
--- what a seat knows after it has taken in another
+-- what a seat with one pass knows after it has taken in another such seat: both passes; no other seats are joined
 abbrev pub both_of : SeatView → SeatView → SeatView
 both_of (Single first) (Single second) = Pair first second
 both_of first second = Empty
 
--- a pass between two calls: its number is one of the log's, and what it knows fits together
+-- a pass between two calls, of this number and with `front` entries seen: it has no turn, its number is one of the
+-- log's, it has seen no more entries than the log can have, each is of one of the log's sessions, and those of its
+-- number are its own
 pub record IsPass (number front : ℕ) (pass_view : PassView) : Type 0 where
   pub numbered : number ≡ pass_view.known.number
   pub measured : front ≡ length pass_view.known.seen
@@ -108,14 +110,16 @@ pub record IsPass (number front : ℕ) (pass_view : PassView) : Type 0 where
   pub part : entries_of pass_view.known.number pass_view.known.seen ≡ pass_view.known.mine
 
 module _ (fact : PassView → Type 0) (home : ℕ → ℕ) (next : ℕ) where
-  -- the pass is of a number that was given out, at the seat of that number, and the fact holds of it
+  -- the pass's number was given out (it is below `next`), its seat, the `home` of that number, is `id`, and the fact
+  -- holds
   pub record Placed (id : ℕ) (pass_view : PassView) : Type 0 where
     pub low : 0 < pass_view.known.number
     pub high : pass_view.known.number < next
     pub home_is : home pass_view.known.number ≡ id
     pub fact_is : fact pass_view
 
-  -- what the seat of a number knows is true
+  -- what the seat `id` knows is true: each pass there is `Placed`, and two have different numbers; the passes not yet
+  -- issued begin with the number `next`, the fact holds of the first of them, and their seat is the home of 0
   abbrev pub Fits : ℕ → SeatView → Type 0
   Fits id Empty = Unit {0}
   Fits id (Single pass_view) = Placed id pass_view

@@ -1,6 +1,7 @@
 -- Each step of a log with a turn raises the counts of its pass as it should.
 --     see_counts, read_counts, take_counts, draft_counts, publish_counts, release_counts     the laws of the
 --                                                                                            transitions
+--     tried_counts    an exchange of the turn's word, won or lost
 use Rattle.std.proofs.Common.{ap, ◌∙◌, sym, inl, inr}
 use mathlib.Core.Logic.{dite}
 use native.Mathlib.Decide.{ℕ_discrete}

@@ -1,4 +1,5 @@
 -- How each step of a log with a turn changes the pass that takes it, and what the pass learns.
+--     looked_turn             whether a pass has the turn, after a look
 --     with_look, tried, published, released   the pass after a step
 --     Sees, Reads, Takes, Drafts, Publishes, Releases     the steps, each by its word, its operands, the pass before,
 --                                                         what was found and the pass after
@@ -57,7 +58,7 @@ tried h turn = record {
   turn = turn;
 }
 
--- the pass after its entry was appended
+-- the pass after its entry was appended; it still has the turn
 abbrev pub published : PassView → Entry → PassView
 published h entry = record {
   known =
@@ -92,17 +93,17 @@ Reads word old found new =
     → slice_get old.known.seen place ≡ Some entry
     → IsEntry entry × (found ≡ slice_index (words_of entry) index))
 
--- an exchange of the turn's word from 0 to the pass's number, which is a try
+-- an exchange of the turn's word from 0 to the pass's number, which is a try: the pass has the turn if 0 was found
 abbrev pub Takes : ℕ → ℕ → ℕ → Option Entry → PassView → ℕ → PassView → Type 0
 Takes word from to said old found new =
     (word ≡ turn_word) × (from ≡ 0) × (to ≡ old.known.number) × (found ≡ 0 → new ≡ tried old Won)
     × (found ≢ 0 → new ≡ tried old Without)
 
--- a store of a word into the row at the count
+-- a store of a word into the row after all that was seen: the draft is cut at the word's place there, and ends with it
 abbrev pub Drafts : ℕ → ℕ → PassView → ℕ → PassView → Type 0
 Drafts word value old found new = new ≡ drafted old (word - row_at (length old.known.seen)) value
 
--- a store of the count, one higher
+-- a store of the count, one higher, by a pass whose draft is an entry's words: the entry is appended
 abbrev pub Publishes : ℕ → ℕ → PassView → ℕ → PassView → Type 0
 Publishes word value old found new =
     (word ≡ 0) × (value ≡ length old.known.seen + 1) × (entry : Entry) × IsEntry entry × (old.draft ≡ words_of entry)

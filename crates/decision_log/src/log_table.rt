@@ -1,7 +1,7 @@
 //! The words of a log, and the only steps that its passes take on them.
 //!
-//! No file except this one and its submodules reaches the table. So a view changes by these steps only, and
-//! its counts change as `Counts` says.
+//! No file except this one and its submodules reaches the table. So what a seat knows of a pass (its view)
+//! changes by these steps only, and the pass's counts change as `Counts` says.
 ghost use Rattle.std.specs.Prelude.{◌≡◌, ◌<◌, [], length, IfOk};
 ghost use Rattle.atomic_table.specs.Table.{opening};
 

@@ -78,7 +78,7 @@ fn lay_out<R: LogWords>(
     LogTable::of_words(alloc, &words, sizes)
 }
 
-/// Issues the passes, in order.
+/// Issues the passes of sessions 1 to `sizes.sessions`, in order, from `rest`, the seat that knows all of them.
 fn deal_all<R: LogWords, P: SeatedPass + Drop>(
     alloc: Global,
     table: &LogTable<R>,

@@ -7,8 +7,9 @@ use atomic_table::{Join, Split};
 
 /// How seats are split and joined.
 ///
-/// Two passes are split into one and one, one pass into it and nothing, and the passes that aren't issued
-/// into the next and those after it. One and one are joined into two.
+/// A seat with two passes is split into one for each, a seat with one pass into itself and an empty one. The seat of
+/// the passes that aren't issued is split into itself, with those after the next, and a seat of the next. Two seats
+/// with a pass each are joined into one with both.
 pub struct Seating;
 
 impl Split<SeatView> for Seating {

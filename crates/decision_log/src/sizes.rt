@@ -6,6 +6,9 @@ use crate::OpenFault;
 use xa_xid::SessionNo;
 
 /// The sizes of a log. The rule of a log gets them once, when the log is opened.
+///
+/// The ranges are those of `Sizes::of`. A ring makes its own: its sessions here include its spares, so there are up to
+/// 20, and its capacity is 2^59 and as many more as it has rows.
 #[derive(Clone, Copy, Debug)]
 pub struct Sizes {
     /// How many sessions it has, in `[1, 16]`.

@@ -3,11 +3,13 @@
 use crate::Known;
 use std::collections::LinkedList;
 
-/// Whether a pass has the turn. In a chain, which has no turn, no pass has it; a ring keeps here how a pass reads a cell.
+/// Whether a pass has the turn. In a chain, which has no turn, no pass has it. A ring keeps here how a pass reads a
+/// cell.
 pub enum Turn {
     /// Another pass has the turn, or none has. In a ring: the pass reads no cell.
     Without,
-    /// The pass has the turn, and hasn't looked since it took it. In a ring: it reads a cell, whose entry is there.
+    /// The pass has the turn, and hasn't looked since it took it. In a ring: it reads a cell, and doesn't know that the
+    /// cell is another entry's by now.
     Won,
     /// The pass has the turn, and has looked since it took it. What it has seen is the whole history. In a ring: it
     /// reads a cell that is another entry's by now.

@@ -66,15 +66,18 @@ no_lines : (base : State) (history : List Entry) (session : ℕ) (lines : List R
 no_lines base history session lines none no_entry =
     subst (Remains spoken base history 0 session) (sym none) (record { answered = tt; mine = no_entry })
 
+-- the outcome of a race of fresh runs, whose history has entries of their sessions alone, and the lines of the runs
 module _ (base : State) (runs : List Run) (outcome : Outcome) (lines : Lines) (legal : IsOutcome base runs outcome)
     (fresh : AreFreshRuns runs)
     (own : AllOf (length runs) outcome.history.items)
     (are : AreLinesOf runs (map (λ answers. answers.items) outcome.answers.items) lines) where
+  -- each entry of the history is of a session from 1 to the number of runs
   entry_within : (place : ℕ) (entry : Entry) → slice_get outcome.history.items place ≡ Some entry
       → (1 ≤ entry.session) × (entry.session ≤ length runs)
   entry_within place entry at =
       all_at (λ e. (1 ≤ e.session) × (e.session ≤ length runs)) outcome.history.items place entry own at
 
+  -- the lines of the session of each run are what remains at the history's beginning
   run_at : (place : ℕ) → place < length runs
       → Remains spoken base outcome.history.items 0 (suc place) (lines (suc place))
   run_at place within =
@@ -89,6 +92,7 @@ module _ (base : State) (runs : List Run) (outcome : Outcome) (lines : Lines) (l
       (lines (place + 1)) is (fresh place run.0 run.1)
       (are.statements place run.0 run.1) (are.answered place given.0 given.1))
 
+  -- so it is for every session: one without a run has no line and no entry
   remains : (session : ℕ) → IsSession session
       → Remains spoken base outcome.history.items 0 session (lines session)
   remains zero is = absurd (omega (arith, is.0))
@@ -100,6 +104,7 @@ module _ (base : State) (runs : List Run) (outcome : Outcome) (lines : Lines) (l
         (omega arith))
   ]
 
+  -- what isn't a session's number has no lines
   outside : length runs ≤ 16 → (session : ℕ) → (IsSession session → ⊥) → lines session ≡ []
   outside few zero out = are.none
   outside few (suc place) out = elim (cases_lt place 16) [
@@ -108,6 +113,7 @@ module _ (base : State) (runs : List Run) (outcome : Outcome) (lines : Lines) (l
     | inr high ↦ are.past (suc place) (omega arith)
   ]
 
+  -- the lines can be written down as overlapping calls so that they are explained
   pub outcome_explained : length runs ≤ 16 → IsExplainedOverlap base lines
   outcome_explained few =
       overlap_explained base outcome.history.items lines

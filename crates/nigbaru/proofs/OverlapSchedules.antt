@@ -1,5 +1,6 @@
 -- The order in which the calls of a race's runs return.
---     overlap_explained      they can be written down so that they are explained
+--     StandsWithin           the sessions stand as `Stands` says, and only they have lines
+--     overlap_explained      the lines can be written down so that they are explained
 use Rattle.std.proofs.Common.{◌≡◌, ◌⊎◌, ℕ, zero, suc, ◌+◌, ◌++◌, ◌∷◌, Some, List, [], length, refl, sym, ◌∙◌, subst}
 use Rattle.std.proofs.Common.{inl, inr, arith}
 use Rattle.std.specs.Prelude.{slice_get}
@@ -18,15 +19,16 @@ use Rattle.nigbaru.proofs.OverlapSteps.{RunsOn, Stands, Goes, emits, Begun, begi
 use Rattle.xa_races.proofs.Histories.{Said, Remains}
 use Rattle.xa_races.proofs.Schedules.{goes}
 
--- what a line of a run says
+-- what a line of a run says, and was answered
 abbrev pub spoken : RunLine → Said
 spoken line = record { statement = line.statement; answer = line.answer }
 
--- each session stands so, and what isn't a session's number has no lines
+-- each session stands as `Stands` says, and what isn't a session's number has no lines
 pub record StandsWithin (lines : Lines) (config : Config) : Type 0 where
   pub stands : Stands lines config
   pub outside : (session : ℕ) → (IsSession session → ⊥) → lines session ≡ []
 
+-- after a session's lines are replaced, what isn't a session's number still has no lines
 outside_with : (lines : Lines) (session : ℕ) (rest : List RunLine) → IsSession session
     → ((other : ℕ) → (IsSession other → ⊥) → lines other ≡ [])
     → (other : ℕ)
@@ -35,7 +37,7 @@ outside_with lines session rest is outside other out =
     lines_other lines session other rest (λ same. out (subst (λ (n : ℕ). IsSession n) (sym same) is))
     ∙ outside other out
 
--- a line of a session is next
+-- `emits`, with `StandsWithin` in place of `Stands`
 next : (lines : Lines) (session : ℕ) (line : RunLine) (rest : List RunLine) (config : Config) → IsSession session
     → lines session ≡ line ∷ rest → StandsWithin lines config
     → line.answer.reply ≡ reply_to config.state session line.statement
@@ -45,6 +47,7 @@ next lines session line rest config is own within reply go =
     emits lines session line rest config is own within.stands reply (λ new state stands. go new state
     (record { stands = stands; outside = outside_with lines session rest is within.outside }))
 
+-- a number is a session's, or it isn't
 in_or_out : (session : ℕ) → IsSession session ⊎ (IsSession session → ⊥)
 in_or_out zero = inr (λ is. absurd (omega (arith, is.0)))
 in_or_out (suc count) = elim (cases_lt count 16) [
@@ -53,7 +56,7 @@ in_or_out (suc count) = elim (cases_lt count 16) [
       (λ is. absurd (omega (arith, is.1)))
 ]
 
--- at the end of the history all lines are done
+-- at the end of the history, if no session has a line left, nothing is left to be written down
 done : (base : State) (history : List Entry) (lines : Lines) (config : Config) → StandsWithin lines config
     → config.state ≡ state_at base history (length history)
     → ((session : ℕ) → IsSession session → lines session ≡ []) → Goes lines config
@@ -63,7 +66,8 @@ done base history lines config within state none =
     all : (session : ℕ) → lines session ≡ []
     all session = elim (in_or_out session) [ inl is ↦ none session is | inr out ↦ within.outside session out ]
 
--- the lines of a history can be written down so that they are explained
+-- if the history has entries of sessions alone, each session's lines are what remains at its beginning, and nobody
+-- else has lines, the lines can be written down so that they are explained
 pub overlap_explained : (base : State) (history : List Entry) (lines : Lines)
     → ((at : ℕ) (entry : Entry) → slice_get history at ≡ Some entry → IsSession entry.session)
     → ((session : ℕ) → IsSession session → Remains spoken base history 0 session (lines session))

@@ -1,10 +1,13 @@
 -- One line of a session: its statement takes effect, its call returns, and the session calls for the next one.
 --     RunsOn             some moves lead through the events
 --     client_of        what a session is about that has these lines left
---     Stands             each session stands so
+--     Stands             each session is about what its lines that are left say
 --     Goes               the lines can be written down so that they are explained
---     emits              a line of a session is next
+--     effected, idle_again     the configuration after a statement took effect;  after its call returned, too
+--     emits              the first line of a session takes effect and returns
+--     HaveCalled         the sessions above a number have called for their first lines
 --     begins             each session calls for its first line
+--     none_called        before the first call every session is idle
 use Rattle.std.proofs.Common.{◌≡◌, ◌≢◌, ℕ, zero, suc, ◌<◌, ◌≤◌, true, cond, Option, Some, None, List, [], ◌∷◌, ◌++◌}
 use Rattle.std.proofs.Common.{set, replicate, refl, ap, sym, ◌∙◌, subst, inl, inr}
 use Rattle.std.proofs.Common.{arith, append_assoc}
@@ -38,7 +41,7 @@ pub record RunsOn (config : Config) (events : List Event) : Type 0 where
   pub new : Config
   pub runs : LeadsThrough config events moves new
 
--- what a session is about that has these lines left
+-- what a session is about that has these lines left: it has called for the first of them, or is idle without lines
 abbrev pub client_of : List RunLine → ClientState
 client_of [] = Idle
 client_of (line ∷ lines) = Called (Given line.statement)
@@ -83,7 +86,8 @@ unfolding observed called
 call_now config session line found =
     ap (λ (o : Option ClientState). called o config session (Given line.statement)) found
 
--- the session's client was written, and the others stand as they did
+-- if the session's client is now about the lines `rest`, and the other clients are as before, each session stands as
+-- it is to with `rest` as this session's lines
 written_stands : (lines : Lines) (session : ℕ) (rest : List RunLine) (old new : Config) → Stands lines old
     → slice_get new.clients session ≡ Some (client_of rest)
     → ((other : ℕ) → session ≢ other → slice_get new.clients other ≡ slice_get old.clients other)
@@ -95,7 +99,7 @@ written_stands lines session rest old new stands own others other is_other = eli
       ∙ ap (λ (l : List RunLine). Some (client_of l)) (sym (lines_other lines session other rest (λ e. apart (sym e))))
 ]
 
--- how things stand once the session's statement has taken effect, and once its call has returned
+-- the configuration after the session's statement took effect: the session has its answer, which isn't returned yet
 abbrev pub effected : Config → ℕ → RunLine → Config
 effected config session line =
     record {
@@ -103,7 +107,7 @@ effected config session line =
       clients = set config.clients session (Answered (Replied (reply_to config.state session line.statement)));
     }
 
--- the configuration after the line took effect and its call returned
+-- the configuration after the session's statement took effect and its call returned: the session is idle
 abbrev pub idle_again : Config → ℕ → RunLine → Config
 idle_again config session line = with_client (effected config session line) session Idle
 
@@ -116,7 +120,7 @@ answered_there config session line found =
     get_written config.clients session (Called (Given line.statement))
     (Answered (Replied (reply_to config.state session line.statement))) found
 
--- after the return the session is idle
+-- after its statement took effect and its call returned the session is idle
 idle_there : (config : Config) (session : ℕ) (line : RunLine)
     → slice_get config.clients session ≡ Some (Called (Given line.statement))
     → slice_get (idle_again config session line).clients session ≡ Some Idle
@@ -125,20 +129,22 @@ idle_there config session line found =
     (Answered (Replied (reply_to config.state session line.statement))) Idle
     (answered_there config session line found)
 
--- the other sessions stand where they stood
+-- after that the other sessions' clients are as before
 others_there : (config : Config) (session : ℕ) (line : RunLine) (other : ℕ) → session ≢ other
     → slice_get (idle_again config session line).clients other ≡ slice_get config.clients other
 others_there config session line other apart =
     get_apart (effected config session line).clients session other Idle apart
     ∙ get_apart config.clients session other (Answered (Replied (reply_to config.state session line.statement))) apart
 
--- the session calls again where it has lines left, and things go on
+-- from a configuration in which the session is idle: it calls for the next of its lines, if there is one, and events
+-- follow in which all lines that are left are written down
 pub record GoesNext (lines : Lines) (session : ℕ) (rest : List RunLine) (config : Config) : Type 0 where
   pub events : List Event
   pub overlap : Overlap (with_lines lines session rest) events
   pub run : RunsOn config (next_call session rest ++ events)
 
--- the step: one line of a session, in front of events that go on from the state after it
+-- once the session's first line has returned, the rest goes on as `GoesNext` says, if it goes on from each
+-- configuration that has the state after the line and in which the sessions stand with the rest
 goes_next : (lines : Lines) (session : ℕ) (line : RunLine) (rest : List RunLine) (config : Config) → Stands lines config
     → slice_get config.clients session ≡ Some (Called (Given line.statement))
     → ((new : Config) → new.state ≡ after config.state session line.statement
@@ -170,7 +176,8 @@ goes_next lines session line (second ∷ rest) config stands found go =
       };
     }
 
--- a line of a session is next: its statement takes effect now, and its call returns
+-- the first line of a session got the server's reply in this state: its statement takes effect now, and its call
+-- returns. So the lines can be written down if the rest can, from the state after it on
 pub emits : (lines : Lines) (session : ℕ) (line : RunLine) (rest : List RunLine) (config : Config) → IsSession session
     → lines session ≡ line ∷ rest
     → Stands lines config → line.answer.reply ≡ reply_to config.state session line.statement
@@ -211,7 +218,8 @@ pub record HaveCalled (count : ℕ) (lines : Lines) (config : Config) : Type 0 w
   pub above : (session : ℕ) → IsSession session → count < session
       → slice_get config.clients session ≡ Some (client_of (lines session))
 
--- the session of this number has called for the first of its lines, where it has one
+-- the session `count + 1` has called for the first of its lines `left`, where it has one: what runs on from there runs
+-- on from before the call
 pub record BegunOne (count : ℕ) (lines : Lines) (config : Config) (left : List RunLine) : Type 0 where
   pub new : Config
   pub state : new.state ≡ config.state
@@ -265,14 +273,15 @@ begins_one count within lines config (line ∷ rest) is have = record {
         get_apart config.clients (suc count) session (Called (Given line.statement)) (λ e. absurd (omega arith))
         ∙ have.below session own (omega arith)
 
--- the sessions up to a number have called too
+-- the sessions up to `count` have called, too, and so all stand: what runs on from there runs on from before their
+-- calls
 pub record Begun (count : ℕ) (lines : Lines) (config : Config) : Type 0 where
   pub new : Config
   pub state : new.state ≡ config.state
   pub stands : Stands lines new
   pub back : (events : List Event) → RunsOn new events → RunsOn config (first_calls count lines ++ events)
 
--- each session calls for its first line
+-- if the sessions above `count` have called, the others can call now, before anything takes effect
 pub begins : (count : ℕ) → count ≤ 16 → (lines : Lines) (config : Config) → HaveCalled count lines config
     → Begun count lines config
 unfolding first_calls

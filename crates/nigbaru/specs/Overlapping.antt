@@ -5,7 +5,7 @@
 --     next_call             the call for the first line of a list
 --     first_calls           each session calls for its first line
 --     Overlap               events in which a session calls again as soon as its call has returned
---     IsExplainedOverlap    written down so, the lines are explained
+--     IsExplainedOverlap    written down as overlapping calls, the lines are explained
 --     AreFreshRuns          runs of the sessions 1, 2 and so on, which have done nothing before
 --     AreLinesOf            the lines are those of the runs, with these answers
 use Rattle.std.specs.Prelude.{◌≡◌, ℕ, zero, suc, ◌+◌, ◌<◌, true, Some, List, [], ◌∷◌, ◌++◌, length, map}
@@ -45,8 +45,8 @@ unfoldable pub first_calls : ℕ → Lines → List Event
 first_calls zero lines = []
 first_calls (suc count) lines = next_call (suc count) (lines (suc count)) ++ first_calls count lines
 
--- each session has called for its first line: some call returns, its session calls for the next line, and so
--- on until no line is left
+-- events after each session has called for its first line: some call returns and shows what its line has, its session
+-- calls for the next line, if it has one, and so on until no line is left
 pub data Overlap : Lines → List Event → Type 0 where
   over : {lines : Lines} → ((session : ℕ) → lines session ≡ []) → Overlap lines []
   returned : {lines : Lines} {session : ℕ} {line : RunLine} {rest : List RunLine} {events : List Event}
@@ -54,7 +54,7 @@ pub data Overlap : Lines → List Event → Type 0 where
       → Overlap (with_lines lines session rest) events
       → Overlap lines (Return session line.seen ∷ (next_call session rest ++ events))
 
--- some order of the returns makes the record explained
+-- written down as overlapping calls, in some order of the returns, the lines make a record that is explained
 abbrev pub IsExplainedOverlap : State → Lines → Type 0
 IsExplainedOverlap base lines =
     (events : List Event) × Overlap lines events × Explained base (first_calls 16 lines ++ events)

@@ -94,7 +94,7 @@ typedef atomic_flag nigbaru_flag;
 #define NIGBARU_NO_POINTER   15
 /* Others have added so many entries since this session last answered that some which it needs are
  * overwritten, and no checkpoint brought it to the end of the history just now: call again. nigbaru_run does
- * so by itself. From nigbaru_follow: entry.lost entries were overwritten before they were handed out; call
+ * so by itself. From nigbaru_follow: entry.lost entries are lost, as they were overwritten or would be next; call
  * again for the entries after them. */
 #define NIGBARU_BEHIND       16
 
@@ -132,7 +132,7 @@ typedef struct nigbaru_entry {
     uint64_t number;
     /* At NIGBARU_OK: how many bytes of `text` are the statement's, in [1, NIGBARU_TEXT]. Else 0. */
     uint64_t length;
-    /* At NIGBARU_BEHIND: how many entries were overwritten before they were handed out, from 1 on. Else 0. */
+    /* At NIGBARU_BEHIND: how many entries are lost, from 1 on: overwritten, or next to be. Else 0. */
     uint64_t lost;
     /* At NIGBARU_OK: the statement in its canonical form (docs/STATEMENTS.md#canonical-form), in the first
      * `length` bytes, without a terminator. */

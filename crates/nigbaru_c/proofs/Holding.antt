@@ -1,9 +1,11 @@
 -- The machine value of a handle. Assumes `Logic`.
 --     word            a handle at a pointer
+--     tested          a box's pointer may be tested
 --     handle_in       a handle is made of what it owns
 --     handle_out      what it owns is taken out of it
 --     either          it owns nothing at null, or a box elsewhere
---     keyless         what it owns may cross threads
+--     lies, keyless   what it owns may cross threads
+--     quiet           an exit that does nothing further, with its value hidden
 --     E               a box of a chair, as the steps on boxes take it
 use Rattle.std.proofs.Common.{◌≡◌, ℕ, List, [], ◌∷◌, ◌++◌, refl, subst}
 use Rattle.std.specs.Prelude.{Option, Some, None}
@@ -43,6 +45,7 @@ abbrev pub word : Ptr → Val
 word p = vstruct (vcons (ptr_val p) vnil)
 
 module _ {M : Type 1} {𝓤 : Ura M} (𝓛 : Logic 𝓤) where
+  -- what a box of a chair owns shows that its pointer may be tested
   tested : (p : Ptr) (x : Chair.the_row.Denot) → ent 𝓤 (sem 𝓛 (boxed p x)) (guard 𝓤 (Testable p) (sem 𝓛 (boxed p x)))
   tested p x = fact_use 𝓤 (Testable p) (via 𝓤 _ (snd∗ 𝓤 (sem 𝓛 (lies_at Chair.the_row full_share p x))
       (sem 𝓛 (ghosts.dealloc_token the_heap (bare (lone Chair.the_row.mir)) p)))
@@ -50,6 +53,7 @@ module _ {M : Type 1} {𝓤 : Ura M} (𝓛 : Logic 𝓤) where
       (guard_i 𝓤 (Testable p) (sem 𝓛 (boxed p x)))
 
 module _ {M : Type 1} {𝓤 : Ura M} {𝓛 : Logic 𝓤} {K : Type 0} {Γ : List (Item 𝓤)} {G : Goal 𝓤 𝓛.H} where
+  -- the machine value of a handle at p with h is made of what it owns (`holds`)
   pub handle_in : K → (p : Ptr) (h : Option Chair.the_row.Denot)
       → Step K 𝓛 (‵ (handle.the_row.own_val (record { at = p; held = h }) (word p ∷ [])) ∷ Γ) G (‵ (holds p h) ∷ Γ) G
   handle_in t p h = step (λ s. nothing t $ feq_i t (List Val) (ptr_val p ∷ []) (ptr_val p ∷ []) refl $ fjoin t $ feq_i t
@@ -57,11 +61,14 @@ module _ {M : Type 1} {𝓤 : Ura M} {𝓛 : Logic 𝓤} {K : Type 0} {Γ : List
       fpack t (Valss (RawPtr ∷ [])) (within (shape handle.the_type) (p, tt) (word p ∷ []))
       (ptr_val p ∷ [], tt) $ fjoin t $ s)
 
+  -- from the machine value of a handle what it owns (`holds`) is taken, and the value is the one word with its pointer
   pub handle_out : K → (d : handle.the_row.Denot) (vs : List Val)
       → (vs ≡ word d.at ∷ [] → Seq K 𝓛 (‵ (holds d.at d.held) ∷ Γ) G) → Seq K 𝓛 (‵ (handle.the_row.own_val d vs) ∷ Γ) G
   handle_out t d vs k = fsplit t $ fpick t (λ vss. fsplit t $ feq_l t (λ ev. fsplit t $ feq_l t (λ ep. drop t $
       k (subst (λ (ps : List Val). vs ≡ vstruct (of_list (ps ++ [])) ∷ []) ep ev))))
 
+  -- by cases: p is null and nothing is held, or it is a pointer that may be tested, to a box with the chair that is
+  -- held
   pub either : K → (p : Ptr) (h : Option Chair.the_row.Denot) → (p ≡ null_ptr → h ≡ None → Seq K 𝓛 Γ G)
       → ((b o : ℕ) (x : Chair.the_row.Denot) → p ≡ block_ptr b o → h ≡ Some x → Testable (block_ptr b o)
       → Seq K 𝓛 (‵ (boxed (block_ptr b o) x) ∷ Γ) G)

@@ -2,7 +2,7 @@
 --     status_of_next   the status of what comes next
 --     IsNumber, IsLength      the number of an entry's session, and the length of its text, in range
 --     Shows            how what comes next is written into the structure of C
---     HandsOut         one more entry is handed out, or some are lost, or there is none
+--     HandsOut         a session hands out an entry, or counts some as lost, or is at the end
 --     Follows          HandsOut, of what a handle holds
 use Rattle.std.specs.Prelude.{◌≡◌, ◌≤◌, ℕ, length, take, Option, None, Some}
 use Rattle.chain_log.specs.RingPass.{known_of}
@@ -39,14 +39,14 @@ Shows (Some (Lost count)) handed = (handed.number ≡ 0) × (handed.length ≡ 0
 Shows (Some End) handed = (handed.number ≡ 0) × (handed.length ≡ 0) × (handed.lost ≡ 0)
 Shows None handed = (handed.number ≡ 0) × (handed.length ≡ 0) × (handed.lost ≡ 0)
 
--- the session is of its store and has its replica, nothing was added, and the history is handed out up to here
+-- the session's store and replica stay, its pass has added nothing, and `next` is handed out as `Hands` says
 pub record HandsOut (next : Next) (old new : EndlessSession) : Type 0 where
   pub store : new.store.value ≡ old.store.value
   pub replica : new.member.replica ≡ old.member.replica
   pub seen : HasOnlySeen (known_of old.member.pass) (known_of new.member.pass)
   pub hands : Hands old.store.value.log next old.member new.member
 
--- what comes next is handed out, if a session is held
+-- what comes next is handed out by the session that is held; if none is held, nothing comes
 abbrev pub Follows : Option Next → Option EndlessSession → Option EndlessSession → Type 0
 Follows None None None = Unit {0}
 Follows (Some next) (Some old) (Some new) = HandsOut next old new

@@ -1,4 +1,7 @@
 -- What a handle owns.
+--     heap            the C library's heap
+--     boxed, holds    what a box of a chair owns, and what a handle owns
+--     held_coded      how what a handle holds is encoded
 use Rattle.std.specs.Prelude.{◌≡◌}
 use base.Fml.{Fml, ftrue, fex}
 use base.Stored.{Coded}

@@ -13,8 +13,8 @@ abbrev pub Opened : ℕ → ℕ → Option EndlessStore → Type 0
 Opened rows sessions None = ⊥
 Opened rows sessions (Some store) = Opens rows sessions store
 
--- each status but 0 has one cause: the handle that is to be filled held something, a number was out of its range, or
--- memory was missing
+-- 13 is returned only if the handle held something, 10 only if it held nothing and a number was out of its range; 7,
+-- for memory, and 0 only if it held nothing and both numbers were in range
 pub record IsOpenStatus (rows sessions : ℕ) (held : Option Chair) (status : ℕ) : Type 0 where
   pub some : (status ≡ 0) ⊎ ((status ≡ 13) ⊎ ((status ≡ 10) ⊎ (status ≡ 7)))
   pub held_is : status ≡ 13 → held ≢ None

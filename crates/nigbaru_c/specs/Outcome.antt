@@ -1,9 +1,10 @@
 -- The result of a text that C gives to a session.
---     status_of        the status that C gets
+--     status_of_reply, status_of_fault, status_of      the status that C gets
 --     Fits             X/Open's layout can hold a statement's identifier
---     Attempts         a statement was tried, if a session is held
---     Goes             what happened to the session, by the outcome
---     Comes            the same for the session that a handle holds
+--     HasTried, Tried  what one try at a statement did, by its outcome
+--     Attempts         a statement was tried and answered or not, if a session is held
+--     Goes             what a text did to a session, by the outcome
+--     Comes            the same for the session that a handle holds, if it holds one
 use Rattle.std.specs.Prelude.{◌≡◌, ◌<◌, ◌^◌, ℕ, List, Result, Ok, Err, Option, None, Some}
 use Rattle.xa_xid.specs.declared.statement.Statement.{Statement}
 use Rattle.xa_xid.specs.declared.statement.Statement.TheVariants.{Start, End, Prepare, Commit, Rollback, Recover}
@@ -65,7 +66,7 @@ pub record HasTried (statement : Statement) (result : Result Answer EndlessFault
   pub finds : Finds old.store.value.log statement result new.member.replica old.member.pass new.member.pass
   pub once : TriesOnce result (known_of old.member.pass) (known_of new.member.pass)
 
--- one try at a statement: its answer, or why there is none
+-- one try at a statement: it was answered, or not for a cause, or its formatID is too large, and nothing changed
 abbrev pub Tried : Statement → Outcome → EndlessSession → EndlessSession → Type 0
 Tried statement (Answered answer) old new = HasTried statement (Ok answer) old new
 Tried statement (Unanswered fault) old new = HasTried statement (Err fault) old new
@@ -73,14 +74,14 @@ Tried statement (Misspelled fault) old new = ⊥
 Tried statement Vacant old new = ⊥
 Tried statement OutOfRange old new = (Fits statement → ⊥) × (new ≡ old)
 
--- a statement that X/Open's layout can hold was tried, if a session is held
+-- a statement was tried, and answered or not for a cause, if a session is held; there is no other outcome
 abbrev pub Attempts : Statement → Outcome → Option EndlessSession → Option EndlessSession → Type 0
 Attempts statement Vacant None None = Unit {0}
 Attempts statement (Answered answer) (Some old) (Some new) = Tried statement (Answered answer) old new
 Attempts statement (Unanswered fault) (Some old) (Some new) = Tried statement (Unanswered fault) old new
 Attempts statement outcome old new = ⊥
 
--- the text's statement was tried, or it spells none
+-- the text spells a statement, which was tried, or it has a fault at this place, and nothing changed
 abbrev pub Goes : List ℕ → Outcome → EndlessSession → EndlessSession → Type 0
 Goes text (Misspelled fault) old new = FaultAt text fault.at × (new ≡ old)
 Goes text outcome old new = (statement : Statement) × Spells text statement × Tried statement outcome old new

@@ -1,6 +1,7 @@
 -- How C takes a session.
 --     IsTaken          a session of this store and this number
 --     Takes            IsTaken, of what handles hold
+--     IsNumber         a store has a session of this number
 --     IsSeatStatus     the cause of each status, in the order of test, at a store
 --     IsTakeStatus     the same, if a store is held
 use Rattle.std.specs.Prelude.{◌≡◌, ◌≢◌, ◌≤◌, ◌⊎◌, ℕ, Option, None, Some}
@@ -23,8 +24,8 @@ Takes number store session = ⊥
 abbrev pub IsNumber : ℕ → EndlessStore → Type 0
 IsNumber number store = (1 ≤ number) × (number ≤ store.log.sessions)
 
--- each status but 0 has one cause: the handle that is to be filled held something, the store has no such session,
--- memory was missing, or somebody had the session
+-- 13 is returned only if the handle that is to be filled held something, 10 only if it held nothing and the store has
+-- no such session; 7, for memory, 11, if somebody has the session, and 0 only if both tests were passed
 pub record IsSeatStatus (number : ℕ) (store : EndlessStore) (held : Option Chair) (status : ℕ) : Type 0 where
   pub some : (status ≡ 0) ⊎ ((status ≡ 13) ⊎ ((status ≡ 10) ⊎ ((status ≡ 7) ⊎ (status ≡ 11))))
   pub held_is : status ≡ 13 → held ≢ None
@@ -32,7 +33,7 @@ pub record IsSeatStatus (number : ℕ) (store : EndlessStore) (held : Option Cha
   pub range : status ≡ 10 → IsNumber number store → ⊥
   pub fits : status ≢ 13 → status ≢ 10 → IsNumber number store
 
--- without a store there is no other status than 9, which comes only then
+-- the status is 9 if no store is held, and else as `IsSeatStatus` says, which has no 9
 abbrev pub IsTakeStatus : ℕ → Option EndlessStore → Option Chair → ℕ → Type 0
 IsTakeStatus number None held status = status ≡ 9
 IsTakeStatus number (Some store) held status = IsSeatStatus number store held status

@@ -1,7 +1,9 @@
 -- How an outcome is written into the structures of C.
---     Tells            the place, the counts and the bytes
+--     TellsReply, TellsPlace      the fields of a reply, or none of it
+--     Tells            all fields of an outcome
 --     IsLaid           an identifier as X/Open lays it out
---     Lists            the identifiers of an answer, as many as there is room for
+--     LaidOut          identifiers, as many as there is room for
+--     ListsReply, Lists      the identifiers of a reply, or of an outcome
 use Rattle.std.specs.Prelude.{◌≡◌, ◌<◌, ◌≤◌, ◌+◌, ◌^◌, ◌++◌, ℕ, pos, negsuc, List, length, take}
 use Rattle.std.specs.Prelude.{slice_index_or, Option, Some, None}
 use Rattle.xa_xid.specs.declared.xid.Xid.{Xid}

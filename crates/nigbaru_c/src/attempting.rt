@@ -9,12 +9,13 @@ use crate::telling::list;
 use crate::{Handle, Outcome, Told, XidPart};
 use std::alloc::Global;
 
-/// Tries once the statement that a text spells, if the handle holds a session.
+/// Tries once the statement that a text spells, if the handle holds a session; else the outcome is `Vacant`.
 fn answer(alloc: Global, session: &mut Handle, text: &[u8]) -> Outcome
     ensures comes { Comes text.now result (session_of session.old.held) (session_of session.new.held) }
     ensures same { session_of session.old.held ≡ None → session.new.held ≡ session.old.held }
 {
     match session.empty(alloc) {
+        // The handle gets its box back, whatever the outcome.
         Some(mut chair) => {
             let outcome = chair.answer(text);
             session.fill(chair);

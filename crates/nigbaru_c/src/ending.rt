@@ -29,6 +29,7 @@ pub extern "C" fn nigbaru_raw_leave(alloc: Global, session: &mut Handle) -> u32
             status::OK
         }
         other => {
+            // No session is held, so the handle gets back what it held.
             chair.hold = other;
             session.fill(chair);
             status::NO_HANDLE
@@ -57,6 +58,7 @@ pub extern "C" fn nigbaru_raw_close(alloc: Global, store: &mut Handle) -> u32
     if matches!(&chair.hold, Some(Hold::Store(_))) {
         return status::OK;
     }
+    // No store is held, so the handle gets back what it held.
     store.fill(chair);
     status::NO_HANDLE
 }

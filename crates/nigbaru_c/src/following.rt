@@ -13,7 +13,7 @@ use xa_endless::Next;
 use xa_words::Entry;
 
 impl Handed {
-    /// No entry, and so many lost ones.
+    /// What C gets without an entry: 0, and how many entries are lost.
     fn none(lost: u64) -> Handed
         ensures { (result.number ≡ 0) × (result.length ≡ 0) × (result.lost ≡ lost) }
     {
@@ -25,12 +25,13 @@ impl Handed {
         }
     }
 
-    /// An entry.
+    /// What C gets with an entry.
     #[tactic(auto, using(crate::proofs::Texts::some_text))]
     fn of_entry(entry: &Entry) -> Handed
         ensures { Shows (Some (IsEntry entry.now)) result }
     {
         let spelled = spell(entry.statement());
+        // No canonical text has more than 304 bytes, so all of it is copied.
         let mut text = [0; 304];
         copy_front(&mut text, spelled.as_slice());
         Handed {
@@ -41,7 +42,7 @@ impl Handed {
         }
     }
 
-    /// What comes next, or nothing if no session is held.
+    /// What C gets: the next entry, how many are lost, or neither, at the end or if no session is held.
     fn of(next: &Option<Next>) -> Handed
         ensures { Shows next.now result }
     {
@@ -53,7 +54,7 @@ impl Handed {
     }
 }
 
-/// The status of what comes next.
+/// The status of what comes next; `next` is None if no session is held.
 fn number_of(next: &Option<Next>) -> u32
     ensures { result ≡ status_of_next next.now }
 {
@@ -66,7 +67,7 @@ fn number_of(next: &Option<Next>) -> u32
 }
 
 impl Chair {
-    /// What comes next in the history, if a session is held.
+    /// What comes next in the history, or `None` if no session is held.
     fn next(&mut self) -> Option<Next>
         ensures follows { Follows result (session_in self.old.hold) (session_in self.new.hold) }
         ensures same { session_in self.old.hold ≡ None → self.new.hold ≡ self.old.hold }
@@ -78,12 +79,13 @@ impl Chair {
     }
 }
 
-/// What comes next in the history, if the handle holds a session.
+/// What comes next in the history, or `None` if the handle holds no session.
 fn next(alloc: Global, session: &mut Handle) -> Option<Next>
     ensures follows { Follows result (session_of session.old.held) (session_of session.new.held) }
     ensures same { session_of session.old.held ≡ None → session.new.held ≡ session.old.held }
 {
     match session.empty(alloc) {
+        // The handle gets its box back, whatever comes next.
         Some(mut chair) => {
             let next = chair.next();
             session.fill(chair);

@@ -42,7 +42,7 @@ impl Handle {
         Handle { at: ptr as *mut u8 }
     }
 
-    /// What the handle holds, as the box's parts.
+    /// Takes the handle apart: the parts of its box, whose allocator is `alloc`, or `None` if it is null.
     fn into_parts(self, alloc: Global) -> Option<Parts<Chair, Global>>
         ensures { MatchOption result (self.held ≡ None) (λ parts. self.held ≡ Some parts.value) }
     {
@@ -67,7 +67,7 @@ impl Handle {
         *self = Handle::of_parts(Parts::of(chair));
     }
 
-    /// Takes out what the handle holds, which is empty then.
+    /// Takes the box out of the handle, which is empty then. Returns `None` if it was empty before.
     pub(crate) fn empty(&mut self, alloc: Global) -> Option<Box<Chair>>
         ensures taken { MatchOption result (self.old.held ≡ None) (λ chair. self.old.held ≡ Some chair.value) }
         ensures left { self.new.held ≡ None }

@@ -8,11 +8,12 @@ use chain_log::RingFault;
 use std::alloc::Global;
 use xa_endless::EndlessStore;
 
-/// Whether nothing is held.
+/// Whether the handle holds nothing. It holds the same afterwards.
 pub(crate) fn is_free(alloc: Global, handle: &mut Handle) -> bool
     ensures same { handle.new.held ≡ handle.old.held }
     ensures value { IsTrue result ↔ (handle.old.held ≡ None) }
 {
+    // What a handle holds is seen only by taking it out, so it is put back.
     match handle.empty(alloc) {
         Some(chair) => {
             handle.fill(chair);
@@ -22,7 +23,7 @@ pub(crate) fn is_free(alloc: Global, handle: &mut Handle) -> bool
     }
 }
 
-/// Puts a store into an empty handle, if there is memory.
+/// Puts a store or a session into an empty handle. Returns `OK`, or `NO_MEMORY`, after which the handle is empty.
 fn lodge(alloc: Global, handle: &mut Handle, hold: Hold) -> u32
     requires { handle.old.held ≡ None }
     ensures ok { result ≡ 0 → handle.new.held ≡ Some (record { hold = Some hold }) }
@@ -66,6 +67,7 @@ pub extern "C" fn nigbaru_raw_open(
     match EndlessStore::open(alloc, rows, sessions) {
         Ok(opened) => lodge(alloc, store, Hold::Store(opened)),
         Err(RingFault::NoMemory) => status::NO_MEMORY,
+        // All other faults are of numbers out of range.
         Err(_) => status::OUT_OF_RANGE,
     }
 }

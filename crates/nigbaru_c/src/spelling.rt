@@ -1,4 +1,4 @@
-//! The canonical text of an entry's statement, written without memory: there is a most that it can have.
+//! The canonical text of an entry's statement, written without an allocation: none is longer than 304 bytes.
 ghost use Rattle.std.specs.Prelude.{◌≡◌, ◌≤◌, ◌++◌, ◌∷◌, length};
 ghost use Rattle.xa_statement.specs.Canonical.{statement_text};
 ghost use Rattle.xa_xid.specs.Limits.{text_bytes};
@@ -21,11 +21,13 @@ fn small_digits(bytes: &[u8]) -> ArrayVec<u8, 128>
     digits
 }
 
-/// The text of a gtrid, a bqual, a key or a value: `0x` and two digits for each of at most 64 bytes.
+/// The text of a gtrid, a bqual, a key or a value: `0x` and two digits for each of at most 64 bytes; `X''` if there are
+/// none.
 fn spell_part(bytes: &[u8]) -> ArrayVec<u8, 130>
     requires { length bytes.now ≤ text_bytes }
     ensures { result.items ≡ part_text bytes.now }
 {
+    // `0x` and at most 128 digits, so nothing here can be refused.
     let mut text = ArrayVec::<u8, 130>::new();
     // `0x` without a digit is no literal.
     if bytes.is_empty() {
@@ -38,7 +40,7 @@ fn spell_part(bytes: &[u8]) -> ArrayVec<u8, 130>
     text
 }
 
-/// Two such texts, and a comma between them.
+/// The texts of a gtrid and a bqual, or of a key and a value, as `spell_part` has them, and a comma between them.
 fn spell_pair(first: &[u8], second: &[u8]) -> ArrayVec<u8, 261>
     requires first { length first.now ≤ text_bytes }
     requires second { length second.now ≤ text_bytes }
@@ -54,7 +56,7 @@ fn spell_pair(first: &[u8], second: &[u8]) -> ArrayVec<u8, 261>
     text
 }
 
-/// The text of an identifier. A formatID has at most 20 digits.
+/// The text of an identifier: gtrid, bqual and formatID, which has at most 20 digits.
 fn spell_xid(xid: &Xid) -> ArrayVec<u8, 282>
     ensures { result.items ≡ xid_text xid.now }
 {
@@ -69,7 +71,7 @@ fn spell_xid(xid: &Xid) -> ArrayVec<u8, 282>
     text
 }
 
-/// Words, a text and words.
+/// A text of a statement's identifier, key or pair, with the statement's words before and after it.
 fn between(before: &[u8], text: &[u8], after: &[u8]) -> ArrayVec<u8, 304>
     requires before { length before.now ≤ 12 }
     requires text { length text.now ≤ 282 }
@@ -128,6 +130,7 @@ pub(crate) fn spell(statement: &Statement) -> ArrayVec<u8, 304>
                 between(b"XA RECOVER", b"", b"")
             }
         }
+        // It has no canonical text, and is never logged.
         Statement::Unsupported => ArrayVec::<u8, 304>::new(),
         Statement::Get(key) => with_key(b"GET ", key.as_slice()),
         Statement::Put(key, value) => {

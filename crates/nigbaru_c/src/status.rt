@@ -30,7 +30,7 @@ pub(crate) const NO_HANDLE: u32 = 9;
 /// A number is out of its range, or a formatID above 2^63 - 1.
 pub(crate) const OUT_OF_RANGE: u32 = 10;
 
-/// Somebody has the session of this number.
+/// Somebody has the session of this number, or is just giving it back.
 pub(crate) const NO_SESSION: u32 = 11;
 
 /// The handle that is to be filled holds something.

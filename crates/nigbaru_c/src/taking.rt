@@ -9,7 +9,8 @@ use std::alloc::Global;
 use std::sync::Arc;
 use xa_endless::{EndlessStore, TakeFault};
 
-/// Puts the session of a number into a handle. Memory for it is taken first, so that no session is lost.
+/// Takes the session `number` of the store, and puts it into the handle, if that is empty. Returns `OK`, or the status
+/// of a fault, after which the handle is as before.
 fn seat(alloc: Global, store: &Arc<EndlessStore>, number: u64, session: &mut Handle) -> u32
     ensures ok { result ≡ 0 → Takes number (Some store.now.value) (session_of session.new.held) }
     ensures err { result ≢ 0 → session.new.held ≡ session.old.held }
@@ -21,6 +22,7 @@ fn seat(alloc: Global, store: &Arc<EndlessStore>, number: u64, session: &mut Han
     if number == 0 || number > store.sessions() {
         return status::OUT_OF_RANGE;
     }
+    // Memory for the box goes first. If it failed later, the session would be taken, and no handle would hold it.
     let Ok(mut chair) = Box::new(alloc, Chair { hold: None }) else {
         return status::NO_MEMORY;
     };
@@ -31,12 +33,14 @@ fn seat(alloc: Global, store: &Arc<EndlessStore>, number: u64, session: &mut Han
             status::OK
         }
         Err(TakeFault::NoMemory) => status::NO_MEMORY,
+        // The number was tested above, so somebody has the session, or is just giving it back.
         Err(TakeFault::OutOfRange) | Err(TakeFault::Taken) => status::NO_SESSION,
     }
 }
 
 impl Chair {
-    /// Puts the session of a number of the store that is held into a handle.
+    /// Takes the session `number` of the store that is held, and puts it into the handle, if that is empty. Returns a
+    /// status: `NO_HANDLE` if no store is held.
     fn seat(&self, alloc: Global, number: u64, session: &mut Handle) -> u32
         ensures ok { result ≡ 0 → Takes number (store_in self.now.hold) (session_of session.new.held) }
         ensures err { result ≢ 0 → session.new.held ≡ session.old.held }
@@ -53,7 +57,7 @@ impl Chair {
 ///
 /// `store`: a handle with a store. `number`: the session's, from 1. `session`: an empty handle. Returns 0, or in the
 /// order of test: `NO_HANDLE` if no store is held, `HELD` if the session's handle isn't empty, `OUT_OF_RANGE` if the
-/// store has no such session, `NO_MEMORY`, `NO_SESSION` if somebody has it.
+/// store has no such session, `NO_MEMORY`, `NO_SESSION` if somebody has it or is just giving it back.
 /// After an error both handles are as before. May return `NO_MEMORY`. Doesn't wait.
 /// Own rule: docs/EMBEDDING.md#errors.
 #[unsafe(no_mangle)]
@@ -79,6 +83,7 @@ pub extern "C" fn nigbaru_raw_take(
     let Some(chair) = store.empty(alloc) else {
         return status::NO_HANDLE;
     };
+    // The store's handle gets its box back, whatever the answer.
     let answer = chair.seat(alloc, number, session);
     store.fill(chair);
     answer

@@ -8,7 +8,7 @@ use xa_server::Reply;
 use xa_session::Answer;
 use xa_xid::{Bytes, Xid};
 
-/// Writes bytes to the front, as many as there is room for.
+/// Writes `source` to the front of `target`, as many bytes as there is room for.
 pub(crate) fn copy_front(target: &mut [u8], source: &[u8])
     ensures room { length target.new ≡ length target.old }
     ensures whole { length source.now ≤ length target.old → take (length source.now) target.new ≡ source.now }
@@ -19,7 +19,7 @@ pub(crate) fn copy_front(target: &mut [u8], source: &[u8])
 }
 
 impl Told {
-    /// Nothing but a place.
+    /// The fields with a place, and with nothing of a reply.
     fn at(place: u64) -> Told
         ensures { TellsPlace place result }
     {
@@ -32,13 +32,14 @@ impl Told {
         }
     }
 
-    /// A value.
+    /// The fields of an answer that is the value of a row.
     fn of_value(place: u64, bytes: &Bytes) -> Told
         ensures { (result.place ≡ place) × (result.length ≡ length bytes.now.items)
             × (take result.length result.value ≡ bytes.now.items)
             × (result.count ≡ 0) × (result.error ≡ 0) × (result.length ≤ 64) }
     {
         let mut value = [0; 64];
+        // No value has more than 64 bytes, so all of it is copied.
         copy_front(&mut value, bytes.as_slice());
         Told {
             place,
@@ -49,7 +50,8 @@ impl Told {
         }
     }
 
-    /// The fields of an answer.
+    /// The fields of an answer: its place, and the value, the number of identifiers or the refusal's number, if the
+    /// reply has one of these.
     fn of_answer(answer: &Answer) -> Told
         ensures { (result.place ≡ answer.now.place) × TellsReply answer.now.reply result }
     {
@@ -67,7 +69,8 @@ impl Told {
         }
     }
 
-    /// The fields of an outcome.
+    /// The fields of an outcome: those of its answer; for a text that is no statement, the byte where it goes wrong as
+    /// the place, and else 0; for any other outcome, all 0.
     pub(crate) fn of(outcome: &Outcome) -> Told
         ensures { Tells outcome.now result }
     {
@@ -84,6 +87,7 @@ impl XidPart {
     fn of(xid: &Xid) -> XidPart
         ensures { IsLaid xid.now result }
     {
+        // A gtrid and a bqual have at most 64 bytes each, so nothing here can be refused.
         let mut bytes = ArrayVec::<u8, 128>::new();
         bytes.try_extend_from_slice(xid.gtrid.as_slice()).unwrap();
         bytes.try_extend_from_slice(xid.bqual.as_slice()).unwrap();
@@ -111,7 +115,7 @@ fn lay_out(parts: &mut [XidPart], xids: &[Xid])
     }
 }
 
-/// Writes the identifiers of a reply, as many as there is room for.
+/// Writes the identifiers of a list, as many as there is room for. For any other reply nothing is written.
 fn list_reply(reply: &Reply, parts: &mut [XidPart])
     ensures { ListsReply reply.now parts.old parts.new }
 {
@@ -121,7 +125,7 @@ fn list_reply(reply: &Reply, parts: &mut [XidPart])
     }
 }
 
-/// Writes the identifiers of an answer, as many as there is room for.
+/// Writes the identifiers of a list, as many as there is room for. After any other outcome nothing is written.
 pub(crate) fn list(outcome: &Outcome, parts: &mut [XidPart])
     ensures { Lists outcome.now parts.old parts.new }
 {

@@ -19,7 +19,7 @@ use Rattle.xa_audit.specs.Lives.{ends_in, lives_after}
 use Rattle.xa_audit.proofs.Lists.{last_more}
 use Rattle.xa_audit.proofs.Taking.{took_by}
 
--- Of deeds: a life goes on at their end, in which the branch wrote or didn't.
+-- the deeds end within a life, which goes on; `wrote` says whether one of the life's deeds is a write
 record GoesOn (wrote : Bool) (deeds : List Deed) : Type 0 where
   before : List Deed
   life : List Deed
@@ -27,7 +27,8 @@ record GoesOn (wrote : Bool) (deeds : List Deed) : Type 0 where
   within : list_all is_within life ≡ true
   total : list_any is_write life ≡ wrote
 
--- what the lives after these deeds say of the deeds
+-- what lives tell of the deeds that they come from: if a life goes on, whether it has written; if none does and the
+-- last end is ROLLED BACK, that the last life's writes were dropped
 Tells : Option Life → List End → List Deed → Type 0
 Tells None over deeds = last_end over ≡ Some RolledBack → DropsWrites deeds
 Tells (Some life) over deeds = GoesOn life.wrote deeds
@@ -37,7 +38,7 @@ and_true : (a b : Bool) → a ≡ true → b ≡ true → (a && b) ≡ true
 and_true true b p q = q
 and_true false b p q = absurd (true≢false (sym p))
 
--- if both hold, the first does
+-- if both of two tests hold, the first does
 and_left : (a b : Bool) → (a && b) ≡ true → a ≡ true
 and_left true b p = refl
 and_left false b p = absurd (true≢false (sym p))
@@ -66,7 +67,7 @@ or_false false = refl
 one_within : (deed : Deed) → is_within deed ≡ true → list_all is_within (deed ∷ []) ≡ true
 one_within deed is = and_true (is_within deed) true is refl
 
--- a life goes on by a deed within it
+-- deeds within a life are still within it with one more that neither begins nor ends a life
 within_more : (life : List Deed) (deed : Deed) → list_all is_within life ≡ true → is_within deed ≡ true
     → list_all is_within (life ++ deed ∷ []) ≡ true
 within_more life deed all is =
@@ -101,7 +102,7 @@ drops_more deeds deed is drops = record {
   last = within_more drops.later deed drops.last is;
 }
 
--- a life that wrote is rolled back
+-- if deeds end within a life that wrote, a rollback after them drops its writes
 now_dropped : (deeds : List Deed) → GoesOn true deeds → DropsWrites (deeds ++ RollsBack ∷ [])
 now_dropped deeds on = record {
   before = on.before;
@@ -113,19 +114,19 @@ now_dropped deeds on = record {
   last = refl;
 }
 
--- a life that ended otherwise than by a rollback isn't the last one, if the last one was rolled back
+-- an end that isn't ROLLED BACK isn't the last one where that is ROLLED BACK: this case doesn't arise
 other_last : (over : List End) (end : End) (deeds : List Deed) → (Some end ≡ Some RolledBack → ⊥)
     → last_end (over ++ end ∷ []) ≡ Some RolledBack → DropsWrites deeds
 other_last over end deeds apart is = absurd (apart (sym (last_more over end) ∙ is))
 
--- what a going life and the ends before it tell of the deeds, after one deed more: a write
+-- what lives tell of deeds (`Tells`), they tell after one deed more: a write
 writes_step : (going : Option Life) (over : List End) (deeds : List Deed) → Tells going over deeds
     → Tells (option_map written_life going) over (deeds ++ Writes ∷ [])
 unfolding Tells
 writes_step None over deeds tells = λ is. drops_more deeds Writes refl (tells is)
 writes_step (Some life) over deeds tells = on_more life.wrote true deeds Writes refl (or_true life.wrote) tells
 
--- what a going life and the ends before it tell of the deeds, after one deed more: a prepare
+-- what lives tell of deeds (`Tells`), they tell after one deed more: a prepare
 prepares_step : (going : Option Life) (over : List End) (deeds : List Deed) → Tells going over deeds
     → Tells (option_map prepared_life going) over (deeds ++ Prepares ∷ [])
 unfolding Tells
@@ -140,14 +141,14 @@ by_wrote : (wrote : Bool) (over : List End) (deeds : List Deed) → GoesOn wrote
 by_wrote true over deeds on is = now_dropped deeds on
 by_wrote false over deeds on is = other_last over Empty (deeds ++ RollsBack ∷ []) (λ e. absurd (cc)) is
 
--- a deed of rolling back ends the life that is going: it is over, and its writes were dropped
+-- what lives tell of deeds (`Tells`), they tell after one deed more: a rollback, which ends the life that goes on
 rolls_step : (going : Option Life) (over : List End) (deeds : List Deed) → Tells going over deeds
     → Tells None (over ++ dropped going ∷ []) (deeds ++ RollsBack ∷ [])
 unfolding Tells
 rolls_step None over deeds tells = λ is. other_last over Empty (deeds ++ RollsBack ∷ []) (λ e. absurd (cc)) is
 rolls_step (Some life) over deeds tells = λ is. by_wrote life.wrote over deeds tells is
 
--- one more deed of any kind: the lives still tell what the deeds say
+-- what lives tell of deeds (`Tells`), they tell after one deed more of any kind
 step : (lives : Lives) (deeds : List Deed) (deed : Deed) → Tells lives.going lives.over deeds
     → Tells (noted lives deed).going (noted lives deed).over (deeds ++ deed ∷ [])
 unfolding Tells
@@ -157,11 +158,11 @@ step lives deeds Prepares tells = prepares_step lives.going lives.over deeds tel
 step lives deeds Commits tells = λ is. other_last lives.over Committed (deeds ++ Commits ∷ []) (λ e. absurd (cc)) is
 step lives deeds RollsBack tells = rolls_step lives.going lives.over deeds tells
 
--- the lives, if there are any, tell what the deeds say
+-- what `Tells` says, also where there are no lives yet
 TellsAll : Option Lives → List Deed → Type 0
 TellsAll lives deeds = Tells (unwrap_or lives no_lives).going (unwrap_or lives no_lives).over deeds
 
--- after any deeds the lives still tell what the deeds say
+-- what lives tell of deeds (`TellsAll`), they tell after any deeds more
 steps : (deeds before : List Deed) (lives : Option Lives) → TellsAll lives before
     → TellsAll (lives_after lives deeds) (before ++ deeds)
 unfolding lives_after TellsAll
@@ -172,12 +173,12 @@ steps (deed ∷ deeds) before lives tells =
     (steps deeds (before ++ deed ∷ []) (Some (noted (unwrap_or lives no_lives) deed))
     (step (unwrap_or lives no_lives) before deed tells))
 
--- before the first deed there is no life
+-- `TellsAll` holds before the first deed, where there is no life
 from_none : TellsAll None []
 unfolding TellsAll Tells
 from_none = λ is. absurd (cc)
 
--- the lives that deeds come to tell what these deeds say
+-- the lives to which deeds lead tell of these deeds what `Tells` says
 tells_of : (deeds : List Deed) (lives : Lives) → lives_after None deeds ≡ Some lives
     → Tells lives.going lives.over deeds
 unfolding TellsAll
@@ -197,7 +198,7 @@ left_apart : (prepared : Bool) → Some (left_by prepared) ≡ Some RolledBack �
 left_apart true e = absurd (cc)
 left_apart false e = absurd (cc)
 
--- if the last end is a rollback, the deeds end in one that drops writes
+-- if the last end is ROLLED BACK, the writes of the deeds' last life were dropped
 drops_by : (going : Option Life) (over : List End) (deeds : List Deed) → Tells going over deeds
     → last_end (over ++ left_going going) ≡ Some RolledBack
     → DropsWrites deeds
@@ -206,7 +207,8 @@ drops_by None over deeds tells is = tells (ap last_end (sym (append-nil over)) �
 drops_by (Some life) over deeds tells is =
     absurd (left_apart life.prepared (sym (last_more over (left_by life.prepared)) ∙ is))
 
--- a branch that failed by its lives failed by its deeds: its last life wrote and was dropped
+-- if none of a branch's lives is COMMITTED and the last is ROLLED BACK, it fails by its deeds: its last life's writes
+-- were dropped (`FailsBy`)
 pub fails_by : (deeds : List Deed) (lives : Lives) → lives_after None deeds ≡ Some lives
     → (not (list_any is_committed (ends_in lives)) && option_map_or is_rolled_back (last_end (ends_in lives)) false)
     ≡ true → FailsBy deeds
@@ -224,7 +226,7 @@ unfolding lives_after
 after_more lives [] ys = refl
 after_more lives (x ∷ xs) ys = after_more (Some (noted (unwrap_or lives no_lives) x)) xs ys
 
--- a life goes on, in which the branch wrote or didn't
+-- a life goes on, and `wrote` says whether it has written
 Goes : Bool → Option Life → Type 0
 Goes wrote None = ⊥
 Goes wrote (Some life) = life.wrote ≡ wrote
@@ -241,7 +243,7 @@ unfolding Goes
 prepared_now wrote None goes = goes
 prepared_now wrote (Some life) goes = goes
 
--- these deeds lead from some lives to others, in which the life that is going has written or not
+-- the deeds lead from some lives to others, in which a life goes on; `wrote` says whether that has written
 record Lived (lives : Lives) (wrote : Bool) (deeds : List Deed) : Type 0 where
   now : Lives
   after : lives_after (Some lives) deeds ≡ Some now
@@ -295,7 +297,7 @@ still (Prepares ∷ later) lives none last within =
 still (Commits ∷ later) lives none last within = absurd (true≢false (sym within))
 still (RollsBack ∷ later) lives none last within = absurd (true≢false (sym within))
 
--- lives after a life that wrote and was rolled back
+-- after deeds whose last life's writes were dropped no life goes on, and the last end is ROLLED BACK (`Ended`)
 ended_after : (deeds : List Deed) → DropsWrites deeds → Ended (lives_after None deeds)
 unfolding lives_after Goes
 ended_after deeds drops =
@@ -313,11 +315,11 @@ ended_after deeds drops =
     ∙ ap (λ l. lives_after l (RollsBack ∷ drops.later)) life.after))
     ended
 
--- equal lives that were found are equal
+-- lives that are found in two equal results are equal
 ended_is : (lives now : Lives) → Some lives ≡ Some now → lives ≡ now
 ended_is lives now is = cc
 
--- a branch whose writes were dropped fails
+-- if a branch fails by its deeds (`FailsBy`), none of its lives is COMMITTED and the last is ROLLED BACK
 pub failed_by : (deeds : List Deed) (lives : Lives) → lives_after None deeds ≡ Some lives → FailsBy deeds
     → (not (list_any is_committed (ends_in lives)) && option_map_or is_rolled_back (last_end (ends_in lives)) false)
     ≡ true
@@ -335,23 +337,23 @@ failed_by deeds lives is (none, drops) =
     (option_map_or is_rolled_back (last_end (ends_in lives)) false)
     (ap not untaken) (ap (λ e. option_map_or is_rolled_back e false) last)
 
--- whether the branch failed: none of its lives was committed, and its last one was rolled back
+-- none of the lives is COMMITTED, and the last is ROLLED BACK
 abbrev has_failed : Lives → Bool
 has_failed lives =
     not (list_any is_committed (ends_in lives)) && option_map_or is_rolled_back (last_end (ends_in lives)) false
 
--- a branch whose lives end in a rollback failed by its deeds
+-- a branch that has lives, and failed by them (`has_failed`), failed by its deeds (`FailsBy`)
 fails_of : (deeds : List Deed) (lives : Option Lives) → lives_after None deeds ≡ lives
     → option_map_or has_failed lives false ≡ true → FailsBy deeds
 fails_of deeds None is failed = absurd (true≢false (sym failed))
 fails_of deeds (Some lives) is failed = fails_by deeds lives is failed
 
--- a branch that failed by its deeds has lives that say so
+-- a branch that failed by its deeds (`FailsBy`) has lives, and failed by them (`has_failed`)
 failed_of : (deeds : List Deed) (lives : Option Lives) → lives_after None deeds ≡ lives → FailsBy deeds
     → option_map_or has_failed lives false ≡ true
 failed_of deeds None is (none, drops) = absurd (cc (sym is ∙ (ended_after deeds drops).is))
 failed_of deeds (Some lives) is fails = failed_by deeds lives is fails
 
--- a branch fails if, and only if, its writes were dropped
+-- a branch has lives and failed by them if, and only if, it failed by its deeds (`FailsBy`)
 pub fails_iff : (deeds : List Deed) → (option_map_or has_failed (lives_after None deeds) false ≡ true) ↔ FailsBy deeds
 fails_iff deeds = (fails_of deeds (lives_after None deeds) refl, failed_of deeds (lives_after None deeds) refl)

@@ -73,7 +73,8 @@ said_more (Given session statement) state m n rest notes xid =
 said_more (Unread place) state m n rest same xid =
     ap (λ map. lives_after (get xid_cmp map xid) (deeds_about xid (deeds_from state rest))) same
 
--- a line more, of those that are left
+-- the loop over lines: once one more is carried out and its deed noted, the lives so far and the deeds of the lines
+-- that are left still come to the lives of the whole history
 pub line_more : (line : List ℕ) (lines left : List (List ℕ)) (state new : State) (m n : BTreeMap Xid Lives)
     (whole : Option Lives) (xid : Xid)
     → left ≡ line ∷ lines → new ≡ state_said state (said_on line) → Notes (deed_said state (said_on line)) m n
@@ -101,7 +102,8 @@ unfolding deed_of
 refused_notes state session statement lives refused =
     subst (λ (b : Bool). Notes (cond b None (deed_by (own_xid state session) statement)) lives lives) (sym refused) refl
 
--- after an accepted statement the noted lives are those with its deed
+-- if the deed of an accepted statement was noted, as it is by the branch that its session owns, the deed of the
+-- statement in its state was
 pub accepted_notes : (state : State) (session : ℕ) (statement : Statement) (own : Option Xid)
     (old new : BTreeMap Xid Lives)
     → is_refused (reply_to state session statement) ≡ false → own ≡ own_xid state session

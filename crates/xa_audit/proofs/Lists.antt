@@ -32,7 +32,7 @@ filter_more p [] x = refl
 filter_more p (y ∷ ys) x =
     ap (λ l. cond (p y) (y ∷ l) l) (filter_more p ys x) ∙ keeps_first (p y) (p x) y x (filter p ys)
 
--- the last of a list with one more
+-- the last end of a list with one more behind it is that one
 pub last_more : (ends : List End) (end : End) → last_end (ends ++ end ∷ []) ≡ Some end
 last_more [] end = refl
 last_more (first ∷ []) end = refl
@@ -43,7 +43,7 @@ bounded : (b : Bool) (n m : ℕ) → n ≤ m → cond b 1 0 + n ≤ m + 1
 bounded true n m h = omega arith
 bounded false n m h = omega arith
 
--- no more are counted than there are
+-- no more global transactions are counted than there are
 pub count_le : (verdict : Verdict) (globals : List Global) → count_of verdict globals ≤ length globals
 unfolding count_of
 count_le verdict [] = omega arith

@@ -29,7 +29,7 @@ use Rattle.xa_audit.proofs.Groups.{globals_total, exact_globals}
 use Rattle.xa_audit.proofs.Taking.{took_by}
 use Rattle.xa_audit.proofs.Verdicts.{mixed_iff}
 
--- A branch with these lives in one of the histories passes a test, whatever the number of its store.
+-- a branch has lives in one of the histories that pass a test, whatever the number of its store
 record IsFound (test : Xid × Lives → Bool) (histories : List (List ℕ)) : Type 0 where
   history : List ℕ
   xid : Xid
@@ -56,7 +56,7 @@ or_right false b p = p
 and_true : (a b : Bool) → a ≡ true → b ≡ true → (a && b) ≡ true
 and_true a b p q = ap (λ x. x && b) p ∙ q
 
--- if both hold, the first does
+-- if both of two tests hold, the first does
 and_left : (a b : Bool) → (a && b) ≡ true → a ≡ true
 and_left true b p = refl
 and_left false b p = absurd (true≢false (sym p))
@@ -86,13 +86,13 @@ cons_cases y xs x among = elim (Contains-append_cases (y ∷ []) xs x among) [
   | inr rest ↦ inr rest
 ]
 
--- a test that an entry passes
+-- some entry of a list passes a test
 record Passing (test : Xid × Lives → Bool) (entries : List (Xid × Lives)) : Type 0 where
   entry : Xid × Lives
   one : Contains entries entry
   passes : test entry ≡ true
 
--- whether a branch passes doesn't rest on the number of its store
+-- whether a branch passes the test depends on its identifier and its lives, not on the number of its store
 abbrev IsOfLives : (Branch → Bool) → (Xid × Lives → Bool) → Type 0
 IsOfLives test of_lives = (store : ℕ) (entry : Xid × Lives) → test (branch_in store entry) ≡ of_lives entry
 
@@ -172,7 +172,7 @@ found test of_lives same store (history ∷ histories) branches (first, rest, (e
           }
     ]
 
--- a branch of some history passes if, and only if, its lives in that history do
+-- if in some history the lives of a branch pass, some branch of the listed ones does
 finds : (test : Branch → Bool) (of_lives : Xid × Lives → Bool) → IsOfLives test of_lives
     → (store : ℕ) (histories : List (List ℕ)) (branches : List Branch)
     → AreBranches store histories branches → IsFound of_lives histories → list_any test branches ≡ true
@@ -248,13 +248,14 @@ some_failed : (history : List ℕ) (xid : Xid) (lives : Lives) → lives_in hist
     → failed_in 1 history xid ≡ failed (branch_in 1 (xid, lives))
 some_failed history xid lives has = ap (λ l. option_map_or (λ (x : Lives). failed (branch_in 1 (xid, x))) l false) has
 
--- lives that are told of, where a test of them passes
+-- if lives that may be missing pass a test, they are there
 any_told : (lives : Option Lives) (test : Lives → Bool) → option_map_or test lives false ≡ true
     → (l : Lives) × (lives ≡ Some l)
 any_told None test passes = absurd (true≢false (sym passes))
 any_told (Some lives) test passes = (lives, refl)
 
--- a branch of the name that was committed, in some history
+-- if in some history a branch of the name took by its lives, some history has an accepted XA COMMIT of a branch of it
+-- (`HasCommitted`)
 committed_of : (histories : List (List ℕ)) (name : GlobalName) → IsFound (own_and name took) histories
     → HasCommitted histories name
 unfolding own_and
@@ -282,7 +283,8 @@ of_committed histories name it =
       passes = and_true _ _ (name_own name it.xid it.own) (some_took it.history it.xid known.0 known.1 ∙ it.committed);
     }
 
--- a branch of the name whose writes were dropped, in some history
+-- if in some history a branch of the name failed by its lives, in some history the writes of a branch of it were
+-- dropped (`HasDropped`)
 dropped_of : (histories : List (List ℕ)) (name : GlobalName) → IsFound (own_and name failed) histories
     → HasDropped histories name
 unfolding own_and
@@ -312,7 +314,8 @@ of_dropped histories name it =
       passes = and_true _ _ (name_own name it.xid it.own) (sym (some_failed it.history it.xid known.0 known.1) ∙ fails);
     }
 
--- some branch of a global transaction of the account passes a test
+-- a branch of a global transaction of the account passes a test if, and only if, some branch of the account is of its
+-- name and passes
 own_any : (histories : List (List ℕ)) (globals : List Global) (account : IsAccount histories globals) (global : Global)
     → Contains globals global
     → (test : Branch → Bool) → list_any test global.1 ≡ list_any

@@ -39,19 +39,19 @@ never b e f = absurd (true≢false (sym f ∙ e))
 
 -- ---- what a session owns, by what it has open
 
--- a session that owns a branch has it open
+-- a branch that a session owns is the one that `own_xid` finds
 owner_open : (state : State) (session : ℕ) → LockLaw state → (xid : Xid) → owns state session xid ≡ true
     → own_xid state session ≡ Some xid
 owner_open state session law xid e = own_found state session xid e (λ other f. law.one_branch session xid other e f)
 
--- a session that owns nothing according to what is found
+-- a session for which `own_xid` finds no branch owns none
 none_owned : (state : State) (session : ℕ) → own_xid state session ≡ None → LockLaw state → (xid : Xid)
     → owns state session xid ≡ true → ⊥
 none_owned state session none law xid e = not_none xid (sym none ∙ owner_open state session law xid e)
 
 -- ---- a branch after a statement
 
--- whether the session owns the branch after its accepted statement
+-- a session owns a branch after its accepted statement if what the statement makes of that branch is the session's
 owned_then : (state : State) (session : ℕ) (statement : Statement) (at : Xid)
     → is_refused (reply_to state session statement) ≡ false →
     owns (after state session statement) session at
@@ -73,7 +73,7 @@ before_then state session statement at accepted e =
 
 -- ---- statements after which it owns what it owned
 
--- the session owns a branch that a change leaves its owner
+-- the change leaves the owner of every branch
 abbrev Leaves : (Branch → Branch) → Type 0
 Leaves change = (branch : Branch) → (change branch).owner ≡ branch.owner
 
@@ -154,7 +154,7 @@ quiet_own state session statement law later quiet accepted = by (own_xid state s
 
 -- ---- XA START
 
--- after an XA START it owns that branch
+-- after an accepted XA START the session owns the branch that it names
 started_own : (state : State) (session : ℕ) (xid : Xid) → LockLaw (after state session (Start xid))
     → is_refused (reply_to state session (Start xid)) ≡ false
     → own_xid (after state session (Start xid)) session ≡ Some xid
@@ -171,14 +171,15 @@ started_own state session xid later accepted =
 
 -- ---- statements after which it owns nothing
 
--- the branches that it owned are left by the statement, and the statement is no XA START
+-- what the statement makes of the branches that the session owns isn't the session's any more
 abbrev LeavesNone : State → ℕ → Statement → Type 0
 LeavesNone state session statement =
     (xid : Xid) → owns state session xid ≡ true
     → is_owned session (branch_after session (association_of state session) statement xid (map.get state.branches xid))
     ≡ false
 
--- after an accepted statement that leaves none it owns none
+-- after an accepted statement that leaves its session no branch that it owned (`LeavesNone`), and isn't XA START, the
+-- session owns none
 none_own : (state : State) (session : ℕ) (statement : Statement) → ((xid : Xid) → statement ≢ Start xid)
     → is_refused (reply_to state session statement) ≡ false → LeavesNone state session statement
     → own_xid (after state session statement) session ≡ None
@@ -245,7 +246,8 @@ free_owns state session law free xid e = by (map.get state.branches xid) refl
             (sym (law.detached xid (ap (λ f. option_map_or is_prepared_phase f false) (at_phase PhasePrepared p)))
             ∙ owner)
 
--- a branch that a session's statement finishes is the session's own, or the session owns none
+-- if the branch `xid` is the session's own, or is PREPARED while the session is free, the session owns no other
+-- branch
 finished_none : (state : State) (session : ℕ) (xid : Xid) → LockLaw state → IsFinishable state session xid
     → (is_prepared state xid ≡ true → association_of state session ≡ Free) → (at : Xid) → owns state session at ≡ true
     → xid ≡ at
@@ -275,7 +277,7 @@ rollback_free state (Idle own) xid is e prepared =
     absurd (true≢false (sym prepared ∙ ap (is_prepared state) (own_is xid own _ e)
     ∙ ap (λ f. option_map_or is_prepared_phase f false) is))
 
--- after a DISCONNECT the session owns no branch
+-- what DISCONNECT makes of the branches that the session owns isn't the session's any more
 disconnected : (state : State) (session : ℕ) → LockLaw state → (association : Association)
     → association_of state session ≡ association → (xid : Xid)
     → owns state session xid ≡ true → is_owned session (branch_after session association Disconnect xid
@@ -309,7 +311,7 @@ rolls_back_starts at xid e = cc
 disconnects_starts : (xid : Xid) → Disconnect ≢ Start xid
 disconnects_starts xid e = cc
 
--- what a session owns after its own accepted statement
+-- after its own accepted statement a session owns what `own_after` says
 pub own_then : (state : State) (session : ℕ) (statement : Statement) → LockLaw state
     → LockLaw (after state session statement)
     → is_refused (reply_to state session statement) ≡ false

@@ -72,7 +72,7 @@ none_before (x ∷ xs) ys e = absurd (cc)
 none_empty : (xs : List ℕ) → (length xs == 0) ≡ false → xs ≡ [] → ⊥
 none_empty xs filled e = true≢false (sym (ap (λ (l : List ℕ). length l == 0) e) ∙ filled)
 
--- one history more, each of whose lines is read, as those before are
+-- with the faults and the branches of one history more added, an audit is that of all these histories
 pub added : (histories : List (List ℕ)) (history : List ℕ) (old new : Audit) (more : List Branch)
     → IsAuditOf histories old → new.stores ≡ old.stores + 1
     → new.faults.items ≡ old.faults.items ++ faults_in (old.stores + 1) 1 (lines_of history)
@@ -90,7 +90,8 @@ added histories history old new more is stores faults are branches = record {
       (ap (λ n. n + 1) is.stores ∙ (let e : length histories + 1 ≡ 1 + length histories = omega arith in e)) are));
 }
 
--- one history more, where a line isn't read
+-- with the faults of one history more added, an audit is that of all these histories, if there are faults: then no
+-- branches are needed
 pub blamed : (histories : List (List ℕ)) (history : List ℕ) (old new : Audit) → IsAuditOf histories old
     → new.stores ≡ old.stores + 1
     → new.faults.items ≡ old.faults.items ++ faults_in (old.stores + 1) 1 (lines_of history)

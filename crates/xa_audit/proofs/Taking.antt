@@ -35,7 +35,7 @@ left_none (Some life) = by life.prepared
     by true = refl
     by false = refl
 
--- how a life ends that is dropped is no commit
+-- the end of a life that is rolled back isn't COMMITTED
 dropped_none : (going : Option Life) → list_any is_committed (dropped going ∷ []) ≡ false
 dropped_none None = refl
 dropped_none (Some life) = by life.wrote
@@ -61,18 +61,18 @@ noted_over lives Commits = any_append is_committed lives.over _
 noted_over lives RollsBack =
     any_append is_committed lives.over _ ∙ ap (λ b. list_any is_committed lives.over || b) (dropped_none lives.going)
 
--- some life of these was committed
+-- some life of these that is over was committed; none was, if there are no lives
 has : Option Lives → Bool
 has None = false
 has (Some lives) = list_any is_committed lives.over
 
--- whether a life was committed, of lives or of none yet
+-- `has` says the same of missing lives as of `no_lives`
 or_none : (lives : Option Lives) → list_any is_committed (unwrap_or lives no_lives).over ≡ has lives
 unfolding has
 or_none None = refl
 or_none (Some lives) = refl
 
--- after deeds: if one was, or if one of the deeds is a commit
+-- after more deeds some life was committed if one was before them, or if one of them is a commit
 has_after : (lives : Option Lives) (deeds : List Deed)
     → has (lives_after lives deeds) ≡ (has lives || list_any is_commit deeds)
 unfolding has lives_after
@@ -83,7 +83,7 @@ has_after lives (deed ∷ deeds) =
     (noted_over (unwrap_or lives no_lives) deed ∙ ap (λ b. b || is_commit deed) (or_none lives))
     ∙ sym (or_assoc (has lives) (is_commit deed) (list_any is_commit deeds))
 
--- a life that is still going on doesn't count
+-- only lives that are over count: one that goes on at the end isn't COMMITTED
 has_is : (lives : Option Lives) → option_map_or (λ (l : Lives). list_any is_committed (ends_in l)) lives false
     ≡ has lives
 unfolding has

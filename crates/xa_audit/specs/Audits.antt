@@ -21,7 +21,7 @@ use Rattle.xa_audit.specs.Branches.{AreBranches}
 use Rattle.xa_audit.specs.Globals.{Global, IsAccount, count_of}
 use Rattle.xa_audit.specs.Written.{text_in}
 
--- 16 MiB, as for a record
+-- the greatest length of a history that is read: 16 MiB, as of a record
 abbrev pub history_bytes : ℕ
 history_bytes = 16777216
 
@@ -31,7 +31,7 @@ pub record IsAuditOf (histories : List (List ℕ)) (audit : Audit) : Type 0 wher
   pub faults : audit.faults.items ≡ faults_of histories
   pub branches : faults_of histories ≡ [] → AreBranches 1 histories audit.branches
 
--- whether each global transaction is ATOMIC
+-- how an audit ends, by whether each global transaction is ATOMIC
 abbrev pub ended_by : Bool → Ended
 ended_by true = AllAtomic
 ended_by false = SomeNotAtomic
@@ -59,7 +59,8 @@ abbrev pub AppendsAuditPrefix : List (List ℕ) → Form → Option (List ℕ) �
 AppendsAuditPrefix histories form old new =
     (ended : Ended) × (text : List ℕ) × IsAudited histories form ended text × AppendsPrefix old new text
 
--- what a fault leaves in the writer: a prefix of the text if a write failed, nothing if there was no memory
+-- what a fault leaves in the writer: a prefix of the text if a write failed, nothing if there was no memory. No other
+-- fault occurs
 abbrev pub AfterAuditFault : List (List ℕ) → Form → ScriptFault → Option (List ℕ) → Option (List ℕ) → Type 0
 AfterAuditFault histories form Read old new = ⊥
 AfterAuditFault histories form TooLong old new = ⊥

@@ -18,7 +18,8 @@ use Rattle.xa_audit.specs.Histories.{statements_in}
 use Rattle.xa_audit.specs.declared.deed.Deed.{Deed}
 use Rattle.xa_audit.specs.declared.deed.Deed.TheVariants.{Starts, Writes, Prepares, Commits, RollsBack}
 
--- a statement of `XA` names its branch; any other is about the branch that the session owns
+-- what an accepted statement does: XA START, PREPARE, COMMIT and ROLLBACK name the branch; PUT, DEL and DISCONNECT are
+-- about the one that the session owns, if it owns one. The others change no life
 abbrev pub deed_by : Option Xid → Statement → Option (Xid × Deed)
 deed_by own (Start xid) = Some (xid, Starts)
 deed_by own (End xid) = None
@@ -37,7 +38,7 @@ unfoldable pub deed_of : State → ℕ → Statement → Option (Xid × Deed)
 deed_of state session statement =
     cond (is_refused (reply_to state session statement)) None (deed_by (own_xid state session) statement)
 
--- the deeds of a history, in order
+-- the deeds of a history that begins in this state, in order
 unfoldable pub deeds_from : State → List (ℕ × Statement) → List (Xid × Deed)
 deeds_from state [] = []
 deeds_from state (entry ∷ entries) =

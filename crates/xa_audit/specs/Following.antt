@@ -37,13 +37,13 @@ own_after own (Put key value) = own
 own_after own (Del key) = own
 own_after own Disconnect = None
 
--- the state after what a line says
+-- the state after the statement that a line gives; as it was, if the line gives none
 abbrev pub state_said : State → Said → State
 state_said state Nothing = state
 state_said state (Given session statement) = after state session statement
 state_said state (Unread place) = state
 
--- the deed of what a line says
+-- the deed of the statement that a line gives, in this state; None if the line gives none
 abbrev pub deed_said : State → Said → Option (Xid × Deed)
 deed_said state Nothing = None
 deed_said state (Given session statement) = deed_of state session statement

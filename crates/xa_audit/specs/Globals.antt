@@ -62,12 +62,12 @@ abbrev pub is_in_doubt : End → Bool
 is_in_doubt InDoubt = true
 is_in_doubt end = false
 
--- the life is left open
+-- the life is left ACTIVE or IDLE
 abbrev pub is_open : End → Bool
 is_open Open = true
 is_open end = false
 
--- how the last life ends
+-- how the last life ends; None if there is none
 abbrev pub last_end : List End → Option End
 last_end [] = None
 last_end (end ∷ []) = Some end
@@ -85,7 +85,8 @@ took branch = list_any is_committed branch.ends
 abbrev pub failed : Branch → Bool
 failed branch = not (took branch) && ends_as is_rolled_back branch
 
--- MIXED, if one branch took and another failed
+-- MIXED, if one branch took and another failed; if not, IN DOUBT or OPEN, the first that the last life of a branch
+-- is; and else ATOMIC
 abbrev pub verdict_of : List Branch → Verdict
 verdict_of branches =
     if list_any took branches && list_any failed branches then Mixed

@@ -1,9 +1,11 @@
 -- Words of the laws of audits.
 --     is_commit     a deed is an accepted XA COMMIT
 --     took_in       some life of the branch is COMMITTED in a history
+--     is_write, is_within     a deed is a write;  it neither begins nor ends a life
 --     DropsWrites   the last life of a branch wrote, and was rolled back
 --     failed_in     the branch failed in the history of a store
---     HasCommitted, HasDropped     a branch of a global transaction was committed;  one's writes were dropped
+--     FailsBy       by its deeds, a branch had no accepted XA COMMIT, and the writes of its last life were dropped
+--     HasCommitted, HasDropped     a branch of a global transaction was committed;  one failed by dropped writes
 use Rattle.std.specs.Prelude.{◌≡◌, Bool, true, false, List, ◌∷◌, ◌++◌, ℕ}
 use Rattle.std.specs.List.{list_any, list_all, Contains}
 use Rattle.std.specs.Option.{option_map_or}
@@ -24,7 +26,7 @@ is_commit Prepares = false
 is_commit Commits = true
 is_commit RollsBack = false
 
--- some life of the branch is COMMITTED
+-- some life of the branch is COMMITTED in the history
 abbrev pub took_in : List ℕ → Xid → Bool
 took_in history xid = option_map_or (λ lives. list_any is_committed (ends_in lives)) (lives_in history xid) false
 
@@ -54,7 +56,7 @@ pub record DropsWrites (deeds : List Deed) : Type 0 where
   pub wrote : list_any is_write life ≡ true
   pub last : list_all is_within later ≡ true
 
--- the branch failed in the history of the store of this number
+-- the branch failed in the history of the store of this number; not so if no deed of the history is about it
 abbrev pub failed_in : ℕ → List ℕ → Xid → Bool
 failed_in store history xid =
     option_map_or (λ lives. failed (branch_in store (xid, lives))) (lives_in history xid) false

@@ -29,7 +29,7 @@ abbrev pub dropped : Option Life → End
 dropped None = Empty
 dropped (Some life) = dropped_by life.wrote
 
--- the life that goes on ends so
+-- the lives once the one that goes on has ended so, without one that goes on
 abbrev pub over_by : End → Lives → Lives
 over_by end lives = record { over = lives.over ++ end ∷ []; going = None }
 
@@ -49,7 +49,7 @@ noted lives Prepares = record lives { going = option_map prepared_life lives.goi
 noted lives Commits = over_by Committed lives
 noted lives RollsBack = over_by (dropped lives.going) lives
 
--- the lives of a branch after these deeds
+-- the lives of a branch after these deeds; None if it had none and there is no deed
 unfoldable pub lives_after : Option Lives → List Deed → Option Lives
 lives_after lives [] = lives
 lives_after lives (deed ∷ deeds) = lives_after (Some (noted (unwrap_or lives no_lives) deed)) deeds
@@ -59,7 +59,7 @@ abbrev pub left_by : Bool → End
 left_by true = InDoubt
 left_by false = Open
 
--- a life that goes on at the end of the history
+-- the end of the life that goes on at the end of the history, if one does
 abbrev pub left_going : Option Life → List End
 left_going None = []
 left_going (Some life) = left_by life.prepared ∷ []

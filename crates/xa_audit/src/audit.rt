@@ -40,7 +40,7 @@ impl Audit {
         }
     }
 
-    /// Takes the branches of the store that was counted last, which have these lives.
+    /// Adds the branches of the last store, whose number is `stores`: one for each identifier that has lives.
     fn push_lives(&mut self, alloc: Global, lives: &BTreeMap<Xid, Lives>) -> Result<(), NoMemory>
         ensures added { OnOk result (self.new.branches ≡ self.old.branches
             ++ map (branch_in self.old.stores) lives.now.entries) }
@@ -64,6 +64,7 @@ impl Audit {
     {
         self.stores += 1;
         push_faults(&mut self.faults, self.stores, history)?;
+        // If some line isn't read, the audit writes only the faults of lines, and needs no branches.
         if self.faults.is_empty() {
             let lives = lives_of(alloc, history)?;
             self.push_lives(alloc, &lives)?;

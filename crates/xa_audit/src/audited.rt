@@ -27,7 +27,7 @@ pub struct Audited {
     pub text: Vec<u8>,
 }
 
-/// How an audit of these global transactions ends.
+/// How an audit of these global transactions ends: `AllAtomic` if each of them is ATOMIC, also if there is none.
 #[tactic(auto, unfolding(crate::specs::Audits::ended_of))]
 fn ended_of(globals: &BTreeMap<GlobalName, Branches>) -> Ended
     ensures ended { result ≡ end_of globals.now.entries }

@@ -54,7 +54,7 @@ impl Branches {
     }
 }
 
-/// Adds the branches of a store that have these lives.
+/// Adds the branches of a store: one for each identifier that has lives, ascending.
 ///
 /// May return `NoMemory`.
 pub fn push_branches(

@@ -8,13 +8,13 @@ use xa_xid::{Statement, Xid};
 /// What an accepted statement does to a branch.
 #[derive(Clone, Copy, Debug, PartialEq, Eq)]
 pub enum Deed {
-    /// It starts it.
+    /// It starts a life of it: `XA START`.
     Starts,
     /// It writes a row in it: `PUT` or `DEL`.
     Writes,
-    /// It prepares it.
+    /// It prepares it: `XA PREPARE`.
     Prepares,
-    /// It commits it, with `ONE PHASE` or without.
+    /// It commits it: `XA COMMIT`, with `ONE PHASE` or without.
     Commits,
     /// It rolls it back: `XA ROLLBACK` or `DISCONNECT`.
     RollsBack,
@@ -31,7 +31,7 @@ fn deed_on(own: Option<Xid>, deed: Deed) -> Option<(Xid, Deed)>
 }
 
 /// Returns the deed of an accepted statement, and its branch: the one that the statement names, or `own`, the
-/// one that the session owns.
+/// one that the session owned before it. Returns None if the statement changes no life of a branch.
 pub fn deed_by(own: Option<Xid>, statement: &Statement) -> Option<(Xid, Deed)>
     ensures { result ≡ deed_said own statement.now }
 {

@@ -5,7 +5,7 @@
 pub enum Ended {
     /// Each global transaction is ATOMIC.
     AllAtomic,
-    /// Some are not.
+    /// Some global transaction isn't ATOMIC.
     SomeNotAtomic,
     /// A line of some history isn't read.
     Unread,

@@ -12,7 +12,7 @@ pub enum End {
     Committed,
     /// By an accepted `XA ROLLBACK` or `DISCONNECT`, after an accepted `PUT` or `DEL` in it.
     RolledBack,
-    /// The same, without one.
+    /// By an accepted `XA ROLLBACK` or `DISCONNECT`, without an accepted `PUT` or `DEL` in it.
     Empty,
     /// It is PREPARED at the end of the history.
     InDoubt,

@@ -23,7 +23,7 @@ fn known_branches(alloc: Global, found: Option<Branches>) -> Branches
     }
 }
 
-/// Adds a branch to those of this global transaction.
+/// Adds a branch at the end of those of this global transaction, of which there may be none yet.
 fn add(
     alloc: Global,
     globals: &mut BTreeMap<GlobalName, Branches>,

@@ -15,7 +15,7 @@ use std::alloc::Global;
 use std::collections::BTreeMap;
 use xa_xid::NoMemory;
 
-/// Appends words as a string.
+/// Appends words as a string of JSON. Callers give it only words without a byte that JSON escapes.
 fn push_string(text: &mut Vec<u8>, words: &[u8]) -> Result<(), NoMemory>
     ensures { OnOk result (text.new.items ≡ text.old.items ++ string_text words.now) }
 {
@@ -24,7 +24,7 @@ fn push_string(text: &mut Vec<u8>, words: &[u8]) -> Result<(), NoMemory>
     text.extend_from_slice(b"\"")
 }
 
-/// Appends a gtrid or a bqual as a string.
+/// Appends a gtrid or a bqual, as it is spelled in an identifier's text, as a string of JSON.
 fn push_part_string(alloc: Global, text: &mut Vec<u8>, part: &[u8]) -> Result<(), NoMemory>
     requires { length part.now ≤ text_bytes }
     ensures { OnOk result (text.new.items ≡ text.old.items ++ string_text (part_text part.now)) }
@@ -45,7 +45,7 @@ fn push_comma(text: &mut Vec<u8>, first: bool) -> Result<(), NoMemory>
     }
 }
 
-/// Appends the ends of a branch's lives.
+/// Appends the ends of a branch's lives: strings with commas between.
 fn push_ends(text: &mut Vec<u8>, ends: &[End]) -> Result<(), NoMemory>
     ensures { OnOk result (text.new.items ≡ text.old.items ++ each_json end_json ends.now) }
 {
@@ -58,7 +58,7 @@ fn push_ends(text: &mut Vec<u8>, ends: &[End]) -> Result<(), NoMemory>
     Ok(())
 }
 
-/// Appends a branch.
+/// Appends a branch as an object of JSON.
 fn push_branch(alloc: Global, text: &mut Vec<u8>, branch: &Branch) -> Result<(), NoMemory>
     ensures { OnOk result (text.new.items ≡ text.old.items ++ branch_json branch.now) }
 {
@@ -70,7 +70,7 @@ fn push_branch(alloc: Global, text: &mut Vec<u8>, branch: &Branch) -> Result<(),
     text.extend_from_slice(b"]}")
 }
 
-/// Appends branches.
+/// Appends branches as objects of JSON, with commas between.
 fn push_branches(alloc: Global, text: &mut Vec<u8>, branches: &[Branch]) -> Result<(), NoMemory>
     ensures { OnOk result (text.new.items ≡ text.old.items ++ each_json branch_json branches.now) }
 {
@@ -83,7 +83,7 @@ fn push_branches(alloc: Global, text: &mut Vec<u8>, branches: &[Branch]) -> Resu
     Ok(())
 }
 
-/// Appends what stands before the branches of a global transaction.
+/// Appends what stands before the branches of a global transaction: its formatID and gtrid.
 fn push_head(alloc: Global, text: &mut Vec<u8>, name: &GlobalName) -> Result<(), NoMemory>
     ensures { OnOk result (text.new.items ≡ text.old.items ++ head_json name.now) }
 {
@@ -93,7 +93,7 @@ fn push_head(alloc: Global, text: &mut Vec<u8>, name: &GlobalName) -> Result<(),
     text.extend_from_slice(b",\"branches\":[")
 }
 
-/// Appends what stands behind the branches of a global transaction.
+/// Appends what stands behind the branches of a global transaction: its verdict.
 fn push_tail(text: &mut Vec<u8>, branches: &[Branch]) -> Result<(), NoMemory>
     ensures { OnOk result (text.new.items ≡ text.old.items ++ tail_json branches.now) }
 {
@@ -102,7 +102,7 @@ fn push_tail(text: &mut Vec<u8>, branches: &[Branch]) -> Result<(), NoMemory>
     text.extend_from_slice(b"}")
 }
 
-/// Appends a global transaction.
+/// Appends a global transaction as an object of JSON.
 fn push_global(
     alloc: Global,
     text: &mut Vec<u8>,
@@ -116,7 +116,7 @@ fn push_global(
     push_tail(text, branches.as_slice())
 }
 
-/// Appends global transactions.
+/// Appends global transactions as objects of JSON, with commas between.
 fn push_globals(
     alloc: Global,
     text: &mut Vec<u8>,
@@ -133,7 +133,7 @@ fn push_globals(
     Ok(())
 }
 
-/// Appends how many global transactions have which verdict.
+/// Appends how many global transactions have which verdict, as members of an object.
 #[tactic(auto, unfolding(crate::specs::Written::counts_json))]
 fn push_counts(text: &mut Vec<u8>, globals: &BTreeMap<GlobalName, Branches>) -> Result<(), NoMemory>
     ensures { OnOk result (text.new.items ≡ text.old.items ++ counts_json globals.now.entries) }

@@ -66,7 +66,7 @@ fn push_life(alloc: Global, text: &mut Vec<u8>, branch: &Branch, end: End) -> Re
     text.extend_from_slice(b"\n")
 }
 
-/// Appends the lines of a branch.
+/// Appends the lines of a branch, one for each life.
 fn push_branch(alloc: Global, text: &mut Vec<u8>, branch: &Branch) -> Result<(), NoMemory>
     ensures { OnOk result (text.new.items ≡ text.old.items ++ branch_text branch.now) }
 {
@@ -87,7 +87,7 @@ fn push_branches(alloc: Global, text: &mut Vec<u8>, branches: &[Branch]) -> Resu
     Ok(())
 }
 
-/// Appends the lines of a global transaction.
+/// Appends the lines of a global transaction: its name, the lives of its branches, and its verdict.
 fn push_global(
     alloc: Global,
     text: &mut Vec<u8>,
@@ -143,7 +143,7 @@ pub fn push_count(text: &mut Vec<u8>, words: &[u8], number: u64) -> Result<(), N
     push_number(text, number)
 }
 
-/// Appends the last line.
+/// Appends the last line: how many global transactions there are, and how many have which verdict.
 #[tactic(auto, unfolding(crate::specs::Written::last_text))]
 fn push_last(text: &mut Vec<u8>, globals: &BTreeMap<GlobalName, Branches>) -> Result<(), NoMemory>
     ensures { OnOk result (text.new.items ≡ text.old.items ++ last_line globals.now.entries) }

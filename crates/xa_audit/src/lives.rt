@@ -26,7 +26,8 @@ pub struct Lives {
     pub going: Option<Life>,
 }
 
-/// Returns how a life that is rolled back ends.
+/// Returns how the life that goes on ends if it is rolled back: ROLLED BACK if it wrote, and else EMPTY, also if none
+/// goes on.
 fn dropped_end(going: Option<Life>) -> End
     ensures { result ≡ dropped going }
 {
@@ -42,7 +43,7 @@ fn dropped_end(going: Option<Life>) -> End
     }
 }
 
-/// Returns a life after it wrote.
+/// Returns the life that goes on as it is after a write; None if none goes on.
 fn written(going: Option<Life>) -> Option<Life>
     ensures { result ≡ option_map written_life going }
 {
@@ -55,7 +56,7 @@ fn written(going: Option<Life>) -> Option<Life>
     }
 }
 
-/// Returns a life after it was prepared.
+/// Returns the life that goes on as it is after it was prepared; None if none goes on.
 fn readied(going: Option<Life>) -> Option<Life>
     ensures { result ≡ option_map prepared_life going }
 {
@@ -79,7 +80,7 @@ impl Lives {
         }
     }
 
-    /// The life that goes on ends so.
+    /// Ends the life that goes on, in this way. The end is added also if none goes on.
     fn end(&mut self, end: End) -> Result<(), NoMemory>
         ensures { OnOk result (self.new ≡ over_by end self.old) }
     {
@@ -88,7 +89,8 @@ impl Lives {
         Ok(())
     }
 
-    /// Takes note of a deed.
+    /// Takes note of a deed: it starts a life, or changes or ends the one that goes on. If none goes on, a change does
+    /// nothing, and an end is added as one more life. A life that goes on when another starts is forgotten.
     ///
     /// May return `NoMemory`.
     pub fn note(&mut self, deed: Deed) -> Result<(), NoMemory>
@@ -118,7 +120,7 @@ impl Lives {
         }
     }
 
-    /// Returns how each life ends, in order.
+    /// Returns how each life ends, in order. One that goes on is IN DOUBT if it was prepared, and else OPEN.
     ///
     /// May return `NoMemory`.
     pub fn ends(&self, alloc: Global) -> Result<Ends, NoMemory>

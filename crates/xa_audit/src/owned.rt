@@ -13,13 +13,15 @@ pub struct Owned {
     pub places: Vec<Option<Xid>>,
 }
 
-/// Returns what a session owns after its statement was accepted.
+/// Returns the branch that a session owns after its statement was accepted, None for none. `own` is the one that it
+/// owned before.
 pub fn own_by(own: Option<Xid>, statement: &Statement) -> Option<Xid>
     ensures { result ≡ own_after own statement.now }
 {
     match statement {
         Statement::Start(xid) => Some(xid.copy()),
         Statement::Prepare(_) => None,
+        // A session that owns another branch can't commit or roll one back, so it owns none after it.
         Statement::Commit {
             xid: _,
             one_phase: _,
@@ -35,11 +37,12 @@ pub fn own_by(own: Option<Xid>, statement: &Statement) -> Option<Xid>
     }
 }
 
-/// Makes a place for a session. Each session owns what it owned.
+/// Makes a place for a session in the list. Each session owns what it owned, also after `NoMemory`.
 fn make_place(places: &mut Vec<Option<Xid>>, session: SessionNo) -> Result<(), NoMemory>
     ensures same { (at : ℕ) → slice_index_or places.new.items at None ≡ slice_index_or places.old.items at None }
     ensures there { OnOk result (session < length places.new.items) }
 {
+    // A place is the session's number, so place 0 stays without a branch.
     while places.len() <= session.get() as usize {
         places.push(None)?;
     }
@@ -56,7 +59,7 @@ impl Owned {
         }
     }
 
-    /// Returns what the session owns.
+    /// Returns the branch that the session owns, or None.
     pub fn of(&self, session: SessionNo) -> Option<Xid>
         ensures { result ≡ slice_index_or self.now.places.items session None }
     {
@@ -67,7 +70,7 @@ impl Owned {
         }
     }
 
-    /// The session owns this branch, or none.
+    /// Takes note that the session owns this branch, or none.
     ///
     /// May return `NoMemory`.
     pub fn set(&mut self, session: SessionNo, own: Option<Xid>) -> Result<(), NoMemory>

@@ -14,7 +14,7 @@ use crate::form::Form;
 use std::alloc::Global;
 use xa_lines::{PieceReader, PieceWriter, ScriptFault, read_within, write_whole};
 
-/// The greatest length of a history, in bytes: 16 MiB.
+/// The greatest length of a history, in bytes: 16 MiB, as of a record.
 const HISTORY_BYTES: usize = 16_777_216;
 
 /// The greatest number of reads for a history. A reader that gives one byte at a time needs one for each byte and one

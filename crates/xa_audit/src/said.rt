@@ -14,11 +14,11 @@ pub enum Said {
     Nothing,
     /// The session gives this statement.
     Given(SessionNo, Statement),
-    /// It isn't read; its text goes wrong at this byte.
+    /// It isn't read; its text goes wrong at this byte, from 0.
     Unread(u64),
 }
 
-/// What a session says with a text.
+/// What a line says that has this session and this text: its statement, or at which byte the text goes wrong.
 fn said_with(session: SessionNo, text: &[u8]) -> Said
     ensures { result ≡ said_by session (read_of text.now) }
 {
@@ -28,7 +28,8 @@ fn said_with(session: SessionNo, text: &[u8]) -> Said
     }
 }
 
-/// Returns what a line says. It is without its line feed.
+/// Returns what a line, given without its line feed, says: nothing, a session's statement, or that it isn't read, with
+/// the byte at which the text after the session's number goes wrong; 0 if the line doesn't begin with such a number.
 #[tactic(auto, unfolding(crate::specs::Histories::said_on))]
 pub fn read_said(line: &[u8]) -> Said
     ensures { result ≡ said_on line.now }
@@ -38,6 +39,7 @@ pub fn read_said(line: &[u8]) -> Said
     }
     match read_line(line) {
         ScriptLine::Blank => Said::Nothing,
+        // It doesn't begin with a session's number, so there is no text of a statement. The place is 0 then.
         ScriptLine::Bad => Said::Unread(0),
         ScriptLine::Given(session, text) => said_with(session, text),
     }

@@ -43,7 +43,7 @@ fn known_lives(alloc: Global, found: Option<Lives>) -> Lives
     }
 }
 
-/// Takes out the lives of a branch that are known.
+/// Takes the lives of a branch out of the map, and returns them; no lives, if it had none there.
 fn take_lives(alloc: Global, lives: &mut BTreeMap<Xid, Lives>, xid: &Xid) -> Lives
     ensures known { result ≡ unwrap_or (tree.get xid_cmp lives.old xid.now) no_lives }
     ensures taken { (other : XidSeen) → tree.get xid_cmp lives.new other
@@ -52,7 +52,7 @@ fn take_lives(alloc: Global, lives: &mut BTreeMap<Xid, Lives>, xid: &Xid) -> Liv
     known_lives(alloc, lives.remove(xid))
 }
 
-/// Takes note of a deed on a branch.
+/// Adds a deed to the lives of a branch, of which there may be none yet.
 fn note(
     alloc: Global,
     lives: &mut BTreeMap<Xid, Lives>,
@@ -82,7 +82,8 @@ impl Store {
         }
     }
 
-    /// Takes note of an accepted statement.
+    /// Takes note of an accepted statement: of what its session owns after it, and of its deed in the lives of the
+    /// deed's branch. Leaves the server.
     fn note(
         &mut self,
         alloc: Global,
@@ -100,13 +101,14 @@ impl Store {
         let own = self.owned.of(session);
         let next = own_by(self.owned.of(session), statement);
         self.owned.set(session, next)?;
+        // `own` is what the session owned before the statement: the branch of a `PUT`, `DEL` or `DISCONNECT`.
         match deed_by(own, statement) {
             None => Ok(()),
             Some((xid, deed)) => note(alloc, &mut self.lives, xid, deed),
         }
     }
 
-    /// Carries out a session's statement.
+    /// Carries out a session's statement. One that is refused changes nothing.
     fn carry_out(
         &mut self,
         alloc: Global,
@@ -119,17 +121,19 @@ impl Store {
         ensures lives { OnOk result (Notes (deed_of self.old.server session statement.now) self.old.lives
             self.new.lives) }
     {
+        // The reply comes first, since `accept` is only for accepted statements. Whether one is logged doesn't matter.
         let (reply, _) = self.server.reply(session, statement)?;
         if reply.is_refused() {
             return Ok(());
         }
         self.server.accept(session, statement)?;
         self.note(alloc, session, statement)?;
+        // By the lock law a session owns at most one branch: so what was noted as its own is what it owns.
         self.server.keeps_lock_law();
         Ok(())
     }
 
-    /// Carries out a line.
+    /// Carries out the statement of a line. A line without one, or one that isn't read, changes nothing.
     fn take_line(&mut self, alloc: Global, line: &[u8]) -> Result<(), NoMemory>
         requires { IsFollowed self.old.owned self.old.server }
         ensures server { OnOk result (self.new.server ≡ state_said self.old.server (said_on line.now)) }
@@ -145,7 +149,8 @@ impl Store {
     }
 }
 
-/// Returns the lives of each branch in a history.
+/// Returns the lives of each branch in a history, carried out by a server that holds nothing at first. Lines that
+/// aren't read change nothing.
 ///
 /// May return `NoMemory`.
 pub fn lives_of(alloc: Global, history: &[u8]) -> Result<BTreeMap<Xid, Lives>, NoMemory>

@@ -16,7 +16,7 @@ pub enum Verdict {
     Mixed,
     /// It isn't mixed, and the last life of a branch is in doubt.
     InDoubt,
-    /// It is neither, and the last life of a branch is open.
+    /// It is neither mixed nor in doubt, and the last life of a branch is open.
     Open,
 }
 
@@ -32,7 +32,7 @@ fn has_committed(ends: &[End]) -> bool
     false
 }
 
-/// How the last life ends.
+/// How the last life ends; None if there is no life.
 fn last_of(ends: &[End]) -> Option<End>
     ensures { result ≡ last_end ends.now }
 {
@@ -50,7 +50,7 @@ fn took(branch: &Branch) -> bool
     has_committed(branch.ends.as_slice())
 }
 
-/// Whether no life of the branch is, and its last is ROLLED BACK.
+/// Whether no life of the branch is COMMITTED, and its last is ROLLED BACK.
 fn failed(branch: &Branch) -> bool
     ensures { result ≡ failed_by branch.now }
 {
@@ -119,7 +119,8 @@ fn any_open(branches: &[Branch]) -> bool
     false
 }
 
-/// Returns the verdict on the global transaction that has these branches.
+/// Returns the verdict on the global transaction that has these branches: the first of MIXED, IN DOUBT, OPEN and
+/// ATOMIC that fits.
 pub fn verdict_of(branches: &[Branch]) -> Verdict
     ensures { result ≡ verdict_on branches.now }
 {

@@ -32,7 +32,7 @@ pub disconnect_adds : (old new : SessionView) → IsDisconnected old new
     → length new.known.mine ≤ length old.known.mine + 1
 disconnect_adds old new is = omega (arith, adds_so_many is.statements old new is.adds, at_most_one is.statements is.is)
 
--- what follows from an Ok and from an Err follows from a result
+-- what follows from what is known after an Ok, and from what is known after an Err, holds after any result
 pub either_way : {A E : Type 0} (P : Type 0) (result : Result A E) (ok : A → Type 0) (err : E → Type 0)
     → ((a : A) → ok a → P) → ((e : E) → err e → P)
     → IfOk result ok → IfErr result err → P
@@ -40,12 +40,13 @@ either_way P (Ok a) ok err from_ok from_err is_ok is_err = from_ok a is_ok
 either_way P (Err e) ok err from_ok from_err is_ok is_err = from_err e is_err
 
 module _ {S : Type 0} (view : S → SessionView) where
+  -- how many entries the session of a store has added is how many of its own it knows
   added_is : (stores : List S) (store : ℕ) (session : S) → slice_get stores store ≡ Some session
       → added_at view stores store ≡ length (view session).known.mine
   unfolding added_at
   added_is stores store session is = ap (added_by view) is
 
-  -- a session was used, and added at most so many
+  -- if a session was used and has at most `more` entries more, so many more at most are counted at its store
   pub added_next : (stores : List S) (store more : ℕ) (old session : S) → old ≡ get_or stores store old
       → store < length stores
       → length (view session).known.mine ≤ length (view old).known.mine + more →

@@ -40,11 +40,12 @@ Allows decisions number InOnePhase = Unit {0}
 Allows decisions number RollBack = is_decided decisions number ≡ false
 
 module _ (decisions : List Decision) (name : List ℕ) (store : ℕ) where
+  -- a session that isn't used adds nothing, which agrees with the decisions
   pub nothing_agrees : (session : SessionView) → Agrees decisions name store session session
   nothing_agrees session =
       record { statements = []; adds = adds_nothing session; each = All-nil (AgreesWith decisions name store) }
 
-  -- one statement
+  -- a call that added one statement, which agrees with the decisions, agrees with them
   pub one_agrees : (statement : Statement) (old new : SessionView) → AgreesWith decisions name store statement
       → AddsStatements (statement ∷ []) old new
       → Agrees decisions name store old new
@@ -54,7 +55,7 @@ module _ (decisions : List Decision) (name : List ℕ) (store : ℕ) where
     each = All-cons (AgreesWith decisions name store) statement [] is (All-nil (AgreesWith decisions name store));
   }
 
-  -- two
+  -- a call that added two statements, each of which agrees with the decisions, agrees with them
   pub two_agree : (first second : Statement) (old new : SessionView) → AgreesWith decisions name store first
       → AgreesWith decisions name store second
       → AddsStatements (first ∷ second ∷ []) old new → Agrees decisions name store old new
@@ -66,23 +67,28 @@ module _ (decisions : List Decision) (name : List ℕ) (store : ℕ) where
         (All-cons (AgreesWith decisions name store) second [] also (All-nil (AgreesWith decisions name store)));
   }
 
+  -- a call that added nothing agrees with the decisions
   none_agrees : (old new : SessionView) → AddsStatements [] old new → Agrees decisions name store old new
   none_agrees old new adds = record { statements = []; adds = adds; each = All-nil (AgreesWith decisions name store) }
 
+  -- a statement that wasn't carried out agrees with the decisions: it added nothing
   pub undone_agrees : (statement : Statement) (cause : Cause) (old new : SessionView) → IsUndone statement cause old new
       → Agrees decisions name store old new
   undone_agrees statement cause old new is = none_agrees old new is.adds
 
+  -- an XA END that was carried out, and then a call that added nothing, agree with the decisions
   ended_agrees : (xid : Xid) (old mid new : SessionView) → IsDone (End xid) old mid → AddsStatements [] mid new
       → Agrees decisions name store old new
   ended_agrees xid old mid new ends nothing =
       one_agrees (End xid) old new tt (adds_then (End xid ∷ []) [] old mid new ends.adds nothing)
 
+  -- an XA END that was carried out, and then a statement that wasn't, agree with the decisions
   behind_agrees : (statement : Statement) (xid : Xid) (cause : Cause) (old new : SessionView)
       → IsUndoneBehind statement xid cause old new
       → Agrees decisions name store old new
   behind_agrees statement xid cause old new is = ended_agrees xid old is.mid new is.ends is.undone.adds
 
+  -- a statement that wasn't carried out, or whose XA END wasn't, agrees with the decisions
   pub stopped_agrees : (ends : Bool) (statement : Statement) (xid : Xid) (cause : Cause) (old new : SessionView)
       → IsStopped ends statement xid cause old new
       → Agrees decisions name store old new
@@ -90,41 +96,49 @@ module _ (decisions : List Decision) (name : List ℕ) (store : ℕ) where
   stopped_agrees true statement xid cause old new (inl is) = undone_agrees (End xid) cause old new is
   stopped_agrees true statement xid cause old new (inr is) = behind_agrees statement xid cause old new is
 
+  -- a branch that wasn't finished agrees with the decisions
   pub unfinished_agrees : (ends : Bool) (statement : Statement) (xid : Xid) (cause : Cause) (old new : SessionView)
       → IsUnfinished ends statement xid cause old new → Agrees decisions name store old new
   unfinished_agrees false statement xid cause old new is = undone_agrees statement cause old new is.1
   unfinished_agrees true statement xid cause old new (inl is) = undone_agrees (End xid) cause old new is
   unfinished_agrees true statement xid cause old new (inr is) = behind_agrees statement xid cause old new is.1
 
+  -- a branch that wasn't known when it was to be finished agrees with the decisions
   pub missing_agrees : (ends : Bool) (statement : Statement) (xid : Xid) (old new : SessionView)
       → IsMissing ends statement xid old new
       → Agrees decisions name store old new
   missing_agrees false statement xid old new is = undone_agrees statement _ old new is
   missing_agrees true statement xid old new is = behind_agrees statement xid _ old new is
 
+  -- a store that preparing has reached agrees with the decisions, whether it takes part or not
   pub voted_agrees : (xid : Xid) (takes : Bool) (old new : SessionView) → IsVoted xid takes old new
       → Agrees decisions name store old new
   voted_agrees xid false old new is = subst (λ s. Agrees decisions name store old s) (sym is) (nothing_agrees old)
   voted_agrees xid true old new is = two_agree (End xid) (Prepare xid) old new tt tt is.adds
 
+  -- a store in which the work of the only participant's branch was ended agrees with the decisions, and so does any
+  -- other
   pub ends_agrees : (xid : Xid) (takes : Bool) (old new : SessionView) → IsEnded xid takes old new
       → Agrees decisions name store old new
   ends_agrees xid false old new is = subst (λ s. Agrees decisions name store old s) (sym is) (nothing_agrees old)
   ends_agrees xid true old new is = one_agrees (End xid) old new tt is.adds
 
-  -- the statement that finishes a branch agrees with the decisions that allow it
+  -- the statement that finishes the branch of a number, of eight bytes, agrees with the decisions, if they allow this
+  -- way for the number
   pub closing_agrees : (number : ℕ) → number < 2 ^ 64 → (closing : Closing) → Allows decisions number closing
       → AgreesWith decisions name store (finish_statement closing (branch_xid name number store))
   closing_agrees number fits InTwoPhases allows = (number, record { fits = fits; is = refl }, allows)
   closing_agrees number fits InOnePhase allows = (number, record { fits = fits; is = refl })
   closing_agrees number fits RollBack allows = (number, record { fits = fits; is = refl }, allows)
 
+  -- a branch that was finished by a statement that agrees with the decisions agrees with them
   closed_agrees : (ends : Bool) (statement : Statement) (xid : Xid) → AgreesWith decisions name store statement
       → (old new : SessionView)
       → IsClosed ends statement xid old new → Agrees decisions name store old new
   closed_agrees false statement xid agrees old new is = one_agrees statement old new agrees is.adds
   closed_agrees true statement xid agrees old new is = two_agree (End xid) statement old new tt agrees is.adds
 
+  -- a store that finishing has reached agrees with the decisions, if the finishing statement does
   pub settled_agrees : (ends : Bool) (statement : Statement) (xid : Xid) → AgreesWith decisions name store statement
       → (takes listed : Bool) (old new : SessionView) → Settles ends statement xid takes listed old new →
       Agrees decisions name store old new
@@ -134,7 +148,7 @@ module _ (decisions : List Decision) (name : List ℕ) (store : ℕ) where
   settled_agrees ends statement xid agrees true true old new is = missing_agrees ends statement xid old new is
 
 module _ {S : Type 0} (view : S → SessionView) (decisions : List Decision) (transaction : Transaction) where
-  -- a store's part of finishing
+  -- if the decisions allow a way of finishing for the transaction, what that does in one store agrees with them
   part_agrees : (branches : List (Option OpenBranch)) (closing : Closing) → Allows decisions transaction.number closing
       → (store : ℕ) (listed : Bool) (a b : SessionView) → SettlesIn branches transaction closing store listed a b →
       Agrees decisions transaction.name.items store a b
@@ -145,7 +159,8 @@ module _ {S : Type 0} (view : S → SessionView) (decisions : List Decision) (tr
       (closing_agrees decisions transaction.name.items store transaction.number transaction.eight_bytes closing allows)
       (takes_part transaction.participants store) listed a b is
 
-  -- however a transaction was finished
+  -- if the decisions allow a way of finishing for the transaction, what that does in each store agrees with them,
+  -- whatever the ending
   pub ending_agrees : (branches : List (Option OpenBranch)) (closing : Closing) (ending : Ending) (old new : List S)
       → Allows decisions transaction.number closing → EndsAs view branches transaction closing ending old new →
       EachStore view (Agrees decisions transaction.name.items) old new
@@ -168,7 +183,7 @@ module _ {S : Type 0} (view : S → SessionView) (decisions : List Decision) (tr
       (λ other a. nothing_agrees decisions transaction.name.items other a)
       store
 
-  -- whatever the stores voted
+  -- what the vote on a transaction did in each store agrees with any decisions, whatever the vote
   pub vote_agrees : (vote : Vote) (old new : List S) → VotesAs view transaction vote old new
       → EachStore view (Agrees decisions transaction.name.items) old new
   vote_agrees (Ready prepared) old new is store =
@@ -193,7 +208,7 @@ module _ {S : Type 0} (view : S → SessionView) (decisions : List Decision) (tr
       (sym is.1) is_before) is_after)
       (nothing_agrees decisions transaction.name.items store (view before))
 
--- a transaction that was voted on is finished as the decisions allow
+-- the decisions allow the way in which `finish_for` finishes a transaction, by whether it is decided and by its vote
 pub allows_for : (decisions : List Decision) (number : ℕ) (vote_kind : VoteKind)
     → Allows decisions number (finish_for (is_decided decisions number) vote_kind)
 allows_for decisions number vote_kind = by (is_decided decisions number) vote_kind refl

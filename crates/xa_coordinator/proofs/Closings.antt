@@ -21,7 +21,7 @@ pub ended_prepared : (xid : Xid) (old mid new : SessionView) → IsDone (End xid
 ended_prepared xid old mid new one two =
     each_then (End xid) (Prepare xid ∷ []) old mid new one (each_alone (Prepare xid) mid new two)
 
--- a branch whose work has ended is finished by its finishing statement alone
+-- what became of the finishing statement is what became of the branch, if no XA END comes before the statement
 pub said_alone : (statement : Statement) (xid : Xid) (found : Result Found Cause) (old new : SessionView)
     → SaysAs statement found old new
     → ClosesAs false statement xid found old new
@@ -29,7 +29,7 @@ said_alone statement xid (Ok Closed) old new is = is
 said_alone statement xid (Ok Missing) old new is = is
 said_alone statement xid (Err cause) old new is = is
 
--- a branch that is still ACTIVE is finished by XA END and then the finishing statement
+-- after an XA END that was carried out, what became of the finishing statement is what became of the branch
 pub said_behind : (statement : Statement) (xid : Xid) (found : Result Found Cause) (old mid new : SessionView)
     → IsDone (End xid) old mid
     → SaysAs statement found mid new → ClosesAs true statement xid found old new
@@ -38,14 +38,14 @@ said_behind statement xid (Ok Closed) old mid new ends is =
 said_behind statement xid (Ok Missing) old mid new ends is = record { mid = mid; ends = ends; undone = is }
 said_behind statement xid (Err cause) old mid new ends is = inr (is.0, record { mid = mid; ends = ends; undone = is.1 })
 
--- XA PREPARE, by its answer, behind XA END
+-- after an XA END that was carried out, what became of XA PREPARE is what became of the branch that was to be prepared
 pub prepared_behind : (xid : Xid) (said : Result (Unit {0}) Cause) (old mid new : SessionView)
     → IsDone (End xid) old mid → IsToldAs (Prepare xid) said mid new
     → PreparesAs xid said old new
 prepared_behind xid (Ok _) old mid new ends is = ended_prepared xid old mid new ends is
 prepared_behind xid (Err cause) old mid new ends is = inr (record { mid = mid; ends = ends; undone = is })
 
--- XA END comes before a rollback alone
+-- if XA END comes before the statement that finishes a branch, that statement is a rollback
 pub ends_roll_back : (closing : Closing) (working : Bool) → ends_first closing working ≡ true → closing ≡ RollBack
 ends_roll_back InTwoPhases working is = absurd (cc)
 ends_roll_back InOnePhase working is = absurd (cc)

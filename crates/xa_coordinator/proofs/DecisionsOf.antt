@@ -59,14 +59,14 @@ pub with_decided-at : (decisions : List Decision) (place number : ℕ) → place
 unfolding with_decided
 with_decided-at decisions place number is = ap (λ at. slice_set decisions at Decided) (omega arith)
 
--- recording a decision leaves decided what was
+-- a place at which Decided stands is within the list
 decided_in : (decisions : List Decision) (place : ℕ) (found : Option Decision) → slice_get decisions place ≡ found
     → decides found ≡ true
     → place < length decisions
 decided_in decisions place None is decided = absurd (cc)
 decided_in decisions place (Some decision) is decided = slice_get_within decisions place decision is
 
--- recording one decision keeps the others
+-- a number that is decided is still decided after a decision was recorded at any place
 pub decided_kept : (decisions : List Decision) (place other : ℕ) → is_decided decisions other ≡ true
     → is_decided (slice_set decisions place Decided) other ≡ true
 unfolding decision_of
@@ -84,7 +84,8 @@ decided_kept decisions place other is = by (other == 0) is
       | inr (_, apart) ↦ ap decides (get_set_other decisions place (other - 1) Decided apart) ∙ was
     ]
 
--- the loop that closes undecided numbers, from the head of the list on: one more is closed
+-- the loop that closes undecided numbers: if the first `place` are closed and the list has one there, closing that one
+-- leaves the first `place + 1` closed
 pub closed_next : (xs now : List Decision) (place : ℕ) (d : Decision)
     → now ≡ map closed_of (take place xs) ++ drop place xs → place < length now →
     slice_set now place (closed_of (get_or now place d)) ≡ map closed_of (take (place + 1) xs) ++ drop (place + 1) xs
@@ -125,7 +126,7 @@ get_closed [] place = refl
 get_closed (x ∷ xs) zero = refl
 get_closed (x ∷ xs) (suc place) = get_closed xs place
 
--- closing undecided numbers, seen at one number
+-- after undecided numbers were closed, the state of each number is the one that `closed_of` makes of its state before
 closed_decision : (decisions : List Decision) (number : ℕ)
     → decision_of (map closed_of decisions) number ≡ option_map closed_of (decision_of decisions number)
 unfolding decision_of

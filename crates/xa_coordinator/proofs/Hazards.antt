@@ -25,7 +25,7 @@ pub record IsListed (participants : Participants) (place : ℕ) (stores : List �
   pub participate : All (λ store. takes_part participants store ≡ true) stores
   pub short : length stores ≤ place
 
--- the loop over stores: one that isn't listed
+-- the loop over stores: if the stores listed so far are below this place, they are below the next one
 pub listed_skip : (participants : Participants) (place : ℕ) (stores : List ℕ) → IsListed participants place stores
     → IsListed participants (place + 1) stores
 listed_skip participants place stores is = record {
@@ -35,7 +35,7 @@ listed_skip participants place stores is = record {
   short = omega (arith, is.short);
 }
 
--- a greater store's number behind an ascending list
+-- an ascending list with a number behind it that is greater than all of its own ascends
 ascends_last : (stores : List ℕ) (last : ℕ) → Ascends stores → All (λ store. store < last) stores
     → Ascends (stores ++ last ∷ [])
 ascends_last [] last ascending below = (All-nil (λ later. last < later), tt)
@@ -95,7 +95,7 @@ same_listed stores place store less =
     or_false true = refl
     or_false false = refl
 
--- what holds of the stores that were passed, by the list
+-- what finishing did in a store that it has passed, if the list of stores whose branch wasn't known is this one
 abbrev pub SettledBy : List (Option OpenBranch) → Transaction → Closing → List ℕ → ℕ → SessionView → SessionView
     → Type 0
 SettledBy branches transaction closing stores store =
@@ -104,6 +104,7 @@ SettledBy branches transaction closing stores store =
 module _ {S : Type 0} (view : S → SessionView) (branches : List (Option OpenBranch)) (transaction : Transaction)
     (closing : Closing) (stores : List ℕ)
     (place : ℕ) where
+  -- the loop over stores passes one that takes no part: nothing was to be done there
   pub settled_skip : (old now : List S) → takes_part transaction.participants place ≡ false
       → Reached view (SettledBy branches transaction closing stores) place old now
       → Reached view (SettledBy branches transaction closing stores) (place + 1) old now
@@ -113,6 +114,8 @@ module _ {S : Type 0} (view : S → SessionView) (branches : List (Option OpenBr
       (finish_statement closing (branch_of transaction place))
       (branch_of transaction place) takes (lists_store stores place) a a) (sym out) refl)
 
+  -- what finishing did in a participant, with its branch known or not, is what `SettledBy` says by another list, if
+  -- that list has the participant exactly if its branch wasn't known
   settled_as : (stores' : List ℕ) (listed : Bool) → takes_part transaction.participants place ≡ true
       → lists_store stores' place ≡ listed
       → (a b : SessionView) →
@@ -127,6 +130,7 @@ module _ {S : Type 0} (view : S → SessionView) (branches : List (Option OpenBr
       (finish_statement closing (branch_of transaction place))
       (branch_of transaction place) true l a b) (sym is) settled)
 
+  -- the loop over stores: one more participant's branch was finished, and the list stays as it is
   settled_closed : (old now next : List S) → takes_part transaction.participants place ≡ true
       → IsListed transaction.participants place stores
       → Reached view (SettledBy branches transaction closing stores) place old now → ChangesAt place now next →
@@ -141,6 +145,7 @@ module _ {S : Type 0} (view : S → SessionView) (branches : List (Option OpenBr
       (branch_of transaction place)) (SettledBy branches transaction closing stores place)
       (settled_as stores false takes (not_listed transaction.participants place stores listed)) now next is)
 
+  -- the loop over stores: one more participant's branch wasn't known, and the store goes to the end of the list
   settled_missing : (old now next : List S) → takes_part transaction.participants place ≡ true
       → Reached view (SettledBy branches transaction closing stores) place old now → ChangesAt place now next →
       AtStore view place (IsMissing (ends_in branches transaction closing place)
@@ -159,7 +164,7 @@ module _ {S : Type 0} (view : S → SessionView) (branches : List (Option OpenBr
       (branch_of transaction place)) (SettledBy branches transaction closing (stores ++ place ∷ []) place)
       (settled_as (stores ++ place ∷ []) true takes (last_listed stores place)) now next is)
 
-  -- one store more, whatever its branch came to
+  -- the loop over stores: one more participant's branch was finished, or wasn't known and is listed
   pub settled_next : (stores' : List ℕ) (old now next : List S) → takes_part transaction.participants place ≡ true
       → IsListed transaction.participants place stores → Reached view
       (SettledBy branches transaction closing stores) place old now → ChangesAt place now next →

@@ -19,7 +19,8 @@ use Rattle.xa_coordinator.specs.declared.branches.OpenBranch.{OpenBranch}
 use Rattle.xa_coordinator.proofs.Places.{get_set_other, get_set_is, get_before_set}
 
 module _ {S : Type 0} (view : S → SessionView) (name : List ℕ) where
-  -- a session was used, and the coordinator keeps another mark of its store
+  -- if each branch that the coordinator notes is open there, it stays so after one session was replaced and another
+  -- mark was noted for its store, if the session has the marked branch open
   pub marked : (stores : List S) (branches : List (Option OpenBranch)) (store : ℕ) (session : S)
       (mark : Option OpenBranch)
       → OpenThere view name stores branches →
@@ -40,7 +41,8 @@ module _ {S : Type 0} (view : S → SessionView) (name : List ℕ) where
             (sym (get_set_other branches store at mark apart) ∙ is_marked)
       ]
 
-  -- a session was used, and has the same open
+  -- if each branch that the coordinator notes is open there, it stays so after one session was used that has the same
+  -- open as before
   pub unmarked : (stores : List S) (branches : List (Option OpenBranch)) (store : ℕ) (old session : S)
       → old ≡ get_or stores store old
       → OpenThere view name stores branches →
@@ -58,7 +60,8 @@ module _ {S : Type 0} (view : S → SessionView) (name : List ℕ) where
         | inr (_, apart) ↦ kept at other branch (sym (get_set_other stores store at session apart) ∙ is_there) is_marked
       ]
 
-  -- a fact of the session that was used is one of its store
+  -- if a fact holds of a store's session before and after it was used, it holds at the store in the list that has the
+  -- used session
   pub at_place : (fact : SessionView → SessionView → Type 0) (stores : List S) (store : ℕ) (old session : S)
       → old ≡ get_or stores store old
       → fact (view old) (view session) →
@@ -79,7 +82,8 @@ changes_at stores store session =
           get_set_other stores store other session apart;
     }
 
--- a statement that was carried out leaves open what it says
+-- after a statement that was carried out, the session has the branch open that the coordinator notes for it, if that is
+-- one that the statement leaves open
 pub leaves_association : (name : List ℕ) (store : ℕ) (statement : Statement) (mark : Option OpenBranch)
     (old new : SessionView)
     → LeavesOpen name store statement mark

@@ -22,7 +22,7 @@ use Rattle.xa_session.specs.declared.answer.Answer.{Answer}
 use Rattle.xa_coordinator.specs.OpenBranches.{association_seen}
 use Rattle.xa_coordinator.specs.Recovery.{IsDisconnected, ListsPrepared}
 
--- after an answered DISCONNECT its session has nothing open, and added at most that
+-- after an answered DISCONNECT its session has nothing open, and has added at most the DISCONNECT
 pub disconnected_as : (answer : Answer) (old new : SessionView) → LockLaw new.base → StaysOfLog old new
     → IsAnswered old.base Disconnect answer old.known new.known → Takes 1 old.left new.left → IsDisconnected old new
 disconnected_as answer old new law stays is takes = by (enters there old.known.number Disconnect) refl

@@ -21,7 +21,7 @@ use Rattle.xa_session.specs.View.{SessionView}
 use Rattle.xa_coordinator.specs.Branch.{branch_xid, IsBranchOf}
 use Rattle.xa_coordinator.specs.Recovery.{IsNamed, ListsPrepared, NoneLeft}
 
--- the first place + 1 identifiers are the first and the one at the place
+-- the first place + 1 identifiers are the first `place` and the one at the place
 pub take_next : (xs : List Xid) (place : ℕ) (x : Xid) → slice_get xs place ≡ Some x
     → take (place + 1) xs ≡ take place xs ++ x ∷ []
 take_next xs place x is = ap (λ n. take n xs) (add-one place) ∙ by xs place is
@@ -47,13 +47,13 @@ any_there p (y ∷ ys) (suc place) x there is = ap (λ b. p y || b) (any_there p
     or_true true = refl
     or_true false = refl
 
--- a branch of the coordinator's naming is the one that it names so
+-- an identifier that is that of a number's branch in a store is equal to the one that the coordinator gives that branch
 pub same_branch : (name : List ℕ) (number store : ℕ) (xid : Xid) → IsBranchOf name number store xid
     → same_xid (branch_xid name number store) xid ≡ true
 same_branch name number store xid is = ap (same_xid (branch_xid name number store)) is.is
     ∙ same_itself xids_total exact_xids (branch_xid name number store)
 
--- an identifier that isn't of its naming is none of its branches
+-- an identifier that isn't of the coordinator's naming isn't equal to that of any branch of it in the store
 apart_branch : (name : List ℕ) (number store : ℕ) → number < 2 ^ 64 → (xid : Xid) → (IsNamed name store xid → ⊥)
     → same_xid (branch_xid name number store) xid ≡ false
 apart_branch name number store fits xid out =
@@ -71,7 +71,7 @@ none_named_in name store xids none number fits =
     (All-weaker (λ xid. IsNamed name store xid → ⊥) (λ xid. same_xid (branch_xid name number store) xid ≡ false)
     (apart_branch name number store fits) xids none)
 
--- if one identifier more isn't of the coordinator's naming, none up to there is
+-- if none of the first `place` identifiers is of the coordinator's naming, nor the next one, none up to that one is
 pub none_more : (name : List ℕ) (store : ℕ) (xids : List Xid) (place : ℕ) (xid : Xid) → slice_get xids place ≡ Some xid
     → (IsNamed name store xid → ⊥)
     → All (λ x. IsNamed name store x → ⊥) (take place xids) →
@@ -80,14 +80,14 @@ none_more name store xids place xid there out none =
     subst (All (λ x. IsNamed name store x → ⊥)) (sym (take_next xids place xid there))
     (All-push (λ x. IsNamed name store x → ⊥) (take place xids) xid none out)
 
--- what the list says of a branch is what is prepared
+-- a branch is prepared, after all that the session has seen, exactly if the list that XA RECOVER answered has it
 pub listed_prepared : (xids : List Xid) (place : ℕ) (old new : SessionView) → ListsPrepared xids place old new
     → (xid : Xid)
     → is_prepared (state_after new.base new.known.seen) xid ≡ list_any (same_xid xid) xids
 listed_prepared xids place old new is xid =
     sym (ap (list_any (same_xid xid)) is.list ∙ prepared_exactly (state_after new.base new.known.seen) xid)
 
--- a store whose XA RECOVER lists none of its branches has none of them prepared
+-- if the list that XA RECOVER answered has no branch of the coordinator's naming, none is prepared in the store
 pub none_left_there : (name : List ℕ) (store : ℕ) (xids : List Xid) (place : ℕ) (old new : SessionView)
     → ListsPrepared xids place old new
     → ((number : ℕ) → number < 2 ^ 64 → list_any (same_xid (branch_xid name number store)) xids ≡ false) →

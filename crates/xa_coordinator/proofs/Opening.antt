@@ -14,7 +14,7 @@ use Rattle.xa_coordinator.specs.OpenBranches.{is_active, works_for, has_working_
 abbrev branch_with : ℕ → Phase → OpenBranch
 branch_with number phase = record { number = number; phase = phase }
 
--- the branch that takes work is open there
+-- if `has_working_branch` is true of a store and a number, what is open there is the branch of that number, ACTIVE
 pub working : (branches : List (Option OpenBranch)) (store number : ℕ) → has_working_branch branches store number ≡ true
     → IsWorking branches store number
 unfolding has_working_branch
@@ -32,20 +32,22 @@ working branches store number is = by (slice_get branches store) refl is
     by (Some (Some branch)) there e =
         there ∙ ap (λ (b : OpenBranch). Some (Some b)) (of_phase branch.phase branch.number e)
 
--- what is open in another store tells nothing of it
+-- if the coordinator has open in a store what it had, whether that is the number's branch, ACTIVE, is as before
 pub working_kept : (old new : List (Option OpenBranch)) (store number : ℕ) → slice_get new store ≡ slice_get old store
     → has_working_branch new store number ≡ has_working_branch old store number
 unfolding has_working_branch
 working_kept old new store number same = ap (works_for number) same
 
--- what is as before up to a store is so up to each later one that wasn't spoken to
+-- if what is open is as before in the stores that take no part and in those from a place on, it is so from each later
+-- place on, too
 pub keeps_farther : (participants : Participants) (place farther : ℕ) (old new : List (Option OpenBranch))
     → place ≤ farther
     → KeepsOpen participants place old new → KeepsOpen participants farther old new
 keeps_farther participants place farther old new less keeps =
     record { apart = keeps.apart; behind = λ store from. keeps.behind store (omega arith) }
 
--- a store that takes part was spoken to
+-- if what is open is as before in the stores that take no part and in those from a place on, the store there takes
+-- part, and then only this one is changed, it is so from the next place on
 pub keeps_next : (participants : Participants) (place : ℕ) (old now next : List (Option OpenBranch))
     → KeepsOpen participants place old now
     → takes_part participants place ≡ true → ChangesAt place now next →

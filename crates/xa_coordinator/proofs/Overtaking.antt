@@ -67,7 +67,7 @@ walked_none decisions = record {
 
 module _ (decisions : List Decision) (place : ℕ) (undecided : Option ℕ)
     (walked : Walked decisions place undecided) where
-  -- a number behind an undecided one is closed
+  -- if the walk has met an undecided number and a closed one comes next, the undecided one is overtaken
   pub overtaken_at : (first : ℕ) → undecided ≡ Some first → slice_get decisions place ≡ Some Closed
       → IsOvertaken decisions first
   overtaken_at first is closed = record {
@@ -77,7 +77,8 @@ module _ (decisions : List Decision) (place : ℕ) (undecided : Option ℕ)
     closed = at_place decisions place (Some Closed) closed;
   }
 
-  -- one number more was looked at
+  -- the walk goes on by one number: `now` is the first undecided one up to there, and if the number looked at is
+  -- closed, none was undecided before it
   step : (decision : Decision) (now : Option ℕ) → slice_get decisions place ≡ Some decision
       → ((number : ℕ) → now ≡ Some number → (decision_of decisions number ≡ Some Undecided) × (number ≤ place + 1))
       → ((number earlier : ℕ) → now ≡ Some number → decision_of decisions earlier ≡ Some Undecided → number ≤ earlier)
@@ -103,22 +104,24 @@ module _ (decisions : List Decision) (place : ℕ) (undecided : Option ℕ)
         | inr apart ↦ walked.behind number later less (omega (arith, apart, within)) given shut
       ]
 
-  -- all were looked at
+  -- if the walk has looked at all numbers, none is overtaken
   pub walked_all : length decisions ≤ place → (number : ℕ) → IsOvertaken decisions number → ⊥
   walked_all all number it =
       walked.behind number it.later it.behind (omega (arith, all, within_list decisions it.later Closed it.closed))
       it.undecided it.closed
 
   module _ (fallback : Decision) (below : place < length decisions) where
+    -- what the program reads at a place within the list stands there
     read : (decision : Decision) → get_or decisions place fallback ≡ decision
         → slice_get decisions place ≡ Some decision
     read decision is = slice_get-get_or decisions place fallback below ∙ ap Some is
 
+    -- if the walk has met an undecided number and the program reads a closed one next, the undecided one is overtaken
     pub overtaken_here : (first : ℕ) → undecided ≡ Some first → get_or decisions place fallback ≡ Closed
         → IsOvertaken decisions first
     overtaken_here first is closed = overtaken_at first is (read Closed closed)
 
-    -- an undecided number, the first one
+    -- the walk goes on by an undecided number, if it has met none before: this is the first
     pub step_first : undecided ≡ None → get_or decisions place fallback ≡ Undecided
         → Walked decisions (place + 1) (Some (place + 1))
     step_first none is = step Undecided (Some (place + 1)) (read Undecided is)
@@ -137,7 +140,8 @@ module _ (decisions : List Decision) (place : ℕ) (undecided : Option ℕ)
               (λ within. walked.none none earlier within given),
         )
 
-    -- any other
+    -- the walk goes on by any other number: one that is undecided only if one was met before, and closed only if none
+    -- was
     pub step_on : (decision : Decision) → get_or decisions place fallback ≡ decision
         → (decision ≡ Undecided → undecided ≢ None) → (decision ≡ Closed → undecided ≡ None)
         → Walked decisions (place + 1) undecided

@@ -29,16 +29,17 @@ use Rattle.xa_coordinator.proofs.Walk.{at_weaker, at_same}
 use Rattle.xa_coordinator.proofs.Settling.{IsBroken, recovered_agrees, broken_agrees, still_agrees}
 use Rattle.xa_coordinator.proofs.Agreeing.{nothing_agrees}
 
--- the places below a number are free, and those from it on are as they were
+-- nothing is open in the stores below a number, and in those from it on what is open is as it was
 pub record FreesOpen (place : ℕ) (old new : List (Option OpenBranch)) : Type 0 where
   pub below : (store : ℕ) → store < place → slice_get new store ≡ Some None
   pub behind : (store : ℕ) → place ≤ store → slice_get new store ≡ slice_get old store
 
--- before the first store nothing was freed
+-- before the first store was recovered, what is open is as it was in all
 pub frees_none : (branches : List (Option OpenBranch)) → FreesOpen 0 branches branches
 frees_none branches = record { below = λ store none. absurd (omega arith); behind = λ store from. refl }
 
--- the loop over stores: in one more nothing is open
+-- the loop over stores: if nothing is open in the stores below this one, and then only this one changes and has nothing
+-- open, nothing is open in those below the next
 pub frees_next : (place : ℕ) (old now next : List (Option OpenBranch)) → FreesOpen place old now
     → ChangesAt place now next → slice_get next place ≡ Some None
     → FreesOpen (place + 1) old next
@@ -51,13 +52,13 @@ frees_next place old now next frees changes free = record {
   behind = λ store from. changes.others store (omega arith) ∙ frees.behind store (omega arith);
 }
 
--- in the stores up to the one that was just recovered nothing is open
+-- in the stores below the one that was just spoken to nothing is open
 pub frees_below : (place : ℕ) (old now next : List (Option OpenBranch)) → FreesOpen place old now
     → ChangesAt place now next → (store : ℕ) → store < place
     → slice_get next store ≡ Some None
 frees_below place old now next frees changes store less = changes.others store (omega arith) ∙ frees.below store less
 
--- in the stores behind the one that was just recovered, what is open is as before
+-- in the stores above the one that was just spoken to, what is open is as before
 pub frees_behind : (place : ℕ) (old now next : List (Option OpenBranch)) → FreesOpen place old now
     → ChangesAt place now next → (store : ℕ) → place + 1 ≤ store
     → slice_get next store ≡ slice_get old store
@@ -87,6 +88,7 @@ module _ {S : Type 0} (view : S → SessionView) (decisions : List Decision) (na
     pub rolled_back : report.rolled_back ≡ sum_by (λ one. one.0.rolled_back) found
     pub missing : report.missing ≡ sum_by (λ one. one.0.missing) found
 
+  -- before the first store, an empty report has what was found in the stores below it: nothing
   pub recovers_none : (report : Report) (old : List S) → report.fronts.items ≡ [] → report.committed ≡ 0
       → report.rolled_back ≡ 0 → report.missing ≡ 0
       → RecoversBelow 0 report old old
@@ -100,7 +102,7 @@ module _ {S : Type 0} (view : S → SessionView) (decisions : List Decision) (na
     missing = missing;
   }
 
-  -- one store more
+  -- the loop over stores: one more was recovered, and the report has grown by its place and by what was counted there
   pub recovers_next : (place : ℕ) (report more : Report) (one : Tally × ℕ) (old now next : List S)
       → RecoversBelow place report old now
       → ChangesAt place now next → AtStore view place (IsRecovered decisions name place one.0 one.1) now next →
@@ -133,7 +135,7 @@ module _ {S : Type 0} (view : S → SessionView) (decisions : List Decision) (na
             ∙ sym (sum_by_push (λ (o : Tally × ℕ). o.0.missing) so_far.found one);
       }
 
-  -- all of them
+  -- once the loop has passed all stores, all are recovered, and the report is the recovery's
   pub recovers_all : (place : ℕ) (report : Report) (old now : List S) → RecoversBelow place report old now
       → place ≡ length old
       → Recovers view decisions name report old now
@@ -148,7 +150,7 @@ module _ {S : Type 0} (view : S → SessionView) (decisions : List Decision) (na
     missing = so_far.missing;
   }
 
-  -- what was broken, whatever the coordinator has open
+  -- if the recovery of a store failed, one of its statements wasn't carried out (without what is open there)
   broken_at : (place : ℕ) (cause : Cause) (marks marks' : List (Option OpenBranch)) (old new : List S)
       → BreaksBy view decisions name place cause marks marks' old new
       → AtStore view place (IsBroken decisions name place cause) old new
@@ -156,13 +158,16 @@ module _ {S : Type 0} (view : S → SessionView) (decisions : List Decision) (na
   broken_at place (CauseSession fault) marks marks' old new (inr is) = λ a b is_a is_b. inr (is.1 a b is_a is_b)
   broken_at place (CauseRefused error) marks marks' old new is = is.1
 
-  -- the store behind those that were recovered was as at first
+  -- if the stores below this one were recovered first, what then holds of this one holds since the beginning: it was
+  -- as at first
   here_at : (place : ℕ) (report : Report) (last : SessionView → SessionView → Type 0) (old now next : List S)
       → RecoversBelow place report old now
       → AtStore view place last now next → AtStore view place last old next
   here_at place report last old now next so_far is =
       λ a b is_a is_b. is a b (so_far.reached.behind place (omega arith) ∙ is_a) is_b
 
+  -- if the stores below this one were recovered first, and then its recovery failed for this cause, it failed so since
+  -- the beginning
   broke_by : (place : ℕ) (report : Report) (cause : Cause) (marks now_marks marks' : List (Option OpenBranch))
       (old now next : List S)
       → RecoversBelow place report old now → slice_get now_marks place ≡ slice_get marks place →
@@ -182,7 +187,8 @@ module _ {S : Type 0} (view : S → SessionView) (decisions : List Decision) (na
         (CauseRefused error) after) old now next so_far is.1,
   )
 
-  -- and what the coordinator has open there
+  -- if the stores below this one were recovered first, and then its recovery failed with this fault, it failed so since
+  -- the beginning
   pub breaks_there : (place : ℕ) (report : Report) (fault : RecoverFault)
       (marks now_marks marks' : List (Option OpenBranch)) (old now next : List S)
       → RecoversBelow place report old now → slice_get now_marks place ≡ slice_get marks place
@@ -212,7 +218,7 @@ module _ {S : Type 0} (view : S → SessionView) (decisions : List Decision) (na
       (broke_by place report (CauseRefused error) marks now_marks marks' old now next so_far same
       (subst (λ n. BreaksBy view decisions name n (CauseRefused error) now_marks marks' now next) (sym here) is))
 
-  -- the store at which it came to no end
+  -- if the stores below one are recovered, and the recovery of that one failed, the recovery of all broke off there
   pub breaks_at : (place : ℕ) (report : Report) (fault : RecoverFault)
       (marks now_marks marks' : List (Option OpenBranch)) (old now next : List S)
       → place < length old → RecoversBelow place report old now → slice_get now_marks place ≡ slice_get marks place
@@ -230,24 +236,26 @@ module _ {S : Type 0} (view : S → SessionView) (decisions : List Decision) (na
         ∙ so_far.reached.behind store (omega (arith, from, asked));
   }
 
-  -- a cause is told as the fault of the store
+  -- if the recovery of a store failed for a cause, it failed with the fault that `fault_by` makes of it
   pub breaks_by : (place : ℕ) (cause : Cause) (marks marks' : List (Option OpenBranch)) (old next : List S)
       → BreaksBy view decisions name place cause marks marks' old next
       → BreaksHere view decisions name (fault_by place cause) marks marks' old next
   breaks_by place (CauseSession fault) marks marks' old next is = is
   breaks_by place (CauseRefused error) marks marks' old next is = is
 
+  -- the fault that `fault_by` makes of a cause says that the stores up to this one were spoken to
   pub asked_for : (place : ℕ) (cause : Cause) → asked_by_fault (fault_by place cause) ≡ place + 1
   asked_for place (CauseSession fault) = refl
   asked_for place (CauseRefused error) = refl
 
-  -- whatever it came to agrees with the decisions
+  -- what a recovery of all stores added in each agrees with the decisions
   pub recovers_agree : (report : Report) (old now : List S) → Recovers view decisions name report old now
       → EachStore view (Agrees decisions name) old now
   recovers_agree report old now is store =
       at_weaker view store (RecoveredBy decisions name is.found store) (Agrees decisions name store)
       (λ a b by. recovered_agrees decisions name store by.0.0 by.0.1 a b by.2) old now (is.each store)
 
+  -- if a recovery ended at a store, and what it did there agrees with the decisions, what it did in each store does
   ends_agree : (place : ℕ) (last : SessionView → SessionView → Type 0) (old new : List S)
       → ((a b : SessionView) → last a b → Agrees decisions name place a b) →
       EndsAt view (λ other before after. (one : Tally × ℕ)
@@ -258,6 +266,7 @@ module _ {S : Type 0} (view : S → SessionView) (decisions : List Decision) (na
       (λ other a b by. recovered_agrees decisions name other by.0.0 by.0.1 a b by.1) at_last
       (λ other a. nothing_agrees decisions name other a)
 
+  -- what a recovery that failed added in each store agrees with the decisions
   pub breaks_agree : (fault : RecoverFault) (marks marks' : List (Option OpenBranch)) (old new : List S)
       → BreaksOff view decisions name fault marks marks' old new → EachStore view (Agrees decisions name) old new
   breaks_agree (Session store fault) marks marks' old new is =
@@ -289,7 +298,7 @@ module _ {S : Type 0} (view : S → SessionView) (decisions : List Decision) (na
         behind = λ other more. is.behind other (omega (arith, more));
       })
 
-  -- whatever it answers
+  -- what a recovery added in each store agrees with the decisions, whether it succeeded or failed
   pub ends_as : (result : Result Report RecoverFault) (marks marks' : List (Option OpenBranch)) (old new : List S)
       → IfOk result (λ report. Recovers view decisions name report old new)
       → IfErr result (λ fault. BreaksOff view decisions name fault marks marks' old new) →

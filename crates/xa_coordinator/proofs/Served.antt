@@ -23,7 +23,8 @@ use Rattle.xa_coordinator.specs.Watched.{known_by, HasSeenOwn, AllEntered, Serve
 use Rattle.xa_coordinator.specs.declared.watch.Watch.{Watch}
 use Rattle.decision_log.proofs.Histories.{own_last, own_other}
 
--- what a session knows, from the parts that differ
+-- what a session of an unbounded store knows, of its number, what it has seen, its own entries and its looks: it has
+-- tried once for each entry of its own, and has looked so often since
 abbrev known_from : ℕ → List Entry → List Entry → ℕ → Known
 known_from session seen mine looks =
     record { number = session; seen = seen; mine = mine; looks = looks; tries = length mine; since = looks }
@@ -46,7 +47,7 @@ begins_take (suc count) (x ∷ xs) = ap (λ rest. x ∷ rest) (begins_take count
 whole_taken : (count : ℕ) (xs : List Entry) → count ≡ length xs → take count xs ≡ xs
 whole_taken count xs is = take_all count xs (omega (arith, is))
 
--- with no entry the state is the base, and nothing was seen
+-- the state after an empty history is the base
 pub starts : (base : State) → state_after base [] ≡ base
 starts base = state_after-nil base
 
@@ -85,16 +86,19 @@ entered_more base history last entering number all = record {
 module _ (session : ℕ) (statement : Statement) (answer : Answer) (base old new : State) (history history' : List Entry)
     (watch watch' : Watch)
     (serves : Serves session statement answer old history watch new history' watch') where
+  -- the statement as an entry of its session
   abbrev entry : Entry
   entry = entry_of session statement
 
+  -- the history has grown by the statement's entry, and the server has carried it out
   abbrev grown : Type 0
   grown = (history' ≡ history ++ entry ∷ []) × (new ≡ after old session statement)
 
+  -- the history and the server are as before
   abbrev kept : Type 0
   kept = (history' ≡ history) × (new ≡ old)
 
-  -- a statement enters or doesn't
+  -- what follows if the statement enters and its entry was added, and if it doesn't and nothing changed, holds
   either : (P : Type 0) → (enters old session statement ≡ true → grown → P)
       → (enters old session statement ≡ false → kept → P) → P
   either P entered outside = by (enters old session statement) refl
@@ -103,7 +107,7 @@ module _ (session : ℕ) (statement : Statement) (answer : Answer) (base old new
       by true is = entered is (serves.entered is)
       by false is = outside is (serves.outside is)
 
-  -- the server is what the longer history leaves
+  -- if the server was what the history leaves, it is what the history leaves after the call
   pub stands_still : old ≡ state_after base history → new ≡ state_after base history'
   stands_still stands =
       either (new ≡ state_after base history')
@@ -111,7 +115,7 @@ module _ (session : ℕ) (statement : Statement) (answer : Answer) (base old new
       ∙ ap (state_after base) (sym e.0))
       (λ is e. e.1 ∙ stands ∙ ap (state_after base) (sym e.0))
 
-  -- each entry entered
+  -- if each entry of the history was logged at its place, and the session is 1 or 2, this holds after the call
   pub entered_still : old ≡ state_after base history → (1 ≤ session) × (session ≤ 2) → AllEntered base history
       → AllEntered base history'
   entered_still stands number all =
@@ -127,7 +131,8 @@ module _ (session : ℕ) (statement : Statement) (answer : Answer) (base old new
     own = ap (entries_of session) (whole_taken watch'.seen history' serves.whole);
   }
 
-  -- another session has seen what it had, and no entry is its own
+  -- if another session had seen all entries of its own, it still has: it has seen what it had, and a new entry isn't
+  -- its
   pub other_sees : (other : ℕ) (mark : Watch) → (session ≡ other → ⊥) → HasSeenOwn other mark history
       → HasSeenOwn other mark history'
   other_sees other mark apart sees =
@@ -140,6 +145,7 @@ module _ (session : ℕ) (statement : Statement) (answer : Answer) (base old new
       }))
       (λ is e. subst (HasSeenOwn other mark) (sym e.0) sees)
 
+  -- another session that had seen all entries of its own knows what it knew
   pub other_knows : (other : ℕ) (mark : Watch) → (session ≡ other → ⊥) → HasSeenOwn other mark history
       → known_by other mark history' ≡ known_by other mark history
   other_knows other mark apart sees =
@@ -149,19 +155,24 @@ module _ (session : ℕ) (statement : Statement) (answer : Answer) (base old new
       (own_other other history entry apart) refl)
       (λ is e. ap (known_by other mark) e.0)
 
+  -- what the session knew before the call
   abbrev before : Known
   before = known_by session watch history
 
+  -- what the session knows once it has looked: it has seen the whole history
   abbrev mid : Known
   mid = known_from session history (entries_of session history) (watch.looks + 1)
 
+  -- from what it knew before the call to what it knows then is a look
   looked : Looked before mid
   looked = record
       { number = refl; seen = begins_take watch.seen history; mine = refl; looks = refl; tries = refl; since = refl }
 
+  -- a server that is what the history leaves is the state at the history's end
   there : old ≡ state_after base history → old ≡ state_at base history (length history)
   there stands = stands ∙ sym (state_at-whole base history)
 
+  -- if the server was what the history leaves, the answer is the server's at the end of what the session has then seen
   is_reply : (entering : Bool) → old ≡ state_after base history → enters old session statement ≡ entering
       → IsReply base statement answer entering mid
   is_reply entering stands is = record {
@@ -170,7 +181,7 @@ module _ (session : ℕ) (statement : Statement) (answer : Answer) (base old new
     enters_is = sym is ∙ ap (λ s. enters s session statement) (there stands);
   }
 
-  -- the statement was answered
+  -- if the server was what the history leaves, the session's statement was answered
   pub served : old ≡ state_after base history → IsAnswered base statement answer before
       (known_by session watch' history')
   served stands =
@@ -197,8 +208,8 @@ module _ (session : ℕ) (statement : Statement) (answer : Answer) (base old new
       subst (IsAnswered base statement answer before) (sym same)
       (answered_outside base statement answer before mid looked (is_reply false stands is)))
 
--- however serving ends, the server is what the history leaves, both sessions have seen their own entries, and each
--- entry entered
+-- however serving ends, these facts hold after it if they held before: the server is what the history leaves, both
+-- sessions have seen their own entries, and each entry was logged at its place
 pub after_serving : (session other : ℕ) (statement : Statement) (result : Result Answer Fault) (base old new : State)
     (history history' : List Entry)
     (watch watch' mark : Watch)

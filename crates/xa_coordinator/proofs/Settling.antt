@@ -49,7 +49,8 @@ two_agreements decisions name store old mid new one two = record {
 }
 
 module _ (decisions : List Decision) (name : List ℕ) (store : ℕ) where
-  -- one branch that was found or not
+  -- a branch of the coordinator's naming that was finished as the decisions say, or wasn't known, is settled, and
+  -- counted
   pub settles : (number : ℕ) (xid : Xid) → IsBranchOf name number store xid → (tally : Tally) (decided : Bool)
       → is_decided decisions number ≡ decided
       → (found : Found) (old new : SessionView) →
@@ -68,7 +69,7 @@ module _ (decisions : List Decision) (name : List ℕ) (store : ℕ) where
       (subst (λ (b : Bool). IsUndone (finish_statement (finish_decided b) xid) (RefusedBy Nota) old new) (sym is)
       (subst (λ x. IsUndone (Rollback x) (RefusedBy Nota) old new) (sym named.is) said))
 
-  -- a branch that wasn't finished
+  -- a branch of the coordinator's naming whose finishing statement wasn't carried out, for this cause, isn't settled
   pub unsettled_by : (number : ℕ) (xid : Xid) → IsBranchOf name number store xid → (decided : Bool)
       → is_decided decisions number ≡ decided
       → (cause : Cause) (old new : SessionView) →
@@ -85,6 +86,7 @@ module _ (decisions : List Decision) (name : List ℕ) (store : ℕ) where
 
   -- ---- agreement
 
+  -- what settling one listed branch added agrees with the decisions
   one_settled_agrees : (xid : Xid) (before after : Tally) (old new : SessionView)
       → SettlesOne decisions name store xid before old after new
       → Agrees decisions name store old new
@@ -97,6 +99,7 @@ module _ (decisions : List Decision) (name : List ℕ) (store : ℕ) where
       undone_agrees decisions name store (finish_statement (finish_decided (is_decided decisions number)) xid)
       (RefusedBy Nota) old new undone
 
+  -- what settling the branches of a list added agrees with the decisions
   pub settled_agrees : (old : SessionView) (xids : List Xid) (tally : Tally) (new : SessionView)
       → Settled decisions name store old xids tally new
       → Agrees decisions name store old new
@@ -105,6 +108,7 @@ module _ (decisions : List Decision) (name : List ℕ) (store : ℕ) where
       two_agreements decisions name store old mid new (settled_agrees old xids before mid settled)
       (one_settled_agrees xid before after mid new one)
 
+  -- a DISCONNECT, or no statement, agrees with the decisions
   let_go_agrees : (statements : List Statement) → MayBe Disconnect statements
       → All (AgreesWith decisions name store) statements
   let_go_agrees statements (inl none) =
@@ -113,27 +117,32 @@ module _ (decisions : List Decision) (name : List ℕ) (store : ℕ) where
       subst (All (AgreesWith decisions name store)) (sym one)
       (All-cons (AgreesWith decisions name store) Disconnect [] tt (All-nil (AgreesWith decisions name store)))
 
+  -- what disconnecting added agrees with the decisions
   disconnected_agrees : (old new : SessionView) → IsDisconnected old new → Agrees decisions name store old new
   disconnected_agrees old new is =
       record { statements = is.statements; adds = is.adds; each = let_go_agrees is.statements is.is }
 
+  -- an answered XA RECOVER agrees with the decisions: it added nothing
   listed_agrees : (xids : List Xid) (place : ℕ) (old new : SessionView) → ListsPrepared xids place old new
       → Agrees decisions name store old new
   listed_agrees xids place old new is =
       record { statements = []; adds = is.adds; each = All-nil (AgreesWith decisions name store) }
 
+  -- what listing the prepared branches and settling them added agrees with the decisions
   finished_agrees : (tally : Tally) (old new : SessionView) → IsFinished decisions name store tally old new
       → Agrees decisions name store old new
   finished_agrees tally old new is =
       two_agreements decisions name store old is.listing new (listed_agrees is.xids is.place old is.listing is.listed)
       (settled_agrees is.listing is.xids tally new is.settled)
 
+  -- what disconnecting, listing the prepared branches and settling them added agrees with the decisions
   settled_store_agrees : (tally : Tally) (old new : SessionView) → IsSettled decisions name store tally old new
       → Agrees decisions name store old new
   settled_store_agrees tally old new is =
       two_agreements decisions name store old is.freed new (disconnected_agrees old is.freed is.disconnected)
       (finished_agrees tally is.freed new is.rest)
 
+  -- what the recovery of a store added agrees with the decisions
   pub recovered_agrees : (tally : Tally) (front : ℕ) (old new : SessionView)
       → IsRecovered decisions name store tally front old new
       → Agrees decisions name store old new
@@ -141,6 +150,7 @@ module _ (decisions : List Decision) (name : List ℕ) (store : ℕ) where
       two_agreements decisions name store old is.finished new (settled_store_agrees tally old is.finished is.settled)
       (listed_agrees is.clear.xids front is.finished new is.clear.listed)
 
+  -- what settling the branches of a list up to one that wasn't finished added agrees with the decisions
   stops_agrees : (xids : List Xid) (cause : Cause) (old new : SessionView)
       → StopsAmong decisions name store xids cause old new
       → Agrees decisions name store old new
@@ -151,6 +161,7 @@ module _ (decisions : List Decision) (name : List ℕ) (store : ℕ) where
       (finish_decided (is_decided decisions is.unsettled.number)) is.xid) cause is.mid new
       is.unsettled.undone)
 
+  -- what the recovery of a store that failed after the DISCONNECT added agrees with the decisions
   cut_off_agrees : (cause : Cause) (old new : SessionView) → IsCutOff decisions name store old cause new
       → Agrees decisions name store old new
   cut_off_agrees by old end (unlisted freed disconnected fault new undone) =
@@ -164,6 +175,7 @@ module _ (decisions : List Decision) (name : List ℕ) (store : ℕ) where
       two_agreements decisions name store old finished new (settled_store_agrees tally old finished settled)
       (undone_agrees decisions name store (Recover false) (Session fault) finished new undone)
 
+  -- what the recovery of a store of which a statement wasn't carried out added agrees with the decisions
   pub broken_agrees : (cause : Cause) (old new : SessionView) → IsBroken decisions name store cause old new
       → Agrees decisions name store old new
   broken_agrees (Session fault) old new (inl undone) =
@@ -171,6 +183,7 @@ module _ (decisions : List Decision) (name : List ℕ) (store : ℕ) where
   broken_agrees (Session fault) old new (inr is) = cut_off_agrees (Session fault) old new is
   broken_agrees (RefusedBy error) old new is = cut_off_agrees (RefusedBy error) old new is
 
+  -- what the recovery of a store that found a branch prepared at its end added agrees with the decisions
   pub still_agrees : (old new : SessionView) → IsStillPrepared decisions name store old new
       → Agrees decisions name store old new
   still_agrees old new is =
@@ -180,6 +193,7 @@ module _ (decisions : List Decision) (name : List ℕ) (store : ℕ) where
 -- ---- what a call came to, by its result
 
 module _ {S : Type 0} (view : S → SessionView) (decisions : List Decision) (name : List ℕ) (store : ℕ) where
+  -- if the prepared branches were listed, and then, after Ok, all settled, they were finished (`IsFinished`)
   pub listed_finished : (result : Result Tally Cause) (xids : List Xid) (place : ℕ) (old mid new : List S)
       → length mid ≡ length old
       → AtStore view store (ListsPrepared xids place) old mid →
@@ -192,7 +206,8 @@ module _ {S : Type 0} (view : S → SessionView) (decisions : List Decision) (na
       old mid new count listed settled
   listed_finished (Err cause) xids place old mid new count listed settled = tt
 
-  -- a listed branch wasn't finished, once the session had let go
+  -- if the prepared branches were listed, and then, after Err, one wasn't finished, the recovery is cut off for that
+  -- cause, if the session had disconnected just before
   pub unsettled_listed : (result : Result Tally Cause) (xids : List Xid) (place : ℕ) (old mid new : List S)
       → length mid ≡ length old
       → AtStore view store (ListsPrepared xids place) old mid →
@@ -207,7 +222,7 @@ module _ {S : Type 0} (view : S → SessionView) (decisions : List Decision) (na
       (λ freed listing b is stop before disconnected. unsettled freed disconnected listing xids place is cause b stop)
       old mid new count listed stops
 
-  -- it let go, and then a statement wasn't carried out
+  -- if the session disconnected, and then what follows is cut off for this cause, the recovery of the store is
   cut_off_freed : (cause : Cause) (old mid new : List S) → length mid ≡ length old
       → AtStore view store IsDisconnected old mid
       → AtStore view store (λ freed b. (before : SessionView) → IsDisconnected before freed
@@ -219,6 +234,8 @@ module _ {S : Type 0} (view : S → SessionView) (decisions : List Decision) (na
       (λ before after. IsCutOff decisions name store before cause after)
       (λ a f b is by. by a is) old mid new count freed cut
 
+  -- if the session disconnected, the coordinator has nothing open there, and then, after Err, the recovery is cut off,
+  -- the recovery of the store failed for that cause
   pub breaks_freed : (result : Result Tally Cause) (marks marks' : List (Option OpenBranch)) (old mid new : List S)
       → length mid ≡ length old
       → slice_get marks' store ≡ Some None → AtStore view store IsDisconnected old mid →
@@ -232,6 +249,7 @@ module _ {S : Type 0} (view : S → SessionView) (decisions : List Decision) (na
   breaks_freed (Err (RefusedBy error)) marks marks' old mid new count free freed cut =
       (free, cut_off_freed (RefusedBy error) old mid new count freed cut)
 
+  -- if the session disconnected, and then, after Ok, the prepared branches were finished, the store is settled
   pub freed_finished : (result : Result Tally Cause) (old mid new : List S) → length mid ≡ length old
       → AtStore view store IsDisconnected old mid
       → IfOk result (λ tally. AtStore view store (IsFinished decisions name store tally) mid new) →

@@ -146,7 +146,7 @@ cause_unanswered statement (RefusedBy error) old new is =
     refused_unanswered old.base statement (record { place = is.place; reply = Refused error }) old.known new.known
     is.answered refl
 
--- a statement whose answer has a cause of failing, over a store that stays of its log, is undone
+-- a statement that wasn't carried out for a cause, by a session that stays of its log, is undone: it added nothing
 pub is_undone : (statement : Statement) (cause : Cause) (old new : SessionView) → StaysOfLog old new
     → HasCause statement cause old new
     → IsUndone statement cause old new
@@ -162,7 +162,7 @@ is_undone statement cause old new stays why =
       why = why;
     }
 
--- a statement that was refused is undone: it added nothing
+-- a statement whose answer is a refusal is undone, for that refusal
 pub refused : (statement : Statement) (answer : Answer) (error : XaError) (old new : SessionView) → StaysOfLog old new
     → IsAnswered old.base statement answer old.known new.known → Takes 1 old.left new.left
     → answer.reply ≡ Refused error
@@ -211,7 +211,7 @@ adds_nothing session = record {
   mine = sym (append-nil session.known.mine);
 }
 
--- a statement that was carried out, and some more
+-- if a statement was carried out, and then each of some more was added, all of them were added
 pub each_then : (statement : Statement) (more : List Statement) (old mid new : SessionView) → IsDone statement old mid
     → AddsEach more mid new
     → AddsEach (statement ∷ more) old new
@@ -221,7 +221,7 @@ each_then statement more old mid new one rest = record {
       (takes_through 1 (length more) old.left mid.left new.left one.takes rest.takes);
 }
 
--- alone
+-- a statement that was carried out was added, and is all that its session was given
 pub each_alone : (statement : Statement) (old new : SessionView) → IsDone statement old new
     → AddsEach (statement ∷ []) old new
 each_alone statement old new is = record { adds = is.adds; takes = is.takes }

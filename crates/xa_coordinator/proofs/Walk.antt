@@ -8,7 +8,7 @@ use Rattle.std.proofs.lemmas.Option.{slice_get_within, slice_get-get_or}
 use Rattle.xa_session.specs.View.{SessionView}
 use Rattle.xa_coordinator.specs.Stores.{AtStore, EachStore, ChangesAt, EndsAt}
 
--- all stores below this number are done with, and the sessions of the others are as they were
+-- the fact holds of each store below this number, and the sessions of the others are as they were
 pub record Reached {S : Type 0} (view : S → SessionView) (fact : ℕ → SessionView → SessionView → Type 0) (place : ℕ)
     (old now : List S) : Type 0 where
   pub count : length now ≡ length old
@@ -21,16 +21,17 @@ pub changes_then : {S : Type 0} (store : ℕ) (old mid new : List S) → Changes
 changes_then store old mid new one two =
     record { count = two.count ∙ one.count; others = λ other apart. two.others other apart ∙ one.others other apart }
 
--- stores to which nothing is said are as before, but for one of them in which anything may have changed
+-- a list of stores that is as it was counts as one in which only this store was changed
 pub unchanged : {S : Type 0} (store : ℕ) (old : List S) → ChangesAt store old old
 unchanged store old = record { count = refl; others = λ other apart. refl }
 
--- what is found at a place is one thing
+-- if two values are found at a place, they are the same
 pub same_one : {S : Type 0} (found : _) (a b : S) → found ≡ Some a → found ≡ Some b → a ≡ b
 same_one found a b is_a is_b = cc
 
 module _ {S : Type 0} (view : S → SessionView) where
-  -- one fact of a store after another
+  -- if a fact holds of a store over one call, and another fact over the next, the fact to which both join holds over
+  -- both
   pub at_then : (store : ℕ) (f g h : SessionView → SessionView → Type 0)
       → ((a b c : SessionView) → f a b → g b c → h a c) → (old mid new : List S)
       → length mid ≡ length old →
@@ -43,14 +44,14 @@ module _ {S : Type 0} (view : S → SessionView) where
       join (view before) (view between) (view after) (one before between is_before is_between)
       (two between after is_between is_after)
 
-  -- a weaker fact
+  -- a fact that holds of a store can be weakened
   pub at_weaker : (store : ℕ) (f g : SessionView → SessionView → Type 0) → ((a b : SessionView) → f a b → g a b)
       → (old new : List S)
       → AtStore view store f old new → AtStore view store g old new
   at_weaker store f g weaken old new is =
       λ before after is_before is_after. weaken (view before) (view after) (is before after is_before is_after)
 
-  -- where nothing changed
+  -- at a store whose session is as it was, a fact holds that holds of each session that didn't change
   pub at_same : (store : ℕ) (f : SessionView → SessionView → Type 0) → ((a : SessionView) → f a a) → (old new : List S)
       → slice_get new store ≡ slice_get old store → AtStore view store f old new
   at_same store f same old new is = λ before after is_before is_after.
@@ -58,10 +59,11 @@ module _ {S : Type 0} (view : S → SessionView) where
       (same (view before))
 
   module _ (fact : ℕ → SessionView → SessionView → Type 0) where
+    -- before the first store the fact holds of those below it, of which there are none
     pub reached_none : (old : List S) → Reached view fact 0 old old
     reached_none old = record { count = refl; below = λ store none. absurd (omega arith); behind = λ store from. refl }
 
-    -- a store that isn't spoken to
+    -- the walk passes a store to which it doesn't speak, if the fact holds of a session that didn't change
     pub reached_skip : (place : ℕ) (old now : List S) → Reached view fact place old now
         → ((a : SessionView) → fact place a a)
         → Reached view fact (place + 1) old now
@@ -78,7 +80,7 @@ module _ {S : Type 0} (view : S → SessionView) where
       behind = λ store from. so_far.behind store (omega arith);
     }
 
-    -- a store that was spoken to
+    -- the walk passes a store that alone was changed, if the fact holds of it over that change
     pub reached_next : (place : ℕ) (old now next : List S) → Reached view fact place old now → ChangesAt place now next
         → AtStore view place (fact place) now next → Reached view fact (place + 1) old next
     reached_next place old now next so_far changes is = record {
@@ -96,12 +98,13 @@ module _ {S : Type 0} (view : S → SessionView) where
       behind = λ store from. changes.others store (omega arith) ∙ so_far.behind store (omega arith);
     }
 
+    -- once the walk has passed all stores, the fact holds of each
     pub reached_all : (place : ℕ) (old now : List S) → Reached view fact place old now → length old ≤ place
         → EachStore view fact old now
     reached_all place old now so_far whole store = λ before after is_before is_after.
         so_far.below store (omega (arith, slice_get_within old store before is_before)) before after is_before is_after
 
-    -- the store at which the call ended
+    -- if the walk has reached a store that alone is changed then, the call ended at this store, with what holds of it
     pub ended_at : (place : ℕ) (last : SessionView → SessionView → Type 0) (old now next : List S)
         → Reached view fact place old now → ChangesAt place now next
         → AtStore view place last now next → EndsAt view fact place last old next
@@ -113,7 +116,8 @@ module _ {S : Type 0} (view : S → SessionView) where
       behind = λ other more. changes.others other (omega arith) ∙ so_far.behind other (omega arith);
     }
 
-    -- what holds of each store, from what holds below, at and behind the last one
+    -- if a call ended at a store, a goal holds of each store that follows from the fact below it, from what holds of
+    -- the last one at it, and of each session that didn't change
     pub from_ends : (goal : ℕ → SessionView → SessionView → Type 0) (store : ℕ)
         (last : SessionView → SessionView → Type 0) (old new : List S)
         → EndsAt view fact store last old new →
@@ -130,7 +134,7 @@ module _ {S : Type 0} (view : S → SessionView) where
           ]
         ]
 
-  -- a weaker fact of the stores that were passed
+  -- a fact that holds of the stores that the walk has passed can be weakened
   pub reached_weaker : (f g : ℕ → SessionView → SessionView → Type 0) (place : ℕ) (old now : List S)
       → ((store : ℕ) → store < place → (a b : SessionView) → f store a b → g store a b) → Reached view f place old now
       → Reached view g place old now
@@ -140,7 +144,8 @@ module _ {S : Type 0} (view : S → SessionView) where
     behind = so_far.behind;
   }
 
-  -- where only one store was spoken to
+  -- if only one store was changed, a fact holds of each store that holds of that one, and elsewhere of each session
+  -- that didn't change
   pub only_at : (fact : ℕ → SessionView → SessionView → Type 0) (store : ℕ) (old new : List S) → ChangesAt store old new
       → AtStore view store (fact store) old new → ((other : ℕ) → other ≢ store → (a : SessionView) → fact other a a)
       → EachStore view fact old new

@@ -29,7 +29,7 @@ unrefused : (refused may : Bool) → (not refused && may) ≡ true → refused �
 unrefused true may is = absurd (cc)
 unrefused false may is = refl
 
--- a row statement that enters leaves the branch ACTIVE
+-- a row statement that enters leaves its session the branch that is open, ACTIVE
 row_entered : (state : State) → LockLaw state → (session : ℕ) (xid : Xid) (statement : Statement) → IsRow statement
     → association_of state session ≡ Active xid
     → enters state session statement ≡ true → association_of (after state session statement) session ≡ Active xid
@@ -56,7 +56,8 @@ row_entered state law session xid Unsupported is association entering = absurd i
 row_entered state law session xid Disconnect is association entering = absurd is
 
 module _ (statement : Statement) (answer : Answer) (xid : Xid) (old new : SessionView) where
-  -- at the answer's place the branch is ACTIVE
+  -- if the session had this branch open and ACTIVE after all that it had seen before the call, it has so at the
+  -- answer's place
   pub active_there : LockLaw new.base → StaysOfLog old new → entries_of old.known.number old.known.seen ≡ old.known.mine
       → entries_of new.known.number new.known.seen ≡ new.known.mine → association_seen old ≡ Active xid →
       IsAnswered old.base statement answer old.known new.known
@@ -65,7 +66,8 @@ module _ (statement : Statement) (answer : Answer) (xid : Xid) (old new : Sessio
       association_at old.base (subst LockLaw stays.base law) statement answer old.known new.known is own_old own_new
       ∙ association
 
-  -- and it stays so
+  -- if the session had this branch open and ACTIVE before the call, and a row statement was answered, it has so after
+  -- the call, too
   pub active_after : LockLaw new.base → StaysOfLog old new → entries_of old.known.number old.known.seen ≡ old.known.mine
       → entries_of new.known.number new.known.seen ≡ new.known.mine → association_seen old ≡ Active xid
       → IsRow statement →

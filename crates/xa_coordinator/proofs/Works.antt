@@ -122,7 +122,7 @@ row_agrees decisions name store (Put key value) is = tt
 row_agrees decisions name store (Del key) is = tt
 row_agrees decisions name store Disconnect is = tt
 
--- what holds of a statement holds of it or of nothing
+-- what holds of a statement holds of each element of a list that has this statement alone or is empty
 maybe_all : (P : Statement → Type 0) (statement : Statement) (list : List Statement) → MayBe statement list
     → P statement → All P list
 maybe_all P statement list (inl is) holds = subst (All P) (sym is) (All-nil P)
@@ -143,6 +143,8 @@ work_agrees decisions name store xid row is old new work = record {
 }
 
 module _ {S : Type 0} (view : S → SessionView) where
+  -- if work changed only one store, and added at most XA START and the row statement there, what each store added
+  -- agrees with the decisions
   pub work_agrees_each : (decisions : List Decision) (name : List ℕ) (store : ℕ) (xid : Xid) (row : Statement)
       → IsRow row → (old new : List S)
       → ChangesAt store old new → AtStore view store (AddsWork xid row) old new
@@ -156,7 +158,7 @@ module _ {S : Type 0} (view : S → SessionView) where
   -- ---- what work came to
 
   module _ (marks marks' : List (Option OpenBranch)) (old new : Transaction) (store : ℕ) (row : Statement) where
-    -- the branch was open
+    -- what became of a row statement in a branch that was open and ACTIVE is what became of the work
     pub works_open : (result : Result Reply WorkFault) (before after : List S)
         → ((s : S) → slice_get before store ≡ Some s → association_seen (view s) ≡ Active (branch_of old store))
         → takes_part new.participants store ≡ true →
@@ -186,7 +188,7 @@ module _ {S : Type 0} (view : S → SessionView) where
     works_open (Err (Refused error)) before after association takes mark is = absurd is
     works_open (Err Lost) before after association takes mark is = absurd is
 
-    -- it was started
+    -- what became of a row statement in a branch that was started just before is what became of the work
     pub works_started : (result : Result Reply WorkFault) (before mid after : List S) → length mid ≡ length before →
         AtStore view store (IsDone (Start (branch_of old store))) before mid → takes_part new.participants store ≡ true
         → IsWorking marks' store old.number →
@@ -212,7 +214,7 @@ module _ {S : Type 0} (view : S → SessionView) where
     works_started (Err (Refused error)) before mid after count started takes mark is = absurd is
     works_started (Err Lost) before mid after count started takes mark is = absurd is
 
-    -- in every case at most two statements were added
+    -- whatever became of the work, it added at most XA START and the row statement
     pub works_add : (result : Result Reply WorkFault) (before after : List S)
         → WorksAs view marks marks' old new store row result before after
         → AtStore view store (AddsWork (branch_of old store) row) before after
@@ -249,14 +251,15 @@ module _ {S : Type 0} (view : S → SessionView) where
   within_adds store xid row (Err (Refused error)) before after is = absurd is
   within_adds store xid row (Err Lost) before after is = absurd is
 
-  -- nothing was added
+  -- a statement that wasn't carried out added nothing, so at most any row statement
   pub unsaid_adds : (store : ℕ) (row statement : Statement) (cause : Cause) (before after : List S)
       → AtStore view store (IsUndone statement cause) before after → AtStore view store (AddsAtMost row) before after
   unsaid_adds store row statement cause before after is =
       at_weaker view store (IsUndone statement cause) (AddsAtMost row)
       (λ a b undone. none row a b undone.adds) before after is
 
-  -- XA START isn't carried out where the session has a branch open
+  -- an XA START that was carried out where the session had a branch open can't be, so anything follows, also that at
+  -- most the row statement was added
   pub never_started : ((s : S) → LockLaw (view s).base) → ((s : S)
       → entries_of (view s).known.number (view s).known.seen ≡ (view s).known.mine)
       → (store : ℕ) (xid : Xid) (branch : OpenBranch) (name : List ℕ) (row : Statement) (before mid after : List S)

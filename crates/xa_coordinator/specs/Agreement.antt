@@ -33,7 +33,7 @@ AgreesWith decisions name store (Rollback xid) =
     (number : ℕ) × IsBranchOf name number store xid × (is_decided decisions number ≡ false)
 AgreesWith decisions name store statement = Unit {0}
 
--- whatever was added agrees with the decisions
+-- a call added some statements to a store's history, and each of them agrees with the decisions
 pub record Agrees (decisions : List Decision) (name : List ℕ) (store : ℕ) (old new : SessionView) : Type 0 where
   pub statements : List Statement
   pub adds : AddsStatements statements old new

@@ -1,7 +1,8 @@
 -- Two sessions of a store in one value.
 --     IsLeftAlone      the session got no statement
 --     HoldsAsBefore    the sessions that a value holds beside its own got none
---     IsAnsweredSo     the session answered a statement, or failed, with this result
+--     AnswersSo        the session answered a statement, or failed, with this result
+--     IsAnsweredSo     the same, and the session stays of its log
 use Rattle.std.specs.Prelude.{◌≡◌, true, Result, Ok, Err}
 use Rattle.xa_xid.specs.declared.statement.Statement.{Statement}
 use Rattle.xa_session.specs.Answer.{IsAnswered, Fails}
@@ -9,8 +10,8 @@ use Rattle.xa_session.specs.View.{SessionView, StaysOfLog}
 use Rattle.xa_session.specs.declared.answer.Answer.{Answer}
 use Rattle.xa_session.specs.declared.fault.Fault.{Fault}
 
--- a session that was left alone: it knows what it knew, in the log that it was of
--- it knows what it knew, in the log that it was of, and takes as many more statements; what was refused stays noted
+-- a session that got no statement: it is of the same log, knows what it knew, and takes as many more statements; if
+-- it was noted that memory may have been refused, that stays noted
 pub record IsLeftAlone (old new : SessionView) : Type 0 where
   pub identity : new.identity ≡ old.identity
   pub turns : new.turns ≡ old.turns
@@ -19,7 +20,7 @@ pub record IsLeftAlone (old new : SessionView) : Type 0 where
   pub left : new.left ≡ old.left
   pub starved : old.starved ≡ true → new.starved ≡ true
 
--- the history begins in the same state, and the sessions that are held know what they knew
+-- the history begins in the same state, and the sessions that the value holds beside its own know what they knew
 pub record HoldsAsBefore (old new : SessionView) : Type 0 where
   pub base : new.base ≡ old.base
   pub beside : new.beside ≡ old.beside

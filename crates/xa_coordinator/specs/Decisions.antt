@@ -1,6 +1,7 @@
 -- The states of the numbers of global transactions. A contract sees decisions as the list of the states of 1,
 -- 2, ..
 --     decision_of      the state of a number, if it was given
+--     decides, is_not_closed      whether a state is Decided;  whether it was given and isn't Closed
 --     is_decided       whether a number is decided
 --     may_be_decided   whether a number was given and isn't closed
 --     with_decided     the decisions with this number decided
@@ -26,7 +27,7 @@ abbrev pub decides : Option Decision → Bool
 decides (Some Decided) = true
 decides decision = false
 
--- the number was given, and no recovery has closed it
+-- a number of this state was given, and no recovery has closed it
 abbrev pub is_not_closed : Option Decision → Bool
 is_not_closed None = false
 is_not_closed (Some Closed) = false
@@ -44,7 +45,7 @@ may_be_decided decisions number = is_not_closed (decision_of decisions number)
 unfoldable pub with_decided : List Decision → ℕ → List Decision
 with_decided decisions number = slice_set decisions (number - 1) Decided
 
--- a recovery closes what is undecided
+-- the state of a number after a recovery: closed if it was undecided, else as it was
 abbrev pub closed_of : Decision → Decision
 closed_of Undecided = Closed
 closed_of decision = decision
@@ -67,7 +68,8 @@ pub record IsFirstOvertaken (decisions : List Decision) (number : ℕ) : Type 0 
   pub overtaken : IsOvertaken decisions number
   pub first : (other : ℕ) → IsOvertaken decisions other → number ≤ other
 
--- the fault's cause holds; only for a list that can be decisions memory is wanted
+-- why the list isn't taken: it has more than `most_numbers`; or its first overtaken number is this one; or memory is
+-- missing, which is wanted only for a list that can be decisions
 abbrev pub IsNoList : List Decision → DecisionsFault → Type 0
 IsNoList decisions TooMany = most_numbers < length decisions
 IsNoList decisions (Overtaken number) = IsFirstOvertaken decisions number

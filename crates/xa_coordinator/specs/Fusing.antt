@@ -1,7 +1,8 @@
 -- How a session answers that fails from a certain call on.
 --     AnswersAsWithin     as the session within, as long as it passes calls on, and then out of memory
---     may_starve          whether the session within may return out of memory
---     limited             the session within, with the limit
+--     is_spent            whether no more statements are taken
+--     may_starve          whether memory may have been refused, or no more statements are taken
+--     limited             the session within as contracts see it, with the limit
 use Rattle.std.specs.Prelude.{◌≡◌, ◌≢◌, ◌+◌, ◌||◌, ℕ, zero, suc, Bool, true, false, Option, Some, None, Result, Err}
 use Rattle.xa_session.specs.View.{SessionView}
 use Rattle.xa_xid.specs.declared.statement.Statement.{Statement}
@@ -28,6 +29,7 @@ is_spent (Some (suc left)) = false
 abbrev pub may_starve : SessionView → Bool
 may_starve session = is_spent session.left || session.starved
 
--- the session within takes as many more statements as are passed on
+-- the session within as contracts see it, but it takes as many more statements as calls are left; memory may have been
+-- refused also if the session within takes no more statements itself
 abbrev pub limited : {S : Type 0} → (S → SessionView) → Fused S → SessionView
 limited view fused = record (view fused.inner) { left = Some fused.left; starved = may_starve (view fused.inner) }

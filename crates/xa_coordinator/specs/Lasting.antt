@@ -3,6 +3,7 @@
 --     no_log           the identity that a store without a log has
 --     own_view, other_view     its own session, of number 1;  the other client's, of number 2
 --     IsAnsweredBeside         a session of it answered a statement
+--     alone_at         a session that holds no other, of a base and of what it knows
 --     other_alone      the other client's session by itself
 --     other-steady     it stays as it was when the store's own session is used
 use Rattle.std.specs.Prelude.{◌≡◌, false, true, None, List, [], ◌∷◌, map}

@@ -3,6 +3,8 @@
 --     association_in   a session that has the branch open in this phase
 --     OpenThere        each branch that the coordinator has open is what the session of its store has open
 --     HasOpen          the coordinator has a transaction's branch open
+--     is_active        whether a phase is ACTIVE
+--     works_for        whether what is open in a store is the branch of a number, ACTIVE
 --     has_working_branch  whether it has it open and ACTIVE
 --     IsWorking        it has it open and ACTIVE
 --     IsAsBeforeOrEnded  what is open in a store is as before, or the branch is IDLE

@@ -6,7 +6,9 @@
 --     Settles, SettlesIn      a store that finishing has reached
 --     IsVoted          a store that preparing has reached
 --     IsEnded          the store of the only participant, after its XA END
---     IsHazard         a list of participants, ascending
+--     Ascends          the numbers of a list ascend
+--     IsHazard         a list of participants, ascending, at least one
+--     commits          whether a way of finishing commits
 --     branch_of        the branch of a transaction in a store
 --     EndsAs           how the finishing of a transaction ended
 --     asked_by_ending, asked_by_vote      the stores below this number were spoken to
@@ -84,13 +86,13 @@ abbrev pub Ascends : List ℕ → Type 0
 Ascends [] = Unit {0}
 Ascends (store ∷ stores) = All (λ later. store < later) stores × Ascends stores
 
--- the stores of a Hazard: some of the participants, ascending
+-- the stores of a Hazard: at least one, ascending, and each takes part
 pub record IsHazard (participants : Participants) (stores : List ℕ) : Type 0 where
   pub some : 0 < length stores
   pub ascending : Ascends stores
   pub participate : All (λ store. takes_part participants store ≡ true) stores
 
--- the branches of a transaction were committed
+-- whether branches that are finished in this way commit
 abbrev pub commits : Closing → Bool
 commits RollBack = false
 commits closing = true
@@ -112,7 +114,10 @@ SettlesIn branches transaction closing store listed =
     (branch_of transaction store)
     (takes_part transaction.participants store) listed
 
--- how the finishing of a transaction's branches ended, by what the coordinator had open
+-- what an ending says of the participants' branches. Committed and RolledBack, by how the transaction was to be
+-- finished: each was finished. Hazard: those of the listed stores weren't known, and the others were finished.
+-- Unfinished: the one in this store wasn't finished, those below it were finished or weren't known, and the stores
+-- above it got no statement
 abbrev pub EndsAs : {S : Type 0} → (S → SessionView) → List (Option OpenBranch) → Transaction → Closing → Ending
     → List S → List S → Type 0
 EndsAs view branches transaction closing Committed old new =
@@ -131,18 +136,21 @@ EndsAs view branches transaction closing (Unfinished store cause) old new =
     (branch_of transaction store) cause) old
     new
 
--- the stores below this number were spoken to, if they take part
+-- the stores below this number were spoken to, if they take part; all stores are below 16
 abbrev pub asked_by_ending : Ending → ℕ
 asked_by_ending (Unfinished store cause) = store + 1
 asked_by_ending ending = 16
 
--- the stores below this number were spoken to, if they take part
+-- the stores below this number were spoken to, if they take part; all stores are below 16
 abbrev pub asked_by_vote : Vote → ℕ
 asked_by_vote (No prepared store cause) = store + 1
 asked_by_vote Nothing = 0
 asked_by_vote vote = 16
 
--- what a vote says of the transaction, and what PREPARE did in each store
+-- what a vote says: after Ready at least two stores take part, and each of their branches was ended and prepared; after
+-- OnePhase one takes part, and its branch was ended; after No this participant's XA END or XA PREPARE wasn't carried
+-- out, the branches below it were ended and prepared, and the stores above it got no statement; after Nothing no store
+-- takes part, and no session changes
 abbrev pub VotesAs : {S : Type 0} → (S → SessionView) → Transaction → Vote → List S → List S → Type 0
 VotesAs view transaction (Ready prepared) old new =
     (prepared ≡ record { transaction = transaction; vote_kind = VoteKindReady })

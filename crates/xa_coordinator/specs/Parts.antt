@@ -8,13 +8,12 @@
 --     ClosesAs         what became of one branch that was to be finished
 --     PreparesAs       what became of one branch that was to be prepared
 --     ClosesNext       what became of one participant that was to be finished
---     PollsAs, asked_by_poll      what became of the participants that were to be prepared;  how far that
---     came
+--     PollsAs, asked_by_poll      what became of the participants that were to be prepared;  which were asked
 --     IsParticipation  how many take part, as far as a vote has to know
 --     WorksWithin      what became of a row statement in an open branch
 --     total, counted   all that was counted;  with one more branch
 --     fault_by         the fault of a store, by its cause
---     added_at         how many entries the session of a store has added
+--     added_by, added_at      how many entries a session has added;  the session of a store
 use Rattle.std.specs.Prelude.{◌≡◌, ◌≢◌, ◌+◌, ◌⊎◌, ℕ, Bool, true, false, List, [], ◌∷◌, ◌++◌, length, slice_get, Option}
 use Rattle.std.specs.Prelude.{Some, None, Result, Ok, Err}
 use Rattle.xa_coordinator.specs.Agreement.{AddsEach}
@@ -57,7 +56,7 @@ IsOfBranch (Commit xid one_phase) = Unit {0}
 IsOfBranch (Rollback xid) = Unit {0}
 IsOfBranch statement = ⊥
 
--- what became of the statement, by the answer
+-- after Ok the statement was carried out; after Err it wasn't, for this cause
 abbrev pub IsToldAs : Statement → Result (Unit {0}) Cause → SessionView → SessionView → Type 0
 IsToldAs statement (Ok _) old new = IsDone statement old new
 IsToldAs statement (Err cause) old new = IsUndone statement cause old new
@@ -67,25 +66,28 @@ abbrev pub statement_into : Phase → Xid → Statement
 statement_into Active xid = Start xid
 statement_into Idle xid = End xid
 
--- the statement, after it is carried out, leaves this branch open, or none that the coordinator keeps
+-- what the coordinator may note as open after the statement: nothing after any statement; a branch only after the
+-- XA START or XA END that brings it into its phase
 abbrev pub LeavesOpen : List ℕ → ℕ → Statement → Option OpenBranch → Type 0
 LeavesOpen name store statement None = Unit {0}
 LeavesOpen name store statement (Some branch) =
     statement ≡ statement_into branch.phase (branch_xid name branch.number store)
 
--- what a statement that was to finish a branch did, by its result
+-- what became of a statement that was to finish a branch: after Closed it was added; after Missing it was answered
+-- XAER_NOTA; after Err it wasn't carried out, for this cause, which isn't XAER_NOTA
 abbrev pub SaysAs : Statement → Result Found Cause → SessionView → SessionView → Type 0
 SaysAs statement (Ok Closed) old new = AddsEach (statement ∷ []) old new
 SaysAs statement (Ok Missing) old new = IsUndone statement (CauseRefused Nota) old new
 SaysAs statement (Err cause) old new = (cause ≢ CauseRefused Nota) × IsUndone statement cause old new
 
--- what finishing a branch did, by its result: it was closed, it was missing, or it stays, for this cause
+-- what finishing a branch did. Closed: the finishing statement was added, after XA END if that comes before it.
+-- Missing: the statement was answered XAER_NOTA. Err: the branch isn't finished, for this cause
 abbrev pub ClosesAs : (ends : Bool) → Statement → Xid → Result Found Cause → SessionView → SessionView → Type 0
 ClosesAs ends statement xid (Ok Closed) old new = IsClosed ends statement xid old new
 ClosesAs ends statement xid (Ok Missing) old new = IsMissing ends statement xid old new
 ClosesAs ends statement xid (Err cause) old new = IsUnfinished ends statement xid cause old new
 
--- a branch that was to be ended and prepared
+-- after Ok XA END and XA PREPARE of the branch were added; after Err one of them wasn't carried out, for this cause
 abbrev pub PreparesAs : Xid → Result (Unit {0}) Cause → SessionView → SessionView → Type 0
 PreparesAs xid (Ok _) old new = AddsEach (End xid ∷ Prepare xid ∷ []) old new
 PreparesAs xid (Err cause) old new = IsStopped true (Prepare xid) xid cause old new
@@ -118,7 +120,8 @@ IsParticipation participants Nobody = (store : ℕ) → takes_part participants 
 IsParticipation participants (Single store) = OnlyTakesPart participants store
 IsParticipation participants Several = TwoTakePart participants
 
--- what became of a row statement in a branch that is ACTIVE
+-- what became of a row statement in a branch that is ACTIVE: it was answered there, or not, for the session's fault; no
+-- other fault comes
 abbrev pub WorksWithin : {S : Type 0} → (S → SessionView) → Xid → ℕ → Statement → Result Reply WorkFault → List S
     → List S → Type 0
 WorksWithin view xid store row (Ok reply) before after = AtStore view store (IsReplied row reply xid) before after
@@ -131,13 +134,13 @@ WorksWithin view xid store row (Err Lost) before after = ⊥
 abbrev pub total : Tally → ℕ
 total tally = tally.committed + tally.rolled_back + tally.missing
 
--- the tally with one more branch
+-- the tally with one more branch: missing, or else committed if its number is decided, or else rolled back
 abbrev pub counted : Tally → (decided : Bool) → Found → Tally
 counted tally true Closed = record tally { committed = tally.committed + 1 }
 counted tally false Closed = record tally { rolled_back = tally.rolled_back + 1 }
 counted tally decided Missing = record tally { missing = tally.missing + 1 }
 
--- the fault of a store, by its cause
+-- the fault of a recovery in which this store didn't carry a statement out, for this cause
 abbrev pub fault_by : ℕ → Cause → RecoverFault
 fault_by store (CauseSession fault) = RecoverSession store fault
 fault_by store (CauseRefused error) = RecoverRefused store error

@@ -2,14 +2,16 @@
 --     IsDisconnected   a session ended what it had open
 --     ListsPrepared    XA RECOVER answered this list
 --     IsNamed          a branch is of the coordinator's naming
+--     finish_decided   how a branch is finished, by whether its number is decided
 --     SettlesOne, Settled      what became of one listed branch;  of all
 --     IsFinished, IsSettled       what became of a store's prepared branches;  after the session's DISCONNECT
---     IsClear          none of the coordinator's naming is prepared afterwards
+--     NoneLeft, IsClear        none of the coordinator's naming is prepared;  as XA RECOVER shows
 --     IsRecovered      one store was recovered
 --     IsUnsettled, StopsAmong      a listed branch wasn't finished;  those before it were settled
 --     IsCutOff         after the session's DISCONNECT a statement of the recovery wasn't carried out
 --     IsStillPrepared  a branch of the coordinator's naming is prepared afterwards
 --     BreaksBy, BreaksHere      the recovery of a store failed, and what the coordinator has open there
+--     RecoveredBy      a store was recovered, with the tally and the place that a list has for it
 --     Recovers         all stores were recovered
 --     BreaksOff        the recovery failed
 --     asked_by_fault   how far it came
@@ -85,7 +87,7 @@ pub data SettlesOne (decisions : List Decision) (name : List ℕ) (store : ℕ) 
       → IsUndone (finish_statement (finish_decided (is_decided decisions number)) xid) (CauseRefused Nota) old new →
       SettlesOne decisions name store xid tally old (record tally { missing = tally.missing + 1 }) new
 
--- what became of the branches of a list, one after another
+-- what became of the branches of a list, one after another, and the tally of all of them
 pub data Settled (decisions : List Decision) (name : List ℕ) (store : ℕ) (old : SessionView) : List Xid → Tally
     → SessionView → Type 0 where
   nothing : Settled decisions name store old [] (record { committed = 0; rolled_back = 0; missing = 0 }) old
@@ -121,7 +123,8 @@ pub record IsClear (name : List ℕ) (store front : ℕ) (old new : SessionView)
   pub listed : ListsPrepared xids front old new
   pub none_left : NoneLeft name store new
 
--- what the recovery of a store did, with the place of its last list
+-- a store was recovered: its session disconnected, its prepared branches were settled, with this tally, and then a list
+-- at this place shows that none of the coordinator's naming is left
 pub record IsRecovered (decisions : List Decision) (name : List ℕ) (store : ℕ) (tally : Tally) (front : ℕ)
     (old new : SessionView) : Type 0 where
   pub finished : SessionView
@@ -176,7 +179,7 @@ pub record IsStillPrepared (decisions : List Decision) (name : List ℕ) (store 
   pub fits : number < 2 ^ 64
   pub prepared : is_prepared (state_after new.base new.known.seen) (branch_xid name number store) ≡ true
 
--- a store that was recovered with this tally and this place
+-- the store was recovered, with the tally and the place that stand for it in the list `found`
 abbrev pub RecoveredBy : List Decision → List ℕ → List (Tally × ℕ) → ℕ → SessionView → SessionView → Type 0
 RecoveredBy decisions name found store old new =
     (one : Tally × ℕ) × (slice_get found store ≡ Some one) × IsRecovered decisions name store one.0 one.1 old new

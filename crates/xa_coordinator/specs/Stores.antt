@@ -6,7 +6,7 @@
 use Rattle.std.specs.Prelude.{◌≡◌, ◌≢◌, ◌<◌, ℕ, List, Some, length, slice_get}
 use Rattle.xa_session.specs.View.{SessionView}
 
--- a fact of one store, of what its session was and is
+-- a fact of one store, of what its session was and is; if a list doesn't have the store, nothing is said
 abbrev pub AtStore : {S : Type 0} → (S → SessionView) → ℕ → (SessionView → SessionView → Type 0) → List S → List S
     → Type 0
 AtStore {S} view store fact old new =
@@ -23,8 +23,8 @@ pub record ChangesAt {S : Type 0} (store : ℕ) (old new : List S) : Type 0 wher
   pub count : length new ≡ length old
   pub others : (other : ℕ) → other ≢ store → slice_get new other ≡ slice_get old other
 
--- a call ended at this store: those below it are done, it fared so, and the sessions of those above are as
--- they were
+-- a call ended at this store: `fact` holds of each store below it, `last` of itself, and the sessions of those above it
+-- are as they were
 pub record EndsAt {S : Type 0} (view : S → SessionView) (fact : ℕ → SessionView → SessionView → Type 0) (store : ℕ)
     (last : SessionView → SessionView → Type 0)
     (old new : List S) : Type 0 where

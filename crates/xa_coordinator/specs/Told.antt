@@ -1,5 +1,6 @@
 -- What became of a statement that a coordinator gave to the session of one store.
 --     IsDone           it was carried out
+--     IsRefused        it was answered with a refusal
 --     HasCause, IsUndone      why it wasn't;  and nothing was added
 --     IsUndoneBehind   it wasn't, but XA END before it was
 --     IsStopped        it wasn't, or XA END before it wasn't
@@ -34,7 +35,8 @@ pub record IsRefused (statement : Statement) (error : XaError) (old new : Sessio
   pub answered : IsAnswered old.base statement (record { place = place; reply = Refused error }) old.known new.known
   pub takes : Takes 1 old.left new.left
 
--- the session's fault, which has its cause by what the session takes, or the refusal that the statement was answered
+-- the cause holds: a session's fault is Full or NoMemory, has its reason, and fits how many statements the session
+-- takes; a refusal is what the statement was answered
 abbrev pub HasCause : Statement → Cause → SessionView → SessionView → Type 0
 HasCause statement (Session fault) old new =
     Fails old.turns old.identity.capacity old.base statement fault old.known new.known × IsFinal fault

@@ -16,8 +16,8 @@ use Rattle.xa_session.specs.Replay.{state_at}
 use Rattle.xa_session.specs.declared.answer.Answer.{Answer}
 use Rattle.xa_coordinator.specs.declared.watch.Watch.{Watch}
 
--- the entries that it has seen, and all of its own, each of which it tried to add once; its looks are counted from the
--- first on
+-- what the session has seen is as much of the history as `watch` says, and all its own entries are in `mine`; it has
+-- tried once for each of these, and `since` counts all its looks
 abbrev pub known_by : ℕ → Watch → List Entry → Known
 known_by session watch history = record {
   number = session;

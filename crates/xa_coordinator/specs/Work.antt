@@ -90,8 +90,10 @@ pub record KeepsOthers (store : ℕ) (old new : Transaction) : Type 0 where
   pub stores : new.stores ≡ old.stores
   pub others : (other : ℕ) → other ≢ store → takes_part new.participants other ≡ takes_part old.participants other
 
--- what work did in its store, whether the store takes part then, and what the coordinator has open in its
--- stores
+-- what work did, by its result. Ok: the row statement was answered in the branch, which was open or was started.
+-- Session: so it was, but the row statement wasn't answered; or XA START wasn't carried out, and all else is as before.
+-- Refused: XA START was refused, and all else is as before. Lost: the store takes part, the coordinator hasn't its
+-- branch open, and nothing was done. After Ok and the first case of Session the store takes part, its branch ACTIVE
 abbrev pub WorksAs : {S : Type 0} → (S → SessionView) → (marks marks' : List (Option OpenBranch)) → Transaction
     → Transaction → ℕ → Statement
     → Result Reply WorkFault → List S → List S → Type 0

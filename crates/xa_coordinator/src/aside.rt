@@ -57,7 +57,7 @@ impl<S: Beside> Coordinator<Fused<S>> {
 }
 
 impl<S: Beside> Fused<S> {
-    /// Has the other client's session within answer, whatever number of calls is left.
+    /// Has the other client's session within answer. It uses up none of the calls that are left.
     fn execute_inner<R: Wait>(&mut self, rt: &R, statement: &Statement) -> Result<Answer, Fault>
         ensures left { self.new.left ≡ self.old.left }
         ensures alone { IsLeftAlone (S.view self.old.inner) (S.view self.new.inner) }

@@ -36,7 +36,8 @@ pub fn branch_xid(name: &Bytes, number: u64, store: u8) -> Xid
     }
 }
 
-/// The number in the last eight bytes of a text, highest first, if exactly eight follow the first `place`.
+/// The number that the bytes of a text after the first `place` spell, highest first. None unless these are exactly
+/// eight.
 fn number_behind(place: usize, bytes: &[u8]) -> Option<u64>
     ensures some { IfSome result (λ number. number ≡ from_be_bytes w64 (drop place bytes.now)) }
     ensures none { IfNone result (length bytes.now ≢ place + 8) }
@@ -54,7 +55,7 @@ fn number_behind(place: usize, bytes: &[u8]) -> Option<u64>
     ]))
 }
 
-/// The transaction's number, if a coordinator of this name gives this identifier to a branch in this store.
+/// The transaction's number, if a coordinator of this name gives this identifier to a branch in this store. Else None.
 pub(crate) fn number_of_branch(name: &Bytes, store: u8, xid: &Xid) -> Option<u64>
     requires { array_vec_len name.now ≤ 56 }
     ensures some { IfSome result (λ number. IsBranchOf name.now.items number store xid.now) }

@@ -1,8 +1,9 @@
 //! The branch of a transaction in one store, from its start to its end.
 //!
 //! Of the contracts' clauses, `frame` says that no other store's session changes, `marks` and `mark` what the
-//! coordinator then has open in its stores, `says` what became of the statement, and `unsaid` that after an error
-//! everything that was open still is.
+//! coordinator then has open in its stores, and `says` what became of the statement. `unsaid` says that after an error
+//! everything that was open still is; but if the call gives `XA END` before another statement, the branch may be IDLE.
+//! `free` says that nothing is open if nothing was, and `few` that at most one entry was added.
 ghost use Rattle.std.specs.Prelude.{◌≡◌, ◌<◌, ◌≤◌, ◌+◌, Some, None, Err, true, false, IfErr, OnOk, OnErr, slice_get};
 ghost use Rattle.std.specs.Prelude.{vec_len};
 ghost use Rattle.xa_session.specs.View.{SessionView};
@@ -20,7 +21,8 @@ use std::sync::Wait;
 use xa_server::XaError;
 use xa_xid::Statement;
 
-/// Whether the branch was known that a statement was to finish.
+/// What finishing a branch found, by what became of the statement: `Closed` if it was carried out, `Missing` if
+/// it was answered XAER_NOTA. Any other cause stays the error.
 fn found(said: Result<(), Cause>) -> Result<Found, Cause>
     ensures says { (statement : Statement) (old new : SessionView) → IsToldAs statement said old new
         → SaysAs statement result old new }
@@ -35,7 +37,8 @@ fn found(said: Result<(), Cause>) -> Result<Found, Cause>
 }
 
 impl<S: Speak> Coordinator<S> {
-    /// Starts a transaction's branch in a store.
+    /// Starts a transaction's branch in a store. If `XA START` is carried out, the coordinator has the branch
+    /// open there, ACTIVE. The error says why it isn't; then what is open stays.
     pub(crate) fn start_branch<R: Wait>(
         &mut self,
         rt: &R,
@@ -61,7 +64,8 @@ impl<S: Speak> Coordinator<S> {
         self.execute_at(rt, store, &statement, Some(then))
     }
 
-    /// Ends the work of a transaction's branch in a store.
+    /// Ends the work of a transaction's branch in a store. If `XA END` is carried out, the coordinator has the
+    /// branch open there, IDLE. The error says why it isn't; then what is open stays.
     pub(crate) fn end_branch<R: Wait>(
         &mut self,
         rt: &R,
@@ -86,7 +90,8 @@ impl<S: Speak> Coordinator<S> {
         self.execute_at(rt, store, &statement, Some(then))
     }
 
-    /// Prepares a transaction's branch, of which the work has ended.
+    /// Prepares a transaction's branch, of which the work has ended. If `XA PREPARE` is carried out, the
+    /// coordinator has nothing open in the store. The error says why it isn't; then what is open stays.
     fn prepare_ended<R: Wait>(&mut self, rt: &R, store: u8, number: u64) -> Result<(), Cause>
         requires { store < vec_len self.old.stores }
         ensures name { self.new.name ≡ self.old.name }
@@ -101,7 +106,8 @@ impl<S: Speak> Coordinator<S> {
         self.execute_at(rt, store, &statement, None)
     }
 
-    /// Ends and prepares a transaction's branch.
+    /// Ends and prepares a transaction's branch. The error says why one of the two wasn't carried out; if it is
+    /// `XA END`, `XA PREPARE` isn't given.
     pub(crate) fn prepare_branch<R: Wait>(
         &mut self,
         rt: &R,
@@ -120,7 +126,9 @@ impl<S: Speak> Coordinator<S> {
         self.prepare_ended(rt, store, number)
     }
 
-    /// Gives the statement that finishes a branch.
+    /// Gives a store the statement by which `closing` finishes a transaction's branch. Returns `Closed` if it is
+    /// carried out; the coordinator has nothing open there then. Returns `Missing` if it is answered XAER_NOTA. The
+    /// error is any other cause for which it isn't carried out. After `Missing` and an error what is open stays.
     pub(crate) fn finish_branch<R: Wait>(
         &mut self,
         rt: &R,
@@ -143,7 +151,8 @@ impl<S: Speak> Coordinator<S> {
         found(self.execute_at(rt, store, &statement, None))
     }
 
-    /// Ends a branch that takes work, and rolls it back.
+    /// Ends a branch that takes work, and rolls it back. Returns `Missing` if the rollback is answered
+    /// XAER_NOTA. The error says why `XA END` or, for another cause, the rollback wasn't carried out.
     fn end_and_roll_back<R: Wait>(&mut self, rt: &R, store: u8, number: u64) -> Result<Found, Cause>
         requires { store < vec_len self.old.stores }
         ensures name { self.new.name ≡ self.old.name }
@@ -183,7 +192,9 @@ impl<S: Speak> Coordinator<S> {
         }
     }
 
-    /// Finishes a branch. One that takes work and is to be rolled back is ended first.
+    /// Finishes a transaction's branch in a store, as `closing` says. One that takes work and is to be rolled
+    /// back is ended first. Returns `Missing` if the finishing statement is answered XAER_NOTA. The error says why
+    /// `XA END` or, for another cause, the finishing statement wasn't carried out.
     pub(crate) fn finish_open<R: Wait>(
         &mut self,
         rt: &R,

@@ -43,10 +43,12 @@ impl Closing {
         }
     }
 
-    /// Whether `XA END` comes before that statement. `working` tells whether the branch takes work.
+    /// Whether `XA END` comes before the statement that finishes a branch: only before a rollback of one that
+    /// takes work. `working` tells whether it does.
     pub(crate) fn ends_first(self, working: bool) -> bool
         ensures { result ≡ ends_first_by self working }
     {
+        // The vote has ended a branch that is to be committed.
         match self {
             Closing::InTwoPhases => false,
             Closing::InOnePhase => false,

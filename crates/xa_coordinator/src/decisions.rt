@@ -49,12 +49,13 @@ fn close_each(by_number: &mut [Decision])
     }
 }
 
-/// The first number that is undecided, if a later one is closed.
+/// The first number that is undecided, if a later one is closed. None if no closed number follows an undecided one.
 fn overtaken(list: &[Decision]) -> Option<u64>
     ensures some { IfSome result (IsOvertaken list.now) }
     ensures first { IfSome result (λ number. (other : ℕ) → IsOvertaken list.now other → number ≤ other) }
     ensures none { IfNone result ((number : ℕ) → IsOvertaken list.now number → ⊥) }
 {
+    // The first undecided number so far. The number at place 0 is 1.
     let mut undecided = None;
     for (place, decision) in list.iter().enumerate() {
         match (decision, undecided) {
@@ -69,7 +70,7 @@ fn overtaken(list: &[Decision]) -> Option<u64>
 }
 
 impl Decisions {
-    /// How many numbers can be given.
+    /// How many numbers can be given. Own rule: docs/COORDINATOR.md#decisions.
     pub const MOST: usize = 1_000_000;
 
     /// Makes decisions that have given no number.
@@ -123,7 +124,7 @@ impl Decisions {
         self.by_number.as_slice()
     }
 
-    /// The state of a number, if it was given.
+    /// The state of a number. None if it wasn't given.
     #[tactic(auto, unfolding(crate::specs::Decisions::decision_of))]
     fn decision(&self, number: u64) -> Option<Decision>
         ensures { result ≡ decision_of self.now number }
@@ -162,7 +163,7 @@ impl Decisions {
         }
     }
 
-    /// The place of a number that was given and isn't closed.
+    /// The place in the list of a number that was given and isn't closed. None for any other number.
     #[tactic(auto, using(crate::proofs::DecisionsOf::given))]
     fn place_to_decide(&self, number: u64) -> Option<usize>
         ensures some { IfSome result (λ place. (place + 1 ≡ number) × (place < length self.now)
@@ -175,7 +176,8 @@ impl Decisions {
         Some((number - 1) as usize)
     }
 
-    /// Gives the next number.
+    /// Gives the next number, undecided, and returns it. Errors: `NumbersSpent` if all 1,000,000 were given, and
+    /// `NoMemory`. After an error the decisions are as before.
     pub(crate) fn give(&mut self) -> Result<u64, BeginFault>
         ensures number { IfOk result (λ number. number ≡ length self.old + 1) }
         ensures ok { OnOk result (self.new ≡ self.old ++ StandsUndecided ∷ []) }

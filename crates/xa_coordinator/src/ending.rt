@@ -12,8 +12,8 @@ pub enum Ending {
     Committed,
     /// Each participant rolled back.
     RolledBack,
-    /// These stores, ascending, answered XAER_NOTA, since somebody else had finished the branch. The others
-    /// are finished.
+    /// These stores, ascending, answered XAER_NOTA, since the branch had been finished before, by somebody else or by
+    /// a recovery. The others are finished.
     Hazard {
         /// The stores, by their numbers.
         stores: ArrayVec<u8, 16>,

@@ -17,7 +17,7 @@ use std::sync::Wait;
 use xa_server::{Reply, XaError};
 use xa_xid::{Statement, Xid};
 
-/// The refusal, if the statement was refused.
+/// The error with which the statement was refused. None if it wasn't.
 pub(crate) fn refusal(reply: &Reply) -> Option<XaError>
     ensures { MatchOption result (is_refused reply.now ≡ false) (λ error. reply.now ≡ Refused error) }
 {
@@ -59,7 +59,7 @@ impl<S: Speak> Coordinator<S> {
     }
 
     /// Gives a statement about a branch to a store. If it is carried out, the coordinator has `then` open
-    /// there.
+    /// there (nothing if None), else what it had. The error says why it wasn't.
     ///
     /// May wait: no number of tries is promised.
     pub(crate) fn execute_at<R: Wait>(

@@ -23,10 +23,12 @@ use crate::{Cause, Coordinator, Decisions, Ending, Prepared, Speak, Transaction}
 use arrayvec::ArrayVec;
 use std::sync::Wait;
 
-/// How a transaction that was voted on is finished.
+/// How a transaction that was voted on is finished: by commits of prepared branches if it is decided, by a
+/// commit in one phase after a vote of OnePhase, else by rollbacks (presumed abort).
 fn finish_for(decided: bool, vote_kind: VoteKind) -> Closing
     ensures { result ≡ finish_of_vote decided vote_kind }
 {
+    // `decide` takes only a vote of Ready, so the branches of a decided transaction were prepared.
     if decided {
         return Closing::InTwoPhases;
     }
@@ -38,7 +40,9 @@ fn finish_for(decided: bool, vote_kind: VoteKind) -> Closing
 }
 
 impl<S: Speak> Coordinator<S> {
-    /// Finishes the branch of a store, or lists the store if the branch isn't known there.
+    /// Finishes a transaction's branch in a store, as `closing` says. If the statement that finishes it is answered
+    /// XAER_NOTA, adds the store to `missing`, and returns Ok. The error says why `XA END` or, for another cause, that
+    /// statement wasn't carried out.
     fn finish_next<R: Wait>(
         &mut self,
         rt: &R,
@@ -74,7 +78,9 @@ impl<S: Speak> Coordinator<S> {
         }
     }
 
-    /// Finishes the branch of each participant, in ascending order, up to the first that isn't finished.
+    /// Finishes the branch of each participant, in ascending order, as `closing` says. Ends with `Unfinished` at the
+    /// first that isn't finished for another cause than XAER_NOTA; stores below it that answered XAER_NOTA aren't named
+    /// then. Else ends with `Hazard` if any answered XAER_NOTA, and with `Committed` or `RolledBack` if none did.
     fn finish_each<R: Wait>(
         &mut self,
         rt: &R,
@@ -101,7 +107,8 @@ impl<S: Speak> Coordinator<S> {
                 return Ending::Unfinished { store, cause };
             }
         }
-        // Somebody else finished these branches, so how the transaction ended isn't known.
+        // These branches were finished before, by somebody else or by a recovery. So how the transaction ended isn't
+        // known.
         if !missing.is_empty() {
             return Ending::Hazard { stores: missing };
         }

@@ -70,7 +70,7 @@ impl<S: Speak> Fused<S> {
         self.left
     }
 
-    /// Whether one more call is passed on.
+    /// Whether a call is passed on: if any is left, this one is, and one fewer is left.
     fn passes(&mut self) -> bool
         ensures inner { self.new.inner ≡ self.old.inner }
         ensures passed { result ≡ true → self.new.left + 1 ≡ self.old.left }

@@ -18,7 +18,7 @@ use xa_server::{Reply, XidList};
 use xa_session::{Answer, Fault};
 use xa_xid::Statement;
 
-/// Has a session end what it has open, by `DISCONNECT`. No server refuses that.
+/// Has a session end what it has open, by `DISCONNECT`. No server refuses that, so only the session can fail.
 fn let_go<S: Speak, R: Wait>(rt: &R, session: &mut S) -> Result<(), Fault>
     ensures done { OnOk result (IsDisconnected (S.view session.old) (S.view session.new)) }
     ensures undone { IfErr result (λ fault. IsUndone DisconnectStatement (Cause.Session fault) (S.view session.old)
@@ -28,7 +28,8 @@ fn let_go<S: Speak, R: Wait>(rt: &R, session: &mut S) -> Result<(), Fault>
     Ok(())
 }
 
-/// The prepared branches of a session's store, and the place at which they are prepared.
+/// Asks a session for the prepared branches of its store, by `XA RECOVER`. Returns the list, and its place: how many
+/// entries the session has seen then.
 #[tactic(auto, using(crate::proofs::LettingGo::listed_quietly))]
 fn list_prepared<S: Speak, R: Wait>(rt: &R, session: &mut S) -> Result<(XidList, u64), Fault>
     ensures association { association_seen (S.view session.new) ≡ association_seen (S.view session.old) }
@@ -46,7 +47,8 @@ fn list_prepared<S: Speak, R: Wait>(rt: &R, session: &mut S) -> Result<(XidList,
 }
 
 impl<S: Speak> Coordinator<S> {
-    /// Has the session of a store end what it has open.
+    /// Has the session of a store end what it has open, by `DISCONNECT`. After a fault the coordinator has open there
+    /// what it had.
     pub(crate) fn disconnect<R: Wait>(&mut self, rt: &R, store: u8) -> Result<(), Fault>
         requires { store < vec_len self.old.stores }
         ensures name { self.new.name ≡ self.old.name }
@@ -65,7 +67,8 @@ impl<S: Speak> Coordinator<S> {
         Ok(())
     }
 
-    /// The prepared branches of a store.
+    /// Asks a store for its prepared branches. Returns the list, and its place: how many entries the session has seen
+    /// then.
     pub(crate) fn prepared_in<R: Wait>(
         &mut self,
         rt: &R,

@@ -40,6 +40,7 @@ impl Participants {
     pub(crate) fn contains(&self, store: u8) -> bool
         ensures { result ≡ takes_part self.now store }
     {
+        // There are 16 marks. No store of a higher number takes part.
         self.members
             .get(usize::from(store))
             .copied()
@@ -56,7 +57,7 @@ impl Participants {
         self.members[usize::from(store)] = true;
     }
 
-    /// The first store from `from` on that takes part.
+    /// The first store from `from` on that takes part, or None.
     fn next_from(&self, from: u8) -> Option<u8>
         ensures some { IfSome result (λ store. (from ≤ store) × (store < 16) × (takes_part self.now store ≡ true)) }
         ensures before { IfSome result (λ store. (other : ℕ) → from ≤ other → other < store
@@ -71,7 +72,7 @@ impl Participants {
         None
     }
 
-    /// How many take part.
+    /// How many stores take part: none, only one (which is named), or several.
     pub(crate) fn participation(&self) -> Participation
         ensures { IsParticipation self.now result }
     {

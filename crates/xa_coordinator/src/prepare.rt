@@ -32,7 +32,8 @@ fn no(transaction: Transaction, store: u8, cause: Cause) -> Vote
 }
 
 impl<S: Speak> Coordinator<S> {
-    /// Ends and prepares each participant's branch, in ascending order, until one fails.
+    /// Ends and prepares each participant's branch, in ascending order, until `XA END` or `XA PREPARE` isn't carried
+    /// out. The error names the store in which it wasn't, and the cause.
     fn poll<R: Wait>(&mut self, rt: &R, transaction: &Transaction) -> Result<(), (u8, Cause)>
         requires name { transaction.now.name.items ≡ self.old.name.items }
         requires stores { transaction.now.stores ≡ vec_len self.old.stores }
@@ -55,7 +56,8 @@ impl<S: Speak> Coordinator<S> {
         Ok(())
     }
 
-    /// Ends the only participant's branch.
+    /// Ends the only participant's branch, which needn't be prepared: it can be committed in one phase. Votes
+    /// `OnePhase`, or `No` if `XA END` isn't carried out.
     fn end_alone<R: Wait>(&mut self, rt: &R, transaction: Transaction, store: u8) -> Vote
         requires name { transaction.name.items ≡ self.old.name.items }
         requires stores { transaction.stores ≡ vec_len self.old.stores }
@@ -79,7 +81,8 @@ impl<S: Speak> Coordinator<S> {
         }
     }
 
-    /// Ends and prepares each participant's branch, of at least two. Votes `Ready`, or `No` for the first that fails.
+    /// Ends and prepares each participant's branch, of at least two. Votes `Ready`, or `No` at the first whose `XA END`
+    /// or `XA PREPARE` isn't carried out; those above it get no statement.
     fn prepare_each<R: Wait>(&mut self, rt: &R, transaction: Transaction) -> Vote
         requires name { transaction.name.items ≡ self.old.name.items }
         requires stores { transaction.stores ≡ vec_len self.old.stores }
@@ -106,8 +109,9 @@ impl<S: Speak> Coordinator<S> {
     /// Has the stores vote on a transaction.
     ///
     /// Each participant, in ascending order, gets `XA END` and `XA PREPARE`; if there is only one, it gets
-    /// only `XA END`. The vote is No at the first store that doesn't carry its statement out; the stores
-    /// above it get no statement. The transaction must have been begun under this name, over as many stores.
+    /// only `XA END`, and if there is none, the vote is Nothing. The vote is No at the first store that doesn't
+    /// carry its statement out; the stores above it get no statement. The transaction must have been begun under
+    /// this name, over as many stores.
     /// It takes no more work.
     /// May return a fault of a session. May wait: no number of tries is promised.
     /// Own rule: docs/COORDINATOR.md#votes.

@@ -21,7 +21,7 @@ use crate::{Cause, Coordinator, Decisions, RecoverFault, Report, Speak};
 use std::alloc::Global;
 use std::sync::Wait;
 
-/// The fault of a store, by its cause.
+/// The fault of a recovery in which this store didn't carry a statement out, for this cause.
 fn fault_of(store: u8, cause: Cause) -> RecoverFault
     ensures { result ≡ fault_by store cause }
 {
@@ -32,7 +32,8 @@ fn fault_of(store: u8, cause: Cause) -> RecoverFault
 }
 
 impl<S: Speak> Coordinator<S> {
-    /// Finishes what is prepared in a store in which nothing is open.
+    /// Lists the prepared branches of a store in which nothing is open, and finishes those of this coordinator's
+    /// naming as the decisions say. Returns how many came to which end, or why the list or one of them failed.
     fn list_and_finish<R: Wait>(
         &mut self,
         rt: &R,
@@ -63,7 +64,8 @@ impl<S: Speak> Coordinator<S> {
         }
     }
 
-    /// Ends what is open in a store, and finishes what is prepared there.
+    /// Has the session of a store disconnect, and then finishes the prepared branches of this coordinator's
+    /// naming there. Returns how many came to which end, or why the first statement that failed did.
     fn finish_prepared<R: Wait>(
         &mut self,
         rt: &R,
@@ -92,7 +94,8 @@ impl<S: Speak> Coordinator<S> {
         }
     }
 
-    /// The place at which no branch of this coordinator's naming is prepared in a store.
+    /// Lists the prepared branches of a store once more. If none is of this coordinator's naming, returns how many
+    /// entries the session had seen. Errors: `StillPrepared` if one is, `Session` if the session couldn't answer.
     fn look_again<R: Wait>(&mut self, rt: &R, store: u8) -> Result<u64, RecoverFault>
         requires store { store < vec_len self.old.stores }
         requires free { slice_get self.old.branches store ≡ Some None }
@@ -116,6 +119,7 @@ impl<S: Speak> Coordinator<S> {
         let listed = self.prepared_in(rt, store);
         match listed {
             Ok(found) => match self.own_number(store, found.0.as_slice()) {
+                // All were finished before, so another client has prepared this one since.
                 Some(_number) => Err(RecoverFault::StillPrepared { store }),
                 None => Ok(found.1),
             },
@@ -123,7 +127,9 @@ impl<S: Speak> Coordinator<S> {
         }
     }
 
-    /// Recovers one store.
+    /// Recovers one store: its session disconnects, the prepared branches of this coordinator's naming are
+    /// finished, and a second list shows that none is left. Returns how many came to which end, and the place
+    /// of that list: how many entries the session had seen. The error names this store.
     fn recover_store<R: Wait>(
         &mut self,
         rt: &R,
@@ -155,7 +161,8 @@ impl<S: Speak> Coordinator<S> {
         }
     }
 
-    /// Recovers each store, in ascending order, up to the first fault.
+    /// Recovers each store, in ascending order, up to the first fault, which is returned. `fronts` is empty, with room
+    /// for a place of each store; the report takes it.
     fn recover_each<R: Wait>(
         &mut self,
         rt: &R,
@@ -260,7 +267,10 @@ impl<S: Speak> Coordinator<S> {
         ensures agrees { EachStore S.view (Agrees decisions.new self.old.name.items) self.old.stores.items
             self.new.stores.items }
     {
+        // The undecided numbers are closed first: after a fault some branches may be rolled back, so their numbers
+        // mustn't be decided any more.
         decisions.close_all();
+        // Room for the report is taken before any store gets a statement, so that no recovery fails for it later.
         let fronts = Vec::with_capacity(alloc, self.stores.len())?;
         self.recover_each(rt, decisions, fronts)
     }

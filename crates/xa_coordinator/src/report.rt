@@ -16,7 +16,8 @@ pub struct Report {
 }
 
 impl Report {
-    /// Adds what a recovery did in one more store, and the place at which nothing was prepared there.
+    /// Adds what a recovery did in one more store, and `front`, the place at which no branch of this coordinator was
+    /// prepared there. There is room for the place.
     pub(crate) fn add(&mut self, tally: Tally, front: u64)
         requires room { vec_len self.old.fronts < vec_capacity self.old.fronts }
         requires committed_fits { self.old.committed + tally.committed < 2 ^ 128 }
@@ -32,6 +33,8 @@ impl Report {
         ensures rolled_back_within { self.new.rolled_back < self.old.rolled_back + 2 ^ 64 }
         ensures missing_within { self.new.missing < self.old.missing + 2 ^ 64 }
     {
+        // Less than 2^64 branches of each store are counted, but those of all stores may be more: so the sums have 128
+        // bits.
         self.fronts.push_reserved(front);
         self.committed += u128::from(tally.committed);
         self.rolled_back += u128::from(tally.rolled_back);

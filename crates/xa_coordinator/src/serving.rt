@@ -10,8 +10,9 @@ use xa_session::{Answer, Fault};
 use xa_words::Entry;
 use xa_xid::{SessionNo, Statement};
 
-/// Answers a session's statement from the state that the history leaves, and carries it out. Room for the
-/// entry is taken first.
+/// Answers a session's statement from the state that the history leaves. If it is logged, carries it out and
+/// adds it to the history. Room for the entry is taken first, so that nothing fails once the server has changed.
+/// After an answer `watch` says that the session has seen the whole history, and has looked once more.
 ///
 /// Errors: `NoMemory`, also after 2^64 - 1 looks of the session. Nothing has changed then.
 pub(crate) fn serve(
@@ -38,6 +39,8 @@ pub(crate) fn serve(
     history.reserve(1)?;
     let place = history.len() as u64;
     let (reply, enters) = server.reply(session, statement)?;
+    // The statement is logged. The server carries it out first: that can fail, and then nothing has changed. To add the
+    // entry can't fail.
     if enters {
         server.accept(session, statement)?;
         let entry = Entry::entering(session, statement.copy());

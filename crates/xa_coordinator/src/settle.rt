@@ -19,7 +19,7 @@ use crate::{Cause, Coordinator, Decisions, Speak};
 use std::sync::Wait;
 use xa_xid::Xid;
 
-/// How a recovery finishes a branch.
+/// How a recovery finishes a branch: by a commit if its number is decided, else by a rollback (presumed abort).
 fn finish_decided(decided: bool) -> Closing
     ensures { result ≡ finish_by_decision decided }
 {
@@ -30,7 +30,8 @@ fn finish_decided(decided: bool) -> Closing
     }
 }
 
-/// The tally with one more branch.
+/// The tally with one more branch: missing if it wasn't found, else committed if its number is decided, else
+/// rolled back.
 fn with_one(tally: Tally, decided: bool, found: Found) -> Tally
     requires { total tally + 1 < 2 ^ 64 }
     ensures counted { result ≡ counted tally decided found }
@@ -53,8 +54,9 @@ fn with_one(tally: Tally, decided: bool, found: Found) -> Tally
 }
 
 impl<S: Speak> Coordinator<S> {
-    /// Finishes a prepared branch of this coordinator's naming as the decisions say, and leaves any other
-    /// branch.
+    /// Finishes a prepared branch of this coordinator's naming as the decisions say, and returns the tally with
+    /// it. For any other branch it gives no statement, and returns the tally as it is. The error says why the branch
+    /// isn't finished.
     fn settle<R: Wait>(
         &mut self,
         rt: &R,
@@ -84,6 +86,7 @@ impl<S: Speak> Coordinator<S> {
             self.old.stores.items self.new.stores.items) }
     {
         let Some(number) = number_of_branch(&self.name, store, xid) else {
+            // The branch isn't of this coordinator's naming, so it is left to others.
             return Ok(tally);
         };
         let decided = decisions.is_decided(number);
@@ -91,7 +94,8 @@ impl<S: Speak> Coordinator<S> {
         Ok(with_one(tally, decided, found))
     }
 
-    /// Finishes each listed branch of this coordinator's naming, in order, until one isn't finished.
+    /// Finishes each listed branch of this coordinator's naming, in order, until one isn't finished for another
+    /// cause than XAER_NOTA. Returns how many came to which end, or that cause.
     pub(crate) fn settle_each<R: Wait>(
         &mut self,
         rt: &R,
@@ -127,7 +131,7 @@ impl<S: Speak> Coordinator<S> {
         Ok(tally)
     }
 
-    /// The number of the first listed branch of this coordinator's naming, if there is one.
+    /// The number of the first listed branch that has this coordinator's naming in this store. None if none has.
     pub(crate) fn own_number(&self, store: u8, xids: &[Xid]) -> Option<u64>
         ensures fits { IfSome result (λ number. number < 2 ^ 64) }
         ensures some { IfSome result (λ number. list_any (same_xid

@@ -18,10 +18,11 @@ pub trait Speak {
     // what a contract sees of the session
     ghost view: { Self → SessionView };
 
-    // what more is known of a call: of the session before it, the statement, the answer and the session after
-    // it
+    // what more is known of a call of `attempt`: of the session before it, the statement, the answer and the
+    // session after it
     ghost attempts: { Self → StatementOf → Result AnswerOf FaultOf → Self → Type 0 } = { λ _ _ _ _. ⊤ };
 
+    // what more is known of a call of `execute`
     ghost executes: { Self → StatementOf → Result AnswerOf FaultOf → Self → Type 0 } = { λ _ _ _ _. ⊤ };
 
     /// Answers a statement from the whole history, as it is at one step of the call, and adds it there if it

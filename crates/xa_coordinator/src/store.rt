@@ -17,9 +17,8 @@ use xa_xid::{SessionNo, Statement};
 /// An unbounded store for one thread, with two sessions: its own, of number 1, and another client's, of
 /// number 2.
 ///
-/// It is renewed with each entry: it keeps the state that its history leaves, and of the history only its
-/// length. So it takes memory only for its branches and rows, and the history can have 2^63 - 1 entries. A
-/// contract sees the whole history.
+/// It keeps the state that its history leaves, and of the history only its length. So it takes memory only for
+/// its branches and rows, and the history can have 2^63 - 1 entries. A contract sees the whole history.
 #[derive(Drop)]
 pub struct LastingStore {
     /// The server with which it began. Only contracts see it.
@@ -66,6 +65,7 @@ impl LastingStore {
         // Proved (coordinator, unbounded-store-begins)
         ensures other { (other_view result).known ≡ newcomer 2 }
     {
+        // Only the contract needs this: the state in which the history begins keeps the lock law.
         server.keeps_lock_law();
         LastingStore {
             first: Snapshot::of(&server),
@@ -101,6 +101,7 @@ impl LastingStore {
         // Proved (coordinator, unbounded-store-beside)
         ensures cause { OnErr result (result ≡ Err WantsMemory) }
     {
+        // Sessions have the numbers 1 to 16, so this error never comes.
         let Some(session) = SessionNo::of(2) else {
             return Err(Fault::NoMemory);
         };
@@ -116,12 +117,13 @@ impl LastingStore {
         }
     }
 
-    /// Answers a statement of the store's own session, number 1.
+    /// Answers a statement of the store's own session, number 1. Errors: as for `answer_other`.
     pub(crate) fn answer_own(&mut self, statement: &Statement) -> Result<Answer, Fault>
         ensures answered { IfOk result (IsAnsweredBeside statement.now (own_view self.old) (own_view self.new)) }
         ensures err { OnErr result (own_view self.new ≡ own_view self.old) }
         ensures cause { OnErr result (result ≡ Err WantsMemory) }
     {
+        // Sessions have the numbers 1 to 16, so this error never comes.
         let Some(session) = SessionNo::of(1) else {
             return Err(Fault::NoMemory);
         };

@@ -23,7 +23,8 @@ use xa_session::Fault;
 use xa_xid::Statement;
 
 impl<S: Speak> Coordinator<S> {
-    /// Gives a row statement to a store in which the transaction's branch is open and ACTIVE.
+    /// Gives a row statement to a store in which the branch of the transaction of this number is open and
+    /// ACTIVE. Only the contract needs `number`. A refusal is a reply too; the error is the session's fault.
     fn execute_row<R: Wait>(
         &mut self,
         rt: &R,
@@ -50,7 +51,8 @@ impl<S: Speak> Coordinator<S> {
         Ok(answer.reply)
     }
 
-    /// Works in a store in which the coordinator has the transaction's branch open and ACTIVE.
+    /// Works in a store in which the coordinator has the transaction's branch open and ACTIVE. The store takes
+    /// part then, also after an error.
     fn work_within<R: Wait>(
         &mut self,
         rt: &R,
@@ -72,6 +74,7 @@ impl<S: Speak> Coordinator<S> {
         ensures works { WorksWithin S.view (branch_of transaction.old store) store statement.now result
             self.old.stores.items self.new.stores.items }
     {
+        // The branch is open there, so it has to be finished later, whatever becomes of the row statement.
         transaction.participants.insert(store);
         match self.execute_row(rt, store, transaction.number, statement) {
             Ok(reply) => Ok(reply),
@@ -79,7 +82,8 @@ impl<S: Speak> Coordinator<S> {
         }
     }
 
-    /// Works in a store in which the transaction's branch isn't ACTIVE: starts it first.
+    /// Works in a store in which the coordinator doesn't have the transaction's branch open and ACTIVE: starts
+    /// it first. If `XA START` isn't carried out, the transaction is as before.
     ///
     /// Clause `again`: if the branch is open already, its work was ended, and a session that has an open branch
     /// starts none. So `XA START` isn't added then.
@@ -112,7 +116,9 @@ impl<S: Speak> Coordinator<S> {
         }
     }
 
-    /// Works in a store, whether the coordinator has the transaction's branch open there or not.
+    /// Works in a store: in the transaction's branch if the coordinator has it open and ACTIVE there, else in one that
+    /// it starts; or returns `Lost` if the store takes part, and the coordinator has no branch of the transaction open
+    /// there. Other errors are those of `work`.
     fn work_at<R: Wait>(
         &mut self,
         rt: &R,
@@ -140,10 +146,13 @@ impl<S: Speak> Coordinator<S> {
         if self.is_working(store, transaction.number) {
             return self.work_within(rt, transaction, store, statement);
         }
-        // It worked there in a branch that this coordinator doesn't have open. In a new one that work would be missing.
+        // The transaction worked there in a branch that this coordinator doesn't have open. In a new branch that work
+        // would be missing.
         if transaction.has(store) && !self.has_open(store, transaction.number) {
             return Err(WorkFault::Lost);
         }
+        // Either the store doesn't take part yet and the branch isn't open there, or the branch is open and IDLE. In
+        // the second case `XA START` isn't carried out, since the session has a branch open.
         self.start_and_work(rt, transaction, store, statement)
     }
 

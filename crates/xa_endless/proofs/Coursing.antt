@@ -7,7 +7,8 @@ use Rattle.xa_session.specs.View.{SessionView}
 use Rattle.xa_coordinator.specs.declared.decisions.Decision.{Decision}
 use Rattle.xa_endless.specs.Course.{Course, stays, calls, joined, AgreesThroughout}
 
--- a course of a coordinator's calls adds nothing that disagrees with its decisions at any time
+-- if each of a coordinator's calls adds only what agrees with its decisions of that time, all of them together do, as
+-- `AgreesThroughout` says
 pub throughout : (name : List ℕ) (store : ℕ) (decisions : List (List Decision)) (old new : SessionView)
     → Course name store decisions old new
     → AgreesThroughout name store decisions old new

@@ -11,11 +11,11 @@ use Rattle.xa_session.proofs.Replaying.{stands_longer as longer_from}
 use Rattle.xa_endless.specs.Replicas.{Stands, kept_of}
 use Rattle.xa_endless.specs.declared.replica.Replica.{Replica}
 
--- a replica that stands for a prefix, with an empty store as its base
+-- a replica that stands for a prefix stands for it as xa_session says it, with the empty state as the base
 from : (seen : List Entry) (replica : Replica) → Stands seen replica → StandsFrom no_state seen (kept_of replica)
 from seen replica stands = record { within = stands.within; state = stands.state }
 
--- a replica that stands for a prefix from the empty store stands for it
+-- a replica that stands for a prefix as xa_session says it, with the empty state as the base, stands for it
 to : (seen : List Entry) (replica : Replica) → StandsFrom no_state seen (kept_of replica) → Stands seen replica
 to seen replica stands = record { within = stands.within; state = stands.state }
 

@@ -1,14 +1,15 @@
 -- How a call for a statement ends, by what the session's pass knew and knows.
 --     HasAnswered      the statement was answered
---     Fails            nothing of it was appended
+--     Fails            nothing of the statement was appended; at Overtaken a try was lost
 --     TakesMemory      an entry may take memory where it is replayed
 --     WantsMemory      the entry that the replica would replay next may take memory
---     LacksMemory      entries are left to replay, and that may take memory
+--     LacksMemory      entries are left to replay, for which memory may be missing
 --     IsCaused         the cause of a fault
---     Leaves           what a lost try has seen
+--     Leaves           how far the replica has replayed after a lost try
 --     IsLost           entries that the replica hasn't replayed may be overwritten
---     HasFailed        it wasn't answered, for a cause of this fault
+--     HasFailed        the statement wasn't answered, for the cause of this fault
 --     Finds            HasAnswered after Ok, HasFailed after Err
+--     Tries            how often an attempt without an answer has tried to append
 --     TriesOnce        an attempt has looked, and has tried to append at most once
 use Rattle.std.specs.Prelude.{◌≡◌, ◌<◌, ◌≤◌, ◌+◌, ℕ, true, ◌⊎◌, length, slice_get, Option, Some, None}
 use Rattle.std.specs.Prelude.{Result, Ok, Err, IfErr}
@@ -28,14 +29,14 @@ use Rattle.xa_endless.specs.declared.fault.EndlessFault.{EndlessFault}
 use Rattle.xa_endless.specs.declared.fault.EndlessFault.TheVariants.{Overtaken, NoMemory, Behind}
 use Rattle.xa_endless.specs.declared.replica.Replica.{Replica}
 
--- the reply is the server's at the answer's place, the replica had replayed what it was found on, and has replayed all
--- that is seen since
+-- the statement was answered as `IsAnswered` says, from an empty store on; the replica has replayed at least the
+-- entries before the answer's place, and all that is seen unless carrying the statement out may take memory
 pub record HasAnswered (statement : Statement) (answer : Answer) (replica : Replica) (old new : Known) : Type 0 where
   pub answered : IsAnswered no_state statement answer old new
   pub replayed : answer.place ≤ replica.replayed
   pub kept : IsKept no_state statement answer (kept_of replica) new
 
--- at Overtaken a try was lost to a longer history; at the others nothing of the statement was appended
+-- nothing of the statement was appended; at Overtaken a try was lost to a longer history
 abbrev pub Fails : EndlessFault → Known → Known → Type 0
 Fails (Overtaken front) old new = IsOvertaken front old new
 Fails NoMemory old new = IsUnanswered old new
@@ -54,14 +55,15 @@ TakesMemory state (Some entry) = may_take_memory state entry.session entry.state
 abbrev pub WantsMemory : Replica → Known → Type 0
 WantsMemory replica known = TakesMemory replica.server (slice_get known.seen replica.replayed)
 
--- not all that is seen is replayed: the next entry may take memory, or as many are left as the ring has rows, so that a
--- copy of all rows is needed
+-- not all that is seen is replayed: the next entry may take memory, or at least as many entries are left as the ring
+-- has rows, so that the session needs a copy of a checkpoint's replica
 abbrev pub LacksMemory : ℕ → Replica → Known → Type 0
 LacksMemory rows replica known = (replica.replayed < length known.seen)
     × (WantsMemory replica known ⊎ (replica.replayed + rows ≤ length known.seen))
 
--- there is no memory only for the list of an XA RECOVER, or for a replica that hasn't replayed all that is seen; or the
--- history has all entries that it can have, which are more than 2^59
+-- why a statement wasn't answered. NoMemory: it is an XA RECOVER, which needs a list; or memory may be missing for
+-- what is left to replay; or the history has all entries that it can have, which are more than 2^59. Behind: entries
+-- that the replica hasn't replayed may be overwritten. Of Overtaken nothing is said
 abbrev pub IsCaused : RingLog → Statement → EndlessFault → Replica → RingPass → Type 0
 IsCaused log statement (Overtaken front) replica pass = Unit {0}
 IsCaused log statement NoMemory replica pass =
@@ -69,7 +71,8 @@ IsCaused log statement NoMemory replica pass =
     ⊎ (length (known_of pass).seen ≡ log.capacity))
 IsCaused log statement Behind replica pass = IsLost log.rows replica pass
 
--- a try is lost after the replica has replayed all that was seen before, and to entries that it hasn't replayed
+-- at Overtaken the replica has replayed all that was seen before the try, and less than is seen now; of the other
+-- faults nothing is said
 abbrev pub Leaves : EndlessFault → Replica → Known → Known → Type 0
 Leaves (Overtaken front) replica old new = (length old.seen ≤ replica.replayed) × (replica.replayed < length new.seen)
 Leaves NoMemory replica old new = Unit {0}
@@ -87,13 +90,13 @@ abbrev pub Finds : RingLog → Statement → Result Answer EndlessFault → Repl
 Finds log statement (Ok answer) replica old new = HasAnswered statement answer replica (known_of old) (known_of new)
 Finds log statement (Err fault) replica old new = HasFailed log statement fault replica old new
 
--- an attempt without an answer has lost one try to append, or else has not tried
+-- an attempt without an answer has tried to append once at Overtaken, and not at NoMemory and Behind
 abbrev pub Tries : EndlessFault → Known → Known → Type 0
 Tries (Overtaken front) old new = new.tries ≡ old.tries + 1
 Tries NoMemory old new = new.tries ≡ old.tries
 Tries Behind old new = new.tries ≡ old.tries
 
--- an attempt has looked, and has tried to append at most once
+-- an attempt has looked, and has tried to append at most once; after a fault just as often as `Tries` says
 pub record TriesOnce (result : Result Answer EndlessFault) (old new : Known) : Type 0 where
   pub looked : old.looks < new.looks
   pub tries : new.tries ≤ old.tries + 1

@@ -8,7 +8,8 @@ use Rattle.xa_endless.specs.declared.fault.EndlessFault.{EndlessFault}
 use Rattle.xa_endless.specs.declared.fault.EndlessFault.TheVariants.{Overtaken, NoMemory, Behind}
 use Rattle.xa_endless.specs.declared.replica.Replica.{Replica}
 
--- why a replay stops, by its fault; a replay is never overtaken
+-- why a replay stops, by its fault. NoMemory: the next entry may take memory. Behind: it may be overwritten. A replay
+-- is never overtaken
 abbrev pub IsHalt : RingLog → EndlessFault → Replica → RingPass → Type 0
 IsHalt log (Overtaken front) replica pass = ⊥
 IsHalt log NoMemory replica pass = WantsMemory replica (known_of pass)

@@ -8,7 +8,8 @@ use Rattle.xa_endless.specs.declared.store.EndlessStore.{EndlessStore}
 abbrev pub checkpoints_of : ℕ → ℕ
 checkpoints_of sessions = if nat_le sessions 1 then 0 else min sessions 4
 
--- of so many rows and sessions, each of which has a place
+-- the ring has so many rows, there are so many sessions, each of which has a place, and as many checkpoints as
+-- `checkpoints_of` says
 pub record Opens (rows sessions : ℕ) (store : EndlessStore) : Type 0 where
   pub rows_are : store.log.rows ≡ rows
   pub sessions_are : store.log.sessions ≡ sessions

@@ -11,7 +11,7 @@ use Rattle.xa_session.specs.Replay.{state_at}
 use Rattle.xa_session.specs.declared.replica.Replica.{Replica as KeptReplica}
 use Rattle.xa_endless.specs.declared.replica.Replica.{Replica}
 
--- its server, and how many entries it has replayed
+-- the replica as xa_session's contracts see one: its server, and how many entries it has replayed
 abbrev pub kept_of : Replica → KeptReplica
 kept_of replica = record { server = replica.server; replayed = replica.replayed }
 

@@ -21,8 +21,8 @@ use Rattle.xa_endless.specs.Stays.{Stays}
 use Rattle.xa_endless.specs.declared.fault.EndlessFault.TheVariants.{NoMemory as WantsMemory, Behind as IsBehind}
 use Rattle.xa_endless.specs.declared.session.EndlessSession.{EndlessSession}
 
--- its history begins with the store's first entry. It has no turn, no other session is in it, the statements that it
--- takes aren't limited, and memory may be refused for any of them
+-- the session as contracts see one: its history begins with the store's first entry. It has no turn, no other session
+-- is in it, the statements that it takes aren't limited, and memory may be refused for any of them
 abbrev pub view_of : EndlessSession → SessionView
 view_of session =
     record {
@@ -40,8 +40,8 @@ view_of session =
 pub keeps-law : (session : EndlessSession) → LockLaw (view_of session).base
 keeps-law session = law_no_state
 
--- memory is missing only for a list, for a replica that hasn't replayed all that is seen, or after 2^59 entries; the
--- store is never full and has no turn
+-- the only fault of `execute` is NoMemory, for the cause that `IsCaused` names: a list, a replica that hasn't replayed
+-- all that is seen, or more than 2^59 entries. The store is never full and has no turn
 abbrev pub MayFail : Statement → Fault → EndlessSession → Type 0
 MayFail statement (Overtaken front) session = ⊥
 MayFail statement Full session = ⊥
@@ -49,7 +49,8 @@ MayFail statement NoMemory session =
     IsCaused session.store.value.log statement WantsMemory session.member.replica session.member.pass
 MayFail statement Busy session = ⊥
 
--- a single try may be overtaken, and is out of memory also if entries that the replica needs may be overwritten
+-- the faults of `attempt`: a single try may be Overtaken; and it is NoMemory as for `execute`, or if entries that the
+-- replica needs may be overwritten
 abbrev pub MayFailOnce : Statement → Fault → EndlessSession → Type 0
 MayFailOnce statement (Overtaken front) session = Unit {0}
 MayFailOnce statement Full session = ⊥

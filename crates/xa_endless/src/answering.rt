@@ -14,7 +14,7 @@ use xa_session::Answer;
 use xa_xid::{NoMemory, Statement};
 
 impl EndlessStore {
-    /// Tries once to answer a statement.
+    /// Tries once to answer a statement, with the session's own replica, as `Replica::attempt` does.
     fn try_once(&self, member: &mut Member, statement: &Statement) -> Result<Answer, EndlessFault>
         requires { log_of member.old.pass ≡ identity_of self.now.log }
         ensures belongs { log_of member.new.pass ≡ log_of member.old.pass }
@@ -28,7 +28,10 @@ impl EndlessStore {
             .attempt(&self.log, &mut member.pass, statement)
     }
 
-    /// Tries once to answer a statement, from a checkpoint if that is faster, or if the session is behind.
+    /// Tries to answer a statement. Before that the session goes on from a checkpoint, if that is faster than to
+    /// replay. If it then turns out to be behind, it goes on from a checkpoint and tries once more.
+    ///
+    /// Errors: as for `Replica::attempt`; `NoMemory` also if a session that is behind couldn't copy the checkpoint.
     fn answer(&self, member: &mut Member, statement: &Statement) -> Result<Answer, EndlessFault>
         requires { log_of member.old.pass ≡ identity_of self.now.log }
         ensures belongs { log_of member.new.pass ≡ log_of member.old.pass }
@@ -39,10 +42,11 @@ impl EndlessStore {
     {
         self.jump(member);
         let answered = self.try_once(member, statement);
-        // A checkpoint helps only a session that lost entries.
+        // An answer needs no checkpoint, and after any other fault than `Behind` one wouldn't help.
         if !matches!(answered, Err(EndlessFault::Behind)) {
             return answered;
         }
+        // `Behind` comes before any exchange, so the session still tries to append at most once.
         if self.help(member)? {
             return self.try_once(member, statement);
         }
@@ -50,7 +54,8 @@ impl EndlessStore {
         answered
     }
 
-    /// Tries once to answer a statement, and then looks after a checkpoint, if it is time.
+    /// Answers a statement as `answer` does. After an answer, but not after a fault, it looks after a checkpoint, if it
+    /// is time.
     fn attempt(&self, member: &mut Member, statement: &Statement) -> Result<Answer, EndlessFault>
         requires { log_of member.old.pass ≡ identity_of self.now.log }
         ensures belongs { log_of member.new.pass ≡ log_of member.old.pass }
@@ -60,7 +65,7 @@ impl EndlessStore {
         ensures once { TriesOnce result (known_of member.old.pass) (known_of member.new.pass) }
     {
         let answer = self.answer(member, statement)?;
-        // The session has just replayed the whole history. It may be the last one that adds, so it does this now.
+        // The session has just replayed what it saw. It may be the last one that adds, so it does this now.
         self.tend_in_time(member);
         Ok(answer)
     }
@@ -77,8 +82,8 @@ impl EndlessSession {
     /// `Overtaken` if another session appended after this attempt looked. After an error the history has nothing of the
     /// statement, and the session may have seen and replayed more. `NoMemory` is never returned after an append.
     ///
-    /// After an answer the session may bring a checkpoint up to date, for which it may copy all rows. Doesn't wait, and
-    /// yields no processor.
+    /// After an answer the session may bring a checkpoint up to date, for which it may copy its replica with all rows
+    /// of the store. Doesn't wait, and yields no processor.
     /// Own rule: docs/RATTLE.md#a-store-without-an-end.
     pub fn attempt(&mut self, statement: &Statement) -> Result<Answer, EndlessFault>
         // Proved (endless, stays): A session stays with its store, how many entries it has replayed never falls, and
@@ -128,8 +133,9 @@ impl EndlessSession {
             let tended = self.member.tended;
             match self.attempt(statement) {
                 Ok(answer) => {
-                    // Much of the ring is used up: threads that wait for a processor can look before it has gone round,
-                    // and find a checkpoint if they need one.
+                    // `tended` changes only after a pace of entries, or when the session goes on from a checkpoint:
+                    // much of the ring may be used up. Threads that wait for a processor can look before it has gone
+                    // round, and find a checkpoint if they need one.
                     if self.member.tended != tended {
                         thread::yield_now();
                     }

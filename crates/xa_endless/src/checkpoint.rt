@@ -21,7 +21,7 @@ use std::sync::Arc;
 /// session shares the replica while it copies it. A replica that is shared can't change.
 #[derive(Drop)]
 pub(crate) struct Checkpoint {
-    /// It has seen at least what the replica has replayed.
+    /// The spare, which has seen at least what the replica has replayed.
     pub(crate) spare: RingSpare,
     /// The replica, which sessions share while they copy it.
     pub(crate) replica: Arc<Replica>,
@@ -32,15 +32,17 @@ pub(crate) struct Checkpoint {
 }
 
 impl Checkpoint {
-    /// How many entries the replica has replayed, if a session can go on from there: if it has replayed more than the
-    /// session's own, and can replay the next one.
+    /// How many entries the replica has replayed, if a session can go on from there, else None. It can if the replica
+    /// has replayed more than the session's own, and its next entry isn't lost, as far as the session has seen: fewer
+    /// entries come after the replayed ones than the ring has rows.
     pub(crate) fn offers(&self, log: &RingLog, member: &Member) -> Option<u64>
         requires mine { spare_log_of self.now.spare ≡ identity_of log.now }
         requires belongs { log_of member.now.pass ≡ identity_of log.now }
         ensures { IfSome result (λ _. member.now.replica.replayed < self.now.replica.value.replayed) }
     {
         let replayed = self.replica.replayed;
-        // A replica of which entries are lost, too, is of no use.
+        // A replica whose next entry may be lost, too, is of no use. A log is full long before such a sum reaches 2^64,
+        // but that isn't known here, so it saturates.
         let is_lost = replayed.saturating_add(log.rows()) <= log.length(&member.pass);
         if replayed <= member.replica.replayed || is_lost {
             None
@@ -49,7 +51,8 @@ impl Checkpoint {
         }
     }
 
-    /// Shares the replica with a session that can go on from there.
+    /// Shares the replica with a session that can go on from there. None, with the session as it was, if it can't, or
+    /// if the replica can't be shared once more.
     ///
     /// The session has then seen all that the replica stands for.
     pub(crate) fn share(&mut self, log: &RingLog, member: &mut Member) -> Option<Arc<Replica>>
@@ -62,17 +65,20 @@ impl Checkpoint {
         ensures least { IfSome result (λ _. least_of member.old.pass ≤ length (known_of member.new.pass).seen) }
         ensures none { IfNone result (member.new ≡ member.old) }
     {
+        // These two can fail, so they come before anything changes.
         self.offers(log, member)?;
         let shared = Arc::try_clone(&self.replica).ok()?;
-        // The session has then seen as much as it knew to be there, also if the copy can't be had.
+        // The session then sees at least as many entries as it knew the history to have. `copy` promises that, also if
+        // there is no memory for the copy.
         log.look(&mut member.pass);
-        // Both have seen first parts of one history, so what the replica has replayed begins what the session has seen.
+        // Spare and pass have seen prefixes of one history, so what the replica has replayed begins what the session
+        // has seen.
         log.hear(&mut self.spare, &mut member.pass);
         Some(shared)
     }
 
-    /// Exchanges the replica with that of a session that can go on from there, unless it is shared. Returns whether it
-    /// did.
+    /// Exchanges the replica with that of a session, if the session can go on from there, and no other shares the
+    /// checkpoint's replica. Returns whether they are exchanged. If not, nothing has changed.
     pub(crate) fn exchange(&mut self, log: &RingLog, member: &mut Member) -> bool
         requires mine { spare_log_of self.old.spare ≡ identity_of log.now }
         requires belongs { log_of member.old.pass ≡ identity_of log.now }
@@ -84,11 +90,12 @@ impl Checkpoint {
         if self.offers(log, member).is_none() {
             return false;
         }
+        // A replica that another session shares can't change.
         let Some(replica) = Arc::get_mut(&mut self.replica) else {
             return false;
         };
-        // The session has then seen what the checkpoint's replica stands for. Its own has replayed less than that, so
-        // the spare has seen what it stands for already.
+        // The session has then seen what the checkpoint's replica stands for. Its own replica has replayed less, so the
+        // spare has already seen what that stands for.
         let spare = &mut self.spare;
         log.hear(spare, &mut member.pass);
         mem::swap(replica, &mut member.replica);
@@ -97,7 +104,10 @@ impl Checkpoint {
 
     /// Replays here what a session has seen, unless the replica is shared.
     ///
-    /// If memory runs out, less is replayed.
+    /// A shared replica stays as it is: `Old` if it misses at least half as many entries as the ring has rows (rounded
+    /// down), else `NotNow`, even if it misses none. Otherwise returns `Done` if the replica has then replayed all that
+    /// the session has seen, or had replayed more; `Old` if its next entry may be lost, or `NotNow` if memory runs out.
+    /// In these two cases less is replayed.
     pub(crate) fn follow(&mut self, log: &RingLog, member: &mut Member) -> Upkeep
         requires mine { spare_log_of self.old.spare ≡ identity_of log.now }
         requires belongs { log_of member.old.pass ≡ identity_of log.now }
@@ -105,9 +115,11 @@ impl Checkpoint {
         ensures belongs { log_of member.new.pass ≡ log_of member.old.pass }
         ensures tends { Tends member.old member.new }
     {
+        // The spare has then seen all that the replica may replay here.
         log.tell(&mut member.pass, &mut self.spare);
         let count = log.length(&member.pass);
-        // It may be lost before those who copy it are done.
+        // The replica misses so many entries that its next one may be lost before those who copy it are done. The sum
+        // saturates as in `offers`.
         let is_old = self.replica.replayed.saturating_add(log.rows() / 2) <= count;
         let Some(replica) = Arc::get_mut(&mut self.replica) else {
             return if is_old { Upkeep::Old } else { Upkeep::NotNow };
@@ -118,12 +130,15 @@ impl Checkpoint {
         }
         match replica.catch_up(log, &mut member.pass, count) {
             Ok(()) => Upkeep::Done,
+            // The replica's next entry may be lost.
             Err(EndlessFault::Behind) => Upkeep::Old,
+            // Memory has run out.
             Err(_) => Upkeep::NotNow,
         }
     }
 
-    /// Takes a copy of a session's replica for its own, if that has replayed more. Returns the one that isn't needed.
+    /// Puts a copy of a session's replica in the place of the checkpoint's, if the copy has replayed more. Returns the
+    /// one of the two that isn't needed.
     pub(crate) fn renew(
         &mut self,
         log: &RingLog,
@@ -141,6 +156,7 @@ impl Checkpoint {
         if copy.replayed <= self.replica.replayed {
             return copy;
         }
+        // The spare has then seen what the copy stands for.
         let pass = &mut member.pass;
         log.tell(pass, &mut self.spare);
         mem::replace(&mut self.replica, copy)

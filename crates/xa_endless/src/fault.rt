@@ -26,7 +26,8 @@ pub enum EndlessFault {
 }
 
 impl EndlessFault {
-    /// Returns the fault's number: 1, 3 or 5.
+    /// Returns the fault's number: 1, 3 or 5. `Overtaken` and `NoMemory` have the numbers that they have in `Fault` of
+    /// xa_session, and `Behind` has one that is free there.
     ///
     /// Takes no memory. Doesn't wait.
     /// Own rule: docs/RATTLE.md#faults-of-a-session.

@@ -12,7 +12,8 @@ use xa_words::Entry;
 pub enum Next {
     /// The next entry.
     Entry(Entry),
-    /// So many entries were overwritten before they were handed out.
+    /// So many entries are counted as lost. The first of them may be overwritten; the others, if any, would be the next
+    /// to be.
     Lost(u64),
     /// All that the history has was handed out.
     End,
@@ -43,8 +44,10 @@ impl EndlessSession {
             self.member.told = told + 1;
             return Next::Entry(entry);
         }
+        // The entry is lost. Those that came since may not be seen yet.
         let count = log.look(&mut self.member.pass);
-        // The oldest quarter of the ring may be lost before it is handed out.
+        // Entries of the oldest quarter of the ring may be lost before they are handed out, so they are given up with
+        // the one that is lost. At least that one is, also in a ring of fewer than 4 rows, which has no such quarter.
         let kept = log.rows() - log.rows() / 4;
         let lost = (count - told).saturating_sub(kept).max(1);
         self.member.told = told + lost;

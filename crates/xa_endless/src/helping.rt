@@ -1,4 +1,4 @@
-//! How a session that is behind goes on from a checkpoint.
+//! How a session goes on from a checkpoint: one that is behind, or one that would have to replay many entries.
 ghost use Rattle.std.specs.Prelude.{◌≡◌, ◌<◌, ◌≤◌, false, length, IfOk, IfSome, OnErr};
 ghost use Rattle.chain_log.specs.RingPass.{identity_of, log_of, known_of, least_of};
 ghost use Rattle.xa_endless.specs.Members.{Keeps};
@@ -11,8 +11,8 @@ use xa_xid::NoMemory;
 const LEAST_JUMP: u64 = 512;
 
 impl EndlessStore {
-    /// How many entries the replica of a checkpoint has replayed, or 0 if a session can't go on from there, or if
-    /// another session has the checkpoint just now.
+    /// How many entries the replica of the checkpoint at `index` has replayed, or 0 if the session can't go on from
+    /// there, or if another one has the checkpoint just now.
     fn offered(&self, index: usize, member: &Member) -> u64
         requires index { index < length self.now.checkpoints.items }
         requires belongs { log_of member.now.pass ≡ identity_of self.now.log }
@@ -20,12 +20,14 @@ impl EndlessStore {
         let Some(checkpoint) = self.take_checkpoint(index) else {
             return 0;
         };
+        // What is offered is more than the session has replayed, so 0 stands for nothing else.
         let offered = checkpoint.offers(&self.log, member).unwrap_or(0);
         self.put_checkpoint(index, checkpoint);
         offered
     }
 
-    /// The checkpoint whose replica has replayed most, of those from which a session can go on.
+    /// The place of the checkpoint whose replica has replayed most, of those from which the session can go on, or None
+    /// if there is none.
     fn best(&self, member: &Member) -> Option<usize>
         requires { log_of member.now.pass ≡ identity_of self.now.log }
         ensures { IfSome result (λ index. index < length self.now.checkpoints.items) }
@@ -43,10 +45,11 @@ impl EndlessStore {
         best
     }
 
-    /// Has a session that is behind go on from the replica of a checkpoint. Returns whether it does; if not, nothing
-    /// has changed.
+    /// Has a session go on from the replica of the checkpoint that has replayed most, of those from which it can.
+    /// Returns whether it does. It doesn't if there is none, or if that one can't be had by then; nothing has changed
+    /// in this case.
     ///
-    /// May return `NoMemory`.
+    /// May return `NoMemory`; the session has then the replica that it had, and may have seen more.
     pub(crate) fn help(&self, member: &mut Member) -> Result<bool, NoMemory>
         requires { log_of member.old.pass ≡ identity_of self.now.log }
         ensures belongs { log_of member.new.pass ≡ log_of member.old.pass }
@@ -59,15 +62,17 @@ impl EndlessStore {
         let Some(index) = self.best(member) else {
             return Ok(false);
         };
-        // A copy of many rows may take longer than the ring lasts. So the session takes the replica itself, and the
-        // sessions that go on make the next checkpoint.
+        // If the store has many rows, a copy may take so long that the ring goes round meanwhile. So the session takes
+        // the replica itself, and the sessions that go on make the next checkpoint.
         if self.swap(index, member) {
             return Ok(true);
         }
+        // With few rows, or if somebody copies the replica just now, the session copies it.
         self.copy(index, member)
     }
 
-    /// Exchanges a session's replica for that of a checkpoint, if that has many rows. Returns whether it did.
+    /// Exchanges a session's replica for that of the checkpoint at `index`, if that has many rows, the session can go
+    /// on from it, and nobody else has or copies it. Returns whether they are exchanged; if not, nothing has changed.
     fn swap(&self, index: usize, member: &mut Member) -> bool
         requires index { index < length self.now.checkpoints.items }
         requires belongs { log_of member.old.pass ≡ identity_of self.now.log }
@@ -82,14 +87,17 @@ impl EndlessStore {
             && checkpoint.exchange(&self.log, member);
         self.put_checkpoint(index, checkpoint);
         if swaps {
+            // The checkpoint has the session's old replica now, which has replayed less.
             self.progress.forget_checkpoint();
-            // It makes a checkpoint after its next answer.
+            // So at its next answer the session sees whether a checkpoint is wanted, as if it had never tended one.
             member.tended = 0;
         }
         swaps
     }
 
-    /// Has a session go on from a copy of a checkpoint's replica. Returns whether it does.
+    /// Has a session go on from a copy of the replica of the checkpoint at `index`. Returns false, with nothing
+    /// changed, if another session has the checkpoint, if this one can't go on from it by now, or if the replica can't
+    /// be shared once more. May return `NoMemory`; the session may then have seen more.
     fn copy(&self, index: usize, member: &mut Member) -> Result<bool, NoMemory>
         requires index { index < length self.now.checkpoints.items }
         requires belongs { log_of member.old.pass ≡ identity_of self.now.log }
@@ -110,6 +118,7 @@ impl EndlessStore {
         };
         // The copy takes time for all rows. Meanwhile the checkpoint is in its place, and others can share it, too.
         member.replica = shared.copy()?;
+        // It is as far as the checkpoint, so it looks after one only after a pace more.
         member.tended = member.replica.replayed;
         self.progress
             .tell(self.log.number(&member.pass).get(), member.tended);
@@ -123,12 +132,14 @@ impl EndlessStore {
         ensures keeps { Keeps member.old member.new }
     {
         let checkpoint = self.progress.checkpoint();
+        // How many entries the newest checkpoint is ahead: 0 if the session has replayed as many.
         let ahead = checkpoint - member.replica.replayed.min(checkpoint);
-        // A copy takes time for each row, so it has to save the replay of as many entries.
+        // A copy takes time for each row, so it has to save the replay of as many entries. The session's own rows are
+        // counted, since the checkpoint isn't at hand.
         if ahead < LEAST_JUMP || ahead < member.replica.row_count() {
             return;
         }
-        // Without memory for the copy it replays the entries.
+        // If no checkpoint can be had, or without memory for the copy, it replays the entries.
         let _jumped = self.help(member);
     }
 }

@@ -7,11 +7,12 @@ use crate::EndlessSession;
 use crate::tending::MOST_LOOKS;
 
 impl EndlessSession {
-    /// Leaves a checkpoint at the end of what the session has seen: others that are behind can go on from there.
+    /// Leaves a checkpoint that has replayed at least what the session has. Others that are behind can go on from it.
     ///
     /// A session that ends and has added the last entry should do so, since nobody else will: sessions look after
-    /// checkpoints after they have answered. Returns whether a checkpoint could be had. If not, others use them just
-    /// now: try again. If memory runs out, the checkpoint may be older. Doesn't wait.
+    /// checkpoints after they have answered. Returns true if a checkpoint has then replayed as much as this session
+    /// has, or if the store has none, as one for a single session. Returns false if others use the checkpoints just
+    /// now, or if memory runs out: try again. Doesn't wait.
     /// Own rule: docs/RATTLE.md#a-store-without-an-end.
     pub fn leave_checkpoint(&mut self) -> bool
         // Proved (endless, stays)
@@ -23,6 +24,7 @@ impl EndlessSession {
         if self.store.checkpoints.is_empty() {
             return true;
         }
+        // Any checkpoint will do, so the search begins with the first. It makes as many looks as one for a copy does.
         self.store.tend(&mut self.member, 0, MOST_LOOKS)
     }
 }

@@ -18,7 +18,8 @@ pub struct Member {
     pub(crate) replica: Replica,
     /// How many entries `next_entry` has handed out, lost ones included.
     pub(crate) told: u64,
-    /// How many entries its replica had replayed when it last looked after a checkpoint.
+    /// A number of replayed entries: once its replica has replayed a pace (`src/tending.rt`) more, the session looks
+    /// after a checkpoint.
     pub(crate) tended: u64,
     // The replica is no farther than what the pass has seen.
     ghost within: { replica.replayed ≤ length (known_of pass).seen },

@@ -20,10 +20,11 @@ fn count_checkpoints(sessions: u64) -> u64
     ensures value { result ≡ checkpoints_of sessions }
     ensures most { result ≤ 4 }
 {
+    // With one session nobody can be behind. More than four would take memory, each for all rows of the store.
     if sessions <= 1 { 0 } else { sessions.min(4) }
 }
 
-/// A session for each pass.
+/// A session for each pass, at rest in a place, with nothing replayed.
 fn place_all(
     alloc: Global,
     log: &RingLog,
@@ -46,7 +47,7 @@ fn place_all(
     Ok(places)
 }
 
-/// A checkpoint for each spare.
+/// A checkpoint for each spare, at rest in a place, with nothing replayed.
 fn place_checkpoints(
     alloc: Global,
     log: &RingLog,
@@ -72,9 +73,10 @@ impl EndlessStore {
     /// Opens a store with no branch and no row, for 1 to 16 sessions. Its ring has `rows` rows, in `[1, 65536]`.
     ///
     /// A session may sleep while fewer entries than `rows` are added, and then replays them. After more than that it
-    /// goes on from a checkpoint: from a copy of all rows, or if these are many, from the checkpoint's own. A row of
-    /// the ring takes 184 bytes for each session and each checkpoint; there are up to 4 checkpoints. Errors, in the
-    /// order of test: `RowsOutOfRange`, `SessionsOutOfRange`, `NoMemory`. Doesn't wait.
+    /// goes on from a checkpoint, a replica that no session owns: from a copy of it, or if the store's table has many
+    /// rows, from that replica itself. A row of the ring takes 184 bytes for each session and each checkpoint; there
+    /// are up to 4 checkpoints. Errors, in the order of test: `RowsOutOfRange`, `SessionsOutOfRange`, `NoMemory`.
+    /// Doesn't wait.
     /// Own rule: docs/RATTLE.md#a-store-without-an-end.
     pub fn open(alloc: Global, rows: u64, sessions: u64) -> Result<Arc<EndlessStore>, RingFault>
         // Proved (endless, open): A store opens with as many rows and sessions as were asked for, and with a

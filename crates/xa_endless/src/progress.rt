@@ -19,7 +19,7 @@ pub(crate) struct Progress {
 }
 
 impl Progress {
-    /// No session has replayed an entry.
+    /// Makes the progress of a store of `count` sessions, of which none has replayed an entry.
     ///
     /// May return `AllocError`.
     pub(crate) fn new(alloc: Global, count: u64) -> Result<Progress, AllocError> {
@@ -34,7 +34,8 @@ impl Progress {
         })
     }
 
-    /// Tells how many entries the replica of a session has replayed. Sessions are numbered from 1 on.
+    /// Tells how many entries the replica of a session has replayed. Sessions are numbered from 1 on; with any other
+    /// number nothing changes.
     pub(crate) fn tell(&self, session: u64, replayed: u64) {
         for (index, told) in self.sessions.iter().enumerate() {
             // The number isn't known to be one of the list, so its place is looked for.
@@ -44,8 +45,9 @@ impl Progress {
         }
     }
 
-    /// How many entries each session's replica has replayed at least.
+    /// How many entries each session's replica has replayed at least, by what they told last.
     pub(crate) fn least(&self) -> u64 {
+        // Only to begin with: a store has at least one session.
         let mut least = u64::MAX;
         for told in self.sessions.iter() {
             least = least.min(told.load(SeqCst));
@@ -53,7 +55,7 @@ impl Progress {
         least
     }
 
-    /// Tells how many entries a checkpoint has replayed.
+    /// Tells how many entries a checkpoint has replayed. Changes nothing if as much or more is told already.
     pub(crate) fn tell_checkpoint(&self, replayed: u64) {
         // If two threads do this at once, the lower number may stay: a checkpoint is then looked after too early.
         if self.checkpoint.load(SeqCst) < replayed {
@@ -61,12 +63,14 @@ impl Progress {
         }
     }
 
-    /// Tells that a session took the replica of a checkpoint for its own.
+    /// Tells that a session took the replica of a checkpoint for its own: the newest checkpoint then counts as one that
+    /// has replayed nothing, until another one tells more.
     pub(crate) fn forget_checkpoint(&self) {
         self.checkpoint.store(0, SeqCst);
     }
 
-    /// How many entries the checkpoint has replayed at least that has replayed most.
+    /// How many entries the checkpoint that has replayed most has replayed, by what was told; 0 after a session took
+    /// one for its own.
     pub(crate) fn checkpoint(&self) -> u64 {
         self.checkpoint.load(SeqCst)
     }
@@ -76,7 +80,7 @@ impl Progress {
         self.begun.store(replayed, SeqCst);
     }
 
-    /// How many entries the session had replayed that did so last.
+    /// How many entries the session had replayed that last began to bring a checkpoint up to date.
     pub(crate) fn begun(&self) -> u64 {
         self.begun.load(SeqCst)
     }

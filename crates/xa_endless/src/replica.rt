@@ -66,7 +66,8 @@ impl Replica {
         Ok(())
     }
 
-    /// Replays the next entry, which is this statement of this session and was accepted here already.
+    /// Replays the next entry: this statement of this session, which the server doesn't refuse. The reply isn't made
+    /// again.
     ///
     /// May return `NoMemory`; the replica is then unchanged.
     pub(crate) fn accept(

@@ -22,7 +22,7 @@ pub struct RestingMember {
     pub(crate) replica: Replica,
     /// As in `Member`: how many entries `next_entry` has handed out.
     pub(crate) told: u64,
-    /// As in `Member`: what its replica had replayed when it last looked after a checkpoint.
+    /// As in `Member`: once its replica has replayed a pace more than that, the session looks after a checkpoint.
     pub(crate) tended: u64,
     // The replica is no farther than what the pass has seen,
     ghost within: { replica.replayed ≤ length (resting_known_of pass).seen },
@@ -41,7 +41,7 @@ impl Fits for RestingMember {
 /// A checkpoint that nobody looks after just now.
 #[derive(Drop)]
 pub(crate) struct RestingCheckpoint {
-    /// It has seen at least what the replica has replayed.
+    /// The spare, which has seen at least what the replica has replayed.
     pub(crate) spare: RestingSpare,
     /// The replica, which sessions share while they copy it.
     pub(crate) replica: Arc<Replica>,

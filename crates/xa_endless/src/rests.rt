@@ -27,7 +27,7 @@ impl Member {
 }
 
 impl RestingMember {
-    /// Wakes a session for a call, if its pass wakes.
+    /// Wakes a session for a call. None if its pass isn't there, which can't be: `rest` left it.
     pub(crate) fn wake(self) -> Option<Member>
         ensures { IfSome result (λ member. IsAtRest member self) }
     {
@@ -61,7 +61,7 @@ impl Checkpoint {
 }
 
 impl RestingCheckpoint {
-    /// Wakes a checkpoint for the session that took it.
+    /// Wakes a checkpoint for the session that took it. None if its spare isn't there, which can't be: `rest` left it.
     pub(crate) fn wake(self) -> Option<Checkpoint>
         ensures { IfSome result (λ checkpoint. IsLeft checkpoint self) }
     {

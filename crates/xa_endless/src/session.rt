@@ -95,6 +95,7 @@ impl EndlessSession {
     /// Own rule: docs/RATTLE.md#a-store-without-an-end.
     pub fn leave(self) {
         let EndlessSession { store, member } = self;
+        // Session 1 has place 0.
         let place = store.log.number(&member.pass).get() - 1;
         store.put_member(place as usize, member);
     }

@@ -29,7 +29,7 @@ impl<X: Fits + Drop> Slot<X> {
         }
     }
 
-    /// Takes the value out, if it is in its place.
+    /// Takes the value out, if it is in its place. None if it is out, or if another thread is at the place.
     pub(crate) fn take(&self) -> Option<X>
         ensures { IfSome result (X.fits self.now.value) }
     {
@@ -39,10 +39,11 @@ impl<X: Fits + Drop> Slot<X> {
             claim.done();
             return None;
         }
+        // Puts nothing there, and returns the value that was there.
         claim.put(None, EMPTY)
     }
 
-    /// Puts a value into its place, if that is empty.
+    /// Puts a value into its place, if that is empty. Gives it back if not, or if another thread is at the place.
     pub(crate) fn put(&self, value: X) -> Result<(), X>
         requires { X.fits self.now.value value }
         ensures { IfErr result (λ back. back ≡ value) }

@@ -27,8 +27,8 @@ impl Speak for EndlessSession {
 
     /// Answers a statement as the session's own `attempt` does.
     ///
-    /// Its `Behind` becomes `NoMemory`: nothing was appended, and another try may be answered. `execute` gets over it
-    /// by itself.
+    /// The session's `Behind` becomes `NoMemory`: nothing was appended, and another try may be answered. `execute`
+    /// tries again after it by itself.
     fn attempt(&mut self, statement: &Statement) -> Result<Answer, Fault> {
         match EndlessSession::attempt(self, statement) {
             Ok(answer) => Ok(answer),
@@ -40,6 +40,7 @@ impl Speak for EndlessSession {
     fn execute<R: Wait>(&mut self, rt: &R, statement: &Statement) -> Result<Answer, Fault> {
         match EndlessSession::execute(self, rt, statement) {
             Ok(answer) => Ok(answer),
+            // The session's own `execute` has no other error.
             Err(_) => Err(Fault::NoMemory),
         }
     }

@@ -35,7 +35,7 @@ pub struct EndlessStore {
 }
 
 impl EndlessStore {
-    /// Takes a checkpoint out of its place, if no other session has it now.
+    /// Takes the checkpoint at `index` out of its place. None if another session has it, or is at the place just now.
     pub(crate) fn take_checkpoint(&self, index: usize) -> Option<Checkpoint>
         requires { index < length self.now.checkpoints.items }
         ensures { IfSome result (λ checkpoint. spare_log_of checkpoint.spare ≡ identity_of self.now.log) }
@@ -43,12 +43,12 @@ impl EndlessStore {
         self.checkpoints[index].take()?.wake()
     }
 
-    /// Puts a checkpoint back.
+    /// Puts a checkpoint back into the place from which the caller took it.
     pub(crate) fn put_checkpoint(&self, index: usize, checkpoint: Checkpoint)
         requires index { index < length self.now.checkpoints.items }
         requires mine { spare_log_of checkpoint.spare ≡ identity_of self.now.log }
     {
-        // Nobody else fills a place that this call emptied.
+        // Nobody else fills a place that the caller emptied, so it is free.
         let _put = self.checkpoints[index].put(checkpoint.rest());
     }
 }

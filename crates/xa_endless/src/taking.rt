@@ -22,7 +22,7 @@ pub enum TakeFault {
 }
 
 impl EndlessStore {
-    /// Puts a session back into its place.
+    /// Puts a session back into the place at `index`, from which it was taken.
     pub(crate) fn put_member(&self, index: usize, member: Member)
         requires { log_of member.pass ≡ identity_of self.now.log }
     {
@@ -33,7 +33,8 @@ impl EndlessStore {
         }
     }
 
-    /// Takes a session out of its place.
+    /// Takes the session at `index` out of its place. None if somebody has it, or is at the place just now, as when it
+    /// is given back.
     fn take_member(&self, index: usize) -> Option<Member>
         requires { index < length self.now.places.items }
         ensures { IfSome result (λ member. log_of member.pass ≡ identity_of self.now.log) }
@@ -53,8 +54,9 @@ impl EndlessStore {
 
     /// Takes the session of a number, in `[1, sessions]`. Nobody else has it until it leaves.
     ///
-    /// Errors, in the order of test: `OutOfRange`, `NoMemory`, `Taken`. The store is as before after an error. Doesn't
-    /// wait.
+    /// Errors, in the order of test: `OutOfRange` if the store has no session of this number, `NoMemory` if the store
+    /// can't be shared once more, `Taken` if somebody has the session, or is just giving it back. The store is as
+    /// before after an error. Doesn't wait.
     /// Own rule: docs/RATTLE.md#a-store-without-an-end.
     pub fn take(store: &Arc<EndlessStore>, number: u64) -> Result<EndlessSession, TakeFault>
         // Proved (endless, take): A session that is taken is of the store, and has the number that was asked for.
@@ -72,11 +74,12 @@ impl EndlessStore {
         let Ok(owned) = Arc::try_clone(store) else {
             return Err(TakeFault::NoMemory);
         };
+        // Session 1 has place 0.
         let index = (number - 1) as usize;
         let Some(member) = owned.take_member(index) else {
             return Err(TakeFault::Taken);
         };
-        // Each place has the session of its number.
+        // Each place has the session of its number. That isn't known here.
         if owned.log.number(&member.pass).get() != number {
             owned.put_member(index, member);
             return Err(TakeFault::Taken);

@@ -20,7 +20,8 @@ use xa_words::Entry;
 use xa_xid::{NoMemory, SessionNo, Statement};
 
 impl Replica {
-    /// Replays the entry after those that were replayed.
+    /// Replays the entry after those that were replayed. Errors: `Behind` if the ring may have no copy of it any more,
+    /// `NoMemory`; the replica is then unchanged.
     fn replay_next(&mut self, log: &RingLog, pass: &mut RingPass) -> Result<(), EndlessFault>
         requires belongs { log_of pass.old ≡ identity_of log.now }
         requires stands { Stands (known_of pass.old).seen self.old }
@@ -39,7 +40,8 @@ impl Replica {
         Ok(())
     }
 
-    /// Replays all entries that are seen and weren't replayed. `count` is how many are seen.
+    /// Replays all entries that are seen and weren't replayed. `count` is how many are seen. Errors: `Behind` if the
+    /// ring may have no copy of the next one any more, `NoMemory`. Some are then still left.
     pub(crate) fn catch_up(
         &mut self,
         log: &RingLog,
@@ -62,7 +64,8 @@ impl Replica {
         Ok(())
     }
 
-    /// Looks, and replays all that is seen then. Returns how many entries that is.
+    /// Looks, and replays all that is seen then. Returns how many entries are seen. After an error, `Behind` or
+    /// `NoMemory`, some aren't replayed.
     pub(crate) fn observe(
         &mut self,
         log: &RingLog,
@@ -83,7 +86,8 @@ impl Replica {
         Ok(count)
     }
 
-    /// Carries out the entry that is to be replayed next: a statement of the pass's own session that is logged.
+    /// Carries out the next entry that the pass has seen: this statement of this session, which is logged in the
+    /// replica's state.
     fn keep(
         &mut self,
         log: &RingLog,
@@ -99,13 +103,14 @@ impl Replica {
         ensures replays { ReplaysOne result self.old self.new }
         ensures memory { OnErr result (may_take_memory self.old.server session statement.now ≡ true) }
     {
-        // It bounds the count of entries.
+        // The length is a u64, and more than what is replayed. So counting one more doesn't overflow.
         let _seen = log.length(pass);
         self.accept(session, statement)
     }
 
-    /// Appends a statement that is logged, after all that is seen was replayed, and carries it out. If there is no
-    /// memory for that, it is replayed later.
+    /// Appends a statement that is logged, and carries it out on the replica, which has replayed all that is seen. If
+    /// there is no memory to carry it out, it is replayed later. Returns Ok once it is appended; after an error nothing
+    /// is, and the replica is unchanged.
     fn add(
         &mut self,
         log: &RingLog,
@@ -136,7 +141,10 @@ impl Replica {
         Ok(())
     }
 
-    /// Answers a statement once: looks, replays, finds the reply, and appends the statement if it is logged.
+    /// Tries once to answer a statement: looks, replays, finds the reply, and appends the statement if it is logged.
+    ///
+    /// Errors: `Behind` if entries to replay may be overwritten; `NoMemory` if an entry couldn't be replayed, or a list
+    /// couldn't be made, or the ring is full; and `Overtaken` if another session appended after the look.
     pub(crate) fn attempt(
         &mut self,
         log: &RingLog,
@@ -155,13 +163,16 @@ impl Replica {
         let session = log.number(pass);
         let (reply, enters) = self.server.reply(session, statement)?;
         let answer = Answer { place, reply };
+        // The answer stands already: nothing is to be appended.
         if !enters {
             return Ok(answer);
         }
+        // The statement is appended only if no entry has come after those seen. So the reply is still the one at the
+        // entry's place.
         match self.add(log, pass, session, statement) {
             Ok(()) => Ok(answer),
             Err(AddFault::Overtaken { front }) => Err(EndlessFault::Overtaken { front }),
-            // A ring has room for 2^59 entries, and no turn.
+            // A ring is full only after more than 2^59 entries, and never busy.
             Err(AddFault::Full) | Err(AddFault::Busy) => Err(EndlessFault::NoMemory),
         }
     }

@@ -20,7 +20,8 @@ use Rattle.xa_judge.proofs.Places.{same_number, get_written, get_apart}
 
 -- ---- acts
 
--- an act carries a request out, and then the session isn't open for any
+-- an act carries out a request, which the session has called for or which is its DISCONNECT. After it no call of the
+-- session is open (`closed`, `gone`). It does the same wherever that client stands so (`again`)
 pub record ActsAs (old : Config) (session : ℕ) (act : Act) (new : Config) : Type 0 where
   pub request : Request
   pub client : Answer → ClientState
@@ -44,7 +45,7 @@ pub record ActsAs (old : Config) (session : ℕ) (act : Act) (new : Config) : Ty
 same_call : (one two : Request) → Some (Called one) ≡ Some (Called two) → one ≡ two
 same_call one two e = cc
 
--- so it is with each act that takes effect
+-- each act that takes effect does that (`ActsAs`)
 pub acts_as : (old new : Config) (session : ℕ) (act : Act) → effect_of old session act ≡ Some new
     → ActsAs old session act new
 unfolding effect_of carried_out disconnected
@@ -127,7 +128,8 @@ acts_as old new session ItsDisconnect leads = by (slice_get old.clients session)
         left_gone one f = cc
     by (Some Left) at e = absurd (none-some new e)
 
--- what is open was called for, also once a client isn't open any more
+-- where the hints have the request of each open call (`AreAsked`), they still do once one client is replaced by one
+-- without an open call, whatever the state is then
 pub asked_closed : (hints : List Hint) (old : Config) (state : State) (session : ℕ) (was c : ClientState)
     → AreAsked hints old → slice_get old.clients session ≡ Some was
     → ((request : Request) → c ≡ Called request → ⊥) → ((request : Request) → c ≡ Gone (Some request) → ⊥)
@@ -152,7 +154,7 @@ asked_closed hints old state session was c asked at first second = record {
     shut request (inl is) = first request (same_Some c (Called request) (sym now ∙ is))
     shut request (inr is) = second request (same_Some c (Gone (Some request)) (sym now ∙ is))
 
--- so it is after an act
+-- where the hints have the request of each open call (`AreAsked`), they still do after an act
 pub asked_acts : (hints : List Hint) (old new : Config) (session : ℕ) (act : Act) → AreAsked hints old
     → effect_of old session act ≡ Some new → AreAsked hints new
 asked_acts hints old new session act asked leads =
@@ -166,6 +168,6 @@ asked_acts hints old new session act asked leads =
 pub answered_called : (answer : Answer) (request : Request) → Answered answer ≡ Called request → ⊥
 answered_called answer request e = cc
 
--- nor is it one that is gone with an open call
+-- an answered client isn't one that is gone with an open call
 pub answered_gone : (answer : Answer) (request : Request) → Answered answer ≡ Gone (Some request) → ⊥
 answered_gone answer request e = cc

@@ -1,8 +1,10 @@
 -- One event more.
---     advance_now         an event before which acts can wait
---     advance_call        a call of a session that has no other one
---     advance_return      a return
---     advance_closed      an event before which the list is closed
+--     advance_now                an event before which acts can wait
+--     AreAnswersIn, reached_of   the answers of a session in a list;  what a list has is reached
+--     AreLate, advance_return    a return, before which acts come as late as they can
+--     advance_closed             another event, before which the list is closed
+--     widens_call, NoneUnheard   an open call that nobody hears may come before a call;  there is none
+--     advance_call               a call where there is none
 use Rattle.std.proofs.Common.{◌≡◌, ℕ, false, Some, None, List, [], ◌∷◌, ◌++◌, length, slice_get, refl, ap, sym, ◌∙◌}
 use Rattle.std.proofs.Common.{subst, inl, inr, arith}
 use Rattle.std.proofs.lemmas.Option.{none-some}
@@ -30,20 +32,24 @@ use Rattle.xa_judge.proofs.Places.{mapped_place}
 use Rattle.xa_judge.proofs.Growth.{all_at, has_still}
 use Rattle.xa_judge.proofs.Settling.{Settled, settles, answers_settle}
 
--- from a configuration in which the event is seen, events go on in a list that has what it leads to
+-- if an event is seen first from a configuration of one list, and another list has whatever the event leads to from
+-- there, the later events go on from that other list, to the same end
 goes_on : (old list : List Configuration) (one end : Config) (event : Event) (more : List Event)
     → ((one new : Config) → Has old one → observed one event ≡ Some new → Has list new) → Has old one
     → First one event more end → Continues list more end
 goes_on old list one end event more leads has rest =
     record { one = rest.first; has = leads one rest.first has rest.sees; moves = rest.moves; runs = rest.runs }
 
--- if no act has to come before the event, an order goes on with the event itself
+-- if all acts can wait until the event (`CanWait`), an order that goes on from a configuration of the list may see
+-- the event first
 first_now : (old : List Configuration) (end : Config) (event : Event) (more : List Event)
     → ((config : Config) → Has old config → CanWait config event)
     → (now : Continues old (event ∷ more) end) → First now.one event more end
 first_now old end event more waits now = later now.one end event more now.moves (waits now.one now.has) now.runs
 
--- for an event before which no act is needed: the configurations after it are those in which it was seen at once
+-- for an event before which no act is needed, as all acts can wait (`CanWait`) and each configuration stands directly
+-- before it (`IsReady`): what is left of the list when the event is seen at once (`IsSeenFrom`) is what it leads to
+-- (`IsAdvance`)
 pub advance_now : (old : List Configuration) (answers : List Answer) (event : Event) (limit : ℕ) (next : Advance)
     → ((config : Config) → Has old config → CanWait config event)
     → ((config : Config) → Has old config → IsReady (Has old) event config)
@@ -61,7 +67,8 @@ advance_now old answers event limit (Impossible others) waits ready none seen = 
 )
 advance_now old answers event limit TooMany waits ready none seen = absurd seen
 
--- where events go on behind a return, they do from a closed list, once what its session called for has taken effect
+-- where events go on from a list past a return, they do from the closed list that it grew into, once what the session
+-- called for has taken effect
 settled_first : (old closed : List Configuration) (session : ℕ) (seen : Seen) (more : List Event) (end : Config)
     → Grows old closed
     → IsClosedBelow (length closed) (Some session) closed → Continues old (Return session seen ∷ more) end
@@ -70,13 +77,13 @@ settled_first old closed session seen more end grows is_closed now =
     settles closed session seen more now.one end now.moves is_closed
     (has_still old closed now.one grows now.has) now.runs
 
--- these are the answers of the session in the configurations of the list
+-- the answers are those that the session has in the configurations of the list, and no others
 pub record AreAnswersIn (list : List Configuration) (session : ℕ) (answers : List Answer) : Type 0 where
   pub each : All (IsAnsweredIn list session) answers
   pub all : (one : Config) (answer : Answer) → Has list one → slice_get one.clients session ≡ Some (Answered answer)
       → Contains answers answer
 
--- what is in a list that is reached is reached
+-- if moves lead to all configurations of a list (`Reaches`), some moves lead to each one that the list has
 pub reached_of : (base : State) (events : List Event) (trunk : List Move) (list : List Configuration) (one : Config)
     → All (Reaches base events trunk) list
     → Has list one → IsReachedByMoves base events one
@@ -111,12 +118,15 @@ answers_to old closed ready answers session grows is_closed settles reach given 
       given.all (after_settling s.one session) answer (settles s.one s.has) s.stands;
 }
 
--- acts of other sessions lead to each of the closed list, and each that is ready comes of one of it
+-- acts of other sessions lead from the old list to each configuration of the closed one; each configuration of the
+-- ready list is one of the closed list, once what the session called for has taken effect
 pub record AreLate (old closed ready : List Configuration) (session : ℕ) : Type 0 where
   pub reached : (config : Config) → Has closed config → IsReachedFrom (Has old) (Some session) config
   pub settled : (config : Config) → Has ready config → IsSettledIn closed session config
 
--- the configurations after a return of a session, and the answers that it could have had
+-- for a return: the old list grows into a closed one, and the ready list has what each configuration of that becomes
+-- once the session's call has taken effect, and no other. What the return leaves of the ready list (`IsSeenFrom`) is
+-- then what it leads to from the old one (`IsAdvance`)
 advance_at : (old closed ready : List Configuration) (answers : List Answer) (session : ℕ) (seen : Seen) (limit : ℕ)
     (next : Advance) → Grows old closed
     → IsClosedBelow (length closed) (Some session) closed
@@ -147,7 +157,8 @@ advance_at old closed ready answers session seen limit (Impossible others) grows
 advance_at old closed ready answers session seen limit TooMany grows is_closed settles reach given late leads =
     absurd leads
 
--- the configurations after a return, with its answer or only known as a fact, and the answers that it could have had
+-- what a return of the session leaves of the ready list (`IsSeenFrom`) is what it leads to from the old one
+-- (`IsAdvance`), as in `advance_at`; here the event is any that is a return to the session
 pub advance_return : (old closed ready : List Configuration) (answers : List Answer) (session : ℕ) (event : Event)
     (limit : ℕ) (next : Advance)
     → IsReturnOf session event → Grows old closed → IsClosedBelow (length closed) (Some session) closed
@@ -168,7 +179,7 @@ advance_return old closed ready answers session (Lost other) limit next is grows
 advance_return old closed ready answers session (Unknown other) limit next is grows is_closed settles reach given late
     leads = absurd is
 
--- whatever acts lead to is in a list that is closed
+-- if no session is about to return, an act leads from a configuration of a closed list to one of it
 stays_in : (list : List Configuration) (old mid : Config) (session : ℕ) (act : Act)
     → IsClosedBelow (length list) None list → Has list old → IsSession session
     → effect_of old session act ≡ Some mid → Has list mid
@@ -202,13 +213,15 @@ no_answers list (Return session seen) answers is none = absurd is
 no_answers list (Lost session) answers is none = none
 no_answers list (Unknown session) answers is none = none
 
--- an order from a list goes on from the closed list that grew out of it
+-- an order that goes on from a list past an event sees it first from a configuration of the closed list that grew out
+-- of it
 from_closed : (old closed : List Configuration) (event : Event) (more : List Event) (end : Config) → Grows old closed
     → IsClosedBelow (length closed) None closed → Continues old (event ∷ more) end → SeenFromOne closed event more end
 from_closed old closed event more end grows is_closed now =
     closed_first closed event more now.one end now.moves is_closed (has_still old closed now.one grows now.has) now.runs
 
--- what acts lead to is counted before an event that isn't a return
+-- if acts may have to take effect before an event that isn't a return (`Widens`), each configuration to which they
+-- lead is counted before it
 pub counts_closed : (old closed : List Configuration) (event : Event) → IsNoReturn event → Widens (Has old) event
     → ((config : Config) → Has closed config → IsReachedFrom (Has old) None config)
     → (config : Config) → Has closed config → IsCounted (Has old) event config
@@ -227,7 +240,8 @@ ready_counted old (Return session seen) config is counted = absurd is
 ready_counted old (Lost session) config is counted = absurd counted.widens
 ready_counted old (Unknown session) config is counted = counted
 
--- the configurations after an event that isn't a return, from a closed list
+-- for an event that isn't a return: the old list grows into a closed one, whose configurations are all counted. What
+-- the event leaves of the closed list (`IsSeenFrom`) is then what it leads to from the old one (`IsAdvance`)
 pub advance_closed : (old closed : List Configuration) (answers : List Answer) (event : Event) (limit : ℕ)
     (next : Advance) → IsNoReturn event
     → Grows old closed → IsClosedBelow (length closed) None closed → answers ≡ []
@@ -258,11 +272,12 @@ widens_call old calling (Return session shown) is some = absurd is
 widens_call old calling (Lost session) is some = absurd is
 widens_call old calling (Unknown session) is some = absurd is
 
--- no open call of the session, its client gone, may still take effect
+-- in no configuration of the list is the session's client gone with an open call, which might still take effect
 abbrev pub NoneUnheard : List Configuration → ℕ → Type 0
 NoneUnheard list session = (one : Config) → Has list one → has_unheard one session ≡ false
 
--- a call, where no open call of its session may still take effect that nobody hears
+-- for a call of a session that has no open call which nobody hears (`NoneUnheard`): what is left of the list when the
+-- call is seen at once (`IsSeenFrom`) is what it leads to (`IsAdvance`)
 pub advance_call : (old : List Configuration) (answers : List Answer) (calling : ℕ) (event : Event) (limit : ℕ)
     (next : Advance) → IsCallOf calling event
     → NoneUnheard old calling → answers ≡ [] → IsSeenFrom old answers event next

@@ -1,8 +1,9 @@
 -- Sessions that have no branch.
 --     OwnsNone        a session owns no branch
 --     others_none     another session's request gives it none
---     ended_none      nor has it one once a request is accepted that ends it
---     law_none        a state without branches keeps the law
+--     ended_none      it owns none once a request is accepted that ends or detaches its branch
+--     law_none        in a state without branches the lock law holds
+--     same_test       a number is equal to itself by the test
 use Rattle.std.proofs.Common.{◌≡◌, ◌≢◌, ◌==◌, arith, ℕ, Bool, true, false, Option, Some, None, ap, sym, ◌∙◌}
 use Rattle.std.proofs.Common.{inl, inr}
 use Rattle.std.specs.Prelude.{is_some, cond}
@@ -71,7 +72,7 @@ unfolding is_owned detached
 detached_unowned session None e = true≢false (sym e)
 detached_unowned session (Some branch) e = true≢false (sym e)
 
--- a statement that changes the branch of its identifier so that the session doesn't own it, where that was the only one
+-- if what replaces the branch of `xid` isn't the session's, nor is what is at `at` then, since `at` is `xid`
 only_that : (session : ℕ) (at xid : Xid) (new found : Option Branch) → at ≡ xid
     → (is_owned session new ≡ true → ⊥)
     → is_owned session (cond (same_xid at xid) new found) ≡ true → ⊥
@@ -114,7 +115,8 @@ left_own state session (Idle associated) at found law own held before e =
     only_that session at associated None found (law.one_branch session at associated before own)
     (gone_unowned session) e
 
--- once such a statement is accepted, the session owns none of the branches that it owned
+-- if a statement that ends or detaches its session's branch (`is_ending`) isn't refused, no branch that the session
+-- owned is the session's afterwards
 ended_at : (state : State) (session : ℕ) (statement : Statement) (at : Xid) → LockLaw state
     → is_ending (Given statement) ≡ true
     → is_refused (table state (association_of state session) statement) ≡ false
@@ -149,13 +151,13 @@ ended_at state session (Get key) at law ends accepted before e = absurd (true≢
 ended_at state session (Put key value) at law ends accepted before e = absurd (true≢false (sym ends))
 ended_at state session (Del key) at law ends accepted before e = absurd (true≢false (sym ends))
 
--- a start isn't an end
+-- a statement that ends or detaches its session's branch (`is_ending`) starts none
 start_ends : (session : ℕ) (statement : Statement) (at : Xid) → is_ending (Given statement) ≡ true
     → IsStarted session session statement at → ⊥
 start_ends session statement at ends started =
     true≢false (sym (ap (λ s. is_ending (Given s)) (sym started.0) ∙ ends))
 
--- a request that ends its session's branch, once it is accepted
+-- once a request that ends or detaches its session's branch (`is_ending`) is accepted, the session owns no branch
 pub ended_none : (state : State) (session : ℕ) (request : Request) → LockLaw state → is_ending request ≡ true
     → answer_to state session request ≡ Replied Accepted
     → OwnsNone (next_state state session request) session
@@ -181,7 +183,7 @@ ended_none state session (Given statement) law ends accepted = elim (outcome sta
 
 -- ---- no branch at all
 
--- a state without branches keeps the law
+-- in a state without branches the lock law holds
 pub law_none : (state : State) → HasNoBranch state → LockLaw state
 law_none state none = record {
   one_holder = λ xid other key e f. absurd (false≢true (sym (ap (λ (found : Option Branch).

@@ -6,6 +6,8 @@
 --     commutes                     both orders of two statements lead to the same state
 --     by_row, by_ending            the statements that name a row;  those that end a branch
 --     is_about                     a step of a session's own branch is about that alone, and is accepted
+--     unheld_after, hold_after     who holds a row after a statement that doesn't name it;  after a step on other rows
+--     step_row, step_prepared      what a step leaves of committed values;  of the list of PREPARED branches
 --     Commutes, step_commutes      a step and a statement that is clear of it come to the same in any order
 use Rattle.std.proofs.Common.{◌≡◌, ◌≢◌, ◌⊎◌, ℕ, Bool, true, false, cond, not, ◌&&◌, ◌||◌, [], ◌∷◌, Option, Some, None}
 use Rattle.std.proofs.Common.{List, refl, ap, sym}
@@ -127,7 +129,8 @@ holds_known state xid key e = sym (contains_key-keys state.branches xid) ∙ by 
     by None e = absurd (false≢true e)
     by (Some branch) e = refl
 
--- whether some branch passes a test that the states answer alike, and that only a holder passes
+-- if `p` is true of an old branch, `q`, which is the same test, is true of a new one: only what holds the row in the
+-- new state passes, and that is among its branches
 any_alike : (old new : State) (key : List ℕ) (p q : Xid → Bool) → ((xid : Xid) → p xid ≡ q xid)
     → ((xid : Xid) → p xid ≡ true → holds new xid key ≡ true)
     → list_any p (map.keys old.branches) ≡ true → list_any q (map.keys new.branches) ≡ true
@@ -151,7 +154,8 @@ held_alike old new association key alike =
     (any_alike old new key _ _ (λ xid. ap (λ o. is_another association xid && is_some o) (sym (alike xid)))
     (λ xid e. ap is_some (alike xid) ∙ (both _ _ e).1))
 
--- and such a one holds it exclusively in both or in neither
+-- if the branches hold the row alike in both states, one that isn't the session's own holds it exclusively in both or
+-- in neither
 pub locked_alike : (old new : State) (association : Association) (key : List ℕ) → HoldAlike old new key
     → is_locked_against new association key ≡ is_locked_against old association key
 unfolding is_locked_against
@@ -178,7 +182,7 @@ known_same : (old new : State) (xid : Xid) → map.get new.branches xid ≡ map.
     → is_known new xid ≡ is_known old xid
 known_same old new xid same = ap is_some same
 
--- and it is PREPARED in both or in neither
+-- a branch that is the same in both states is PREPARED in both or in neither
 prepared_same : (old new : State) (xid : Xid) → map.get new.branches xid ≡ map.get old.branches xid
     → is_prepared new xid ≡ is_prepared old xid
 prepared_same old new xid same =
@@ -235,7 +239,7 @@ table_same old new session (Del key) asked (Active own) is =
 table_same old new session (Del key) asked (Idle own) is = refl
 table_same old new session Disconnect asked a is = refl
 
--- the statement has the same reply in both states
+-- if what the reply depends on is the same in both states (`IsAsked`), so is the reply
 pub reply_same : (old new : State) (session : ℕ) (statement : Statement) → IsAsked old new session statement
     → reply_to new session statement ≡ reply_to old session statement
 unfolding reply_to
@@ -310,12 +314,14 @@ pub record IsAbout (state : State) (session : ℕ) (statement : Statement) (xid 
   pub avoids : (other : Xid) → same_xid other xid ≡ false → Avoids statement other
   pub beside : (other : Xid) → same_xid other xid ≡ false → IsBeside (association_of state session) other
 
--- the rows are written alike in both orders
+-- each row has the same committed value after both statements, in either order: `own` is the state after `one`,
+-- `other` the one after `two`
 abbrev pub WriteAlike : State → State → State → Association → Statement → Association → Statement → Type 0
 WriteAlike state own other a one b two = (key : List ℕ) (found : Option Text)
     → written other a one key (written state b two key found) ≡ written own b two key (written state a one key found)
 
--- both orders lead to the same state
+-- both orders of two statements lead to the same state, if the first is about one branch alone (`IsAbout`), with
+-- which the second has nothing to do, neither reply depends on the other statement, and rows are written alike
 pub commutes : (state : State) (session other : ℕ) (one two : Statement) (xid : Xid)
     → IsAbout state session one xid → Avoids two xid → IsBeside (association_of state other) xid
     → IsAsked state (after state other two) session one → IsAsked state (after state session one) other two
@@ -420,7 +426,7 @@ away xid other apart = elim (same_or_apart xids_total exact_xids xid other) [
   | inr e ↦ e
 ]
 
--- what names a row reads it, writes it or deletes it
+-- what is so of GET, PUT and DEL of the row is so of each statement that names the row
 pub by_row : (P : Statement → Type 0) (statement : Statement) (key : List ℕ) → key_of statement ≡ Some key
     → P (Get key) → ((value : Text) → P (Put key value)) → P (Del key) → P statement
 by_row P (Get row) key is get put del = subst (λ k. P (Get k)) (sym (same_Some row key is)) get
@@ -435,7 +441,7 @@ by_row P (Recover convert) key is get put del = absurd (none-some key is)
 by_row P Unsupported key is get put del = absurd (none-some key is)
 by_row P Disconnect key is get put del = absurd (none-some key is)
 
--- what ends a branch commits it or rolls it back
+-- what is so of XA COMMIT and XA ROLLBACK of the branch is so of each statement that ends it
 pub by_ending : (P : Statement → Type 0) (statement : Statement) (xid : Xid) → IsEnding statement xid
     → ((one_phase : Bool) → P (Commit xid one_phase)) → P (Rollback xid) → P statement
 by_ending P (Commit other one_phase) xid is commit roll =
@@ -531,7 +537,7 @@ is_about state session statement xid rows (finishes ending may accepted held) =
       beside = λ other apart. may_beside state session xid other may apart;
     }) accepted
 
--- the other session doesn't own the branch of the step
+-- no other session owns the branch of a session's step
 pub not_theirs : (state : State) (session other : ℕ) (statement : Statement) (xid : Xid) (rows : List (List ℕ))
     → LockLaw state → session ≢ other → IsOwnStep state session statement xid rows → owns state other xid ≡ false
 not_theirs state session other statement xid rows law apart step = by (owns state other xid) refl
@@ -597,7 +603,7 @@ unfolding lock_in
 mapped_none key change None keeps none = refl
 mapped_none key change (Some branch) keeps none = keeps branch none
 
--- sharing a row gives a branch no other one
+-- a branch that doesn't hold a row doesn't hold it after it shares another one
 shares_none : (key other : List ℕ) → eq_by_cmp bytes_cmp key other ≡ false → (b : Branch)
     → map.get b.locks key ≡ None → map.get (with_lock other b).locks key ≡ None
 shares_none key other apart b none = by (map.contains_key b.locks other)
@@ -606,7 +612,7 @@ shares_none key other apart b none = by (map.contains_key b.locks other)
     by true = none
     by false = get_inserted_apart bytes_total exact_texts b.locks other Shared key apart ∙ none
 
--- a row that is shared leaves how another one is held
+-- once a branch shares a row, it holds each other row as it did
 shared_apart : (key other : List ℕ) → eq_by_cmp bytes_cmp key other ≡ false → (b : Branch)
     → map.get (with_lock other b).locks key ≡ map.get b.locks key
 shared_apart key other apart b = by (map.contains_key b.locks other)
@@ -615,7 +621,7 @@ shared_apart key other apart b = by (map.contains_key b.locks other)
     by true = refl
     by false = get_inserted_apart bytes_total exact_texts b.locks other Shared key apart
 
--- writing a row gives a branch no other one
+-- a branch that doesn't hold a row doesn't hold it after it writes another one
 writes_none : (key other : List ℕ) (write : Write) → eq_by_cmp bytes_cmp key other ≡ false → (b : Branch)
     → map.get b.locks key ≡ None → map.get (with_own_write other write b).locks key ≡ None
 writes_none key other write apart b none =
@@ -673,7 +679,7 @@ unheld_after state session statement at key apart none = elim (outcome state ses
       ∙ lock_none session (association_of state session) statement at (map.get state.branches at) key apart none
 ]
 
--- a row that is held against nobody is held by no other branch
+-- if a row isn't held against a session that has the branch `own` ACTIVE, no other branch holds it
 pub held_none : (state : State) (own at : Xid) (key : List ℕ) → is_held_against state (Active own) key ≡ false
     → same_xid at own ≡ false → lock_at state at key ≡ None
 unfolding is_held_against
@@ -755,7 +761,7 @@ own_locks state session statement xid rows key (finishes ending may accepted hel
     gone = ap (λ b. lock_in key (cond b None (map.get state.branches xid))) (itself xid)
         ∙ sym (unheld (lock_in key (map.get state.branches xid)) refl)
 
--- after the step, other rows are held alike
+-- after a step, the branches hold a row that isn't one of its rows as they did
 pub hold_after : (state : State) (session : ℕ) (statement : Statement) (xid : Xid) (rows : List (List ℕ))
     (key : List ℕ) → IsOwnStep state session statement xid rows
     → ((row : List ℕ) → IsAmong row rows → eq_by_cmp bytes_cmp key row ≡ false)
@@ -775,7 +781,7 @@ hold_after state session statement xid rows key step apart = λ at. elim (same_o
 
 -- ---- what is written
 
--- a branch that doesn't hold the row exclusively writes nothing to it
+-- a branch that doesn't hold the row has written nothing to it
 write_none : (state : State) → LockLaw state → (at : Xid) (key : List ℕ) → lock_at state at key ≡ None
     → write_at state at key ≡ None
 write_none state law at key none = by (write_at state at key) refl
@@ -795,7 +801,8 @@ sole_holder state law xid at key held apart = by (lock_at state at key) refl
     by (Some mode) e = absurd (false≢true (sym apart
         ∙ ap (λ x. same_xid xid x) (sym (law.one_holder xid at key held (ap is_some e))) ∙ itself xid))
 
--- a statement leaves a row's value that it doesn't name, if no branch that it names writes it
+-- a statement leaves the committed value of a row that it doesn't name, if the branch that it names hasn't written to
+-- the row
 pub unwritten : (state : State) (a : Association) (statement : Statement) (key : List ℕ) (found : Option Text)
     → ((other : List ℕ) → key_of statement ≡ Some other → eq_by_cmp bytes_cmp key other ≡ false)
     → ((at : Xid) → named_by statement ≡ Some at → write_at state at key ≡ None)
@@ -817,7 +824,8 @@ unwritten state (Active own) (Del row) key found apart none = refl
 unwritten state (Idle own) (Del row) key found apart none = refl
 unwritten state a Disconnect key found apart none = refl
 
--- a step writes what its branch wrote, and then all rows that it holds are the step's; or it writes nothing
+-- a step leaves each committed value as it is; or it gives a row what the step's branch wrote to it, if anything, and
+-- then each row that the branch holds is one of the step's
 pub step_row : (state : State) (session : ℕ) (statement : Statement) (xid : Xid) (rows : List (List ℕ))
     → IsOwnStep state session statement xid rows
     → ((in_state : State) (key : List ℕ) (found : Option Text)
@@ -860,7 +868,7 @@ less_apart x y one two =
 less_itself : (x : Xid) → xid_cmp x x ≡ Less → ⊥
 less_itself x e = less_apart x x e e
 
--- what is in a list that an identifier is below, comes after it
+-- an identifier that is below each one of a list is below any that is in the list
 comes_after : (x z : Xid) (xs : List Xid) → AllByRecursion (λ other. xid_cmp x other ≡ Less) xs
     → list_any (same_xid z) xs ≡ true → xid_cmp x z ≡ Less
 comes_after x z [] below has = absurd (false≢true has)
@@ -877,7 +885,7 @@ in_front z x xs has = elim (same_or_apart xids_total exact_xids z x) [
   | inr apart ↦ inr (sym (ap (λ b. b || list_any (same_xid z) xs) apart) ∙ has)
 ]
 
--- a test or a true one is true
+-- one of two tests holds if the second is true
 or_true : (b : Bool) → (b || true) ≡ true
 or_true true = refl
 or_true false = refl
@@ -915,7 +923,7 @@ sorted_same (x ∷ xs) (y ∷ ys) up down same =
     ap (λ w. w ∷ xs) first
     ∙ ap (λ l. y ∷ l) (sorted_same xs ys up.1 down.1 (λ z. same_truth _ _ (to z) (from z)))
 
--- the prepared branches are the same, so the lists are
+-- if each branch is PREPARED in both states or in neither, the lists of PREPARED branches are the same
 pub listed_same : (old new : State) → ((xid : Xid) → is_prepared new xid ≡ is_prepared old xid)
     → prepared_xids new ≡ prepared_xids old
 listed_same old new same =
@@ -1001,7 +1009,7 @@ step_prepared state session statement xid rows step unlisted =
         ∙ sym (in_one_phase one_phase is may goes))
         (λ is goes. absurd is) unlisted accepted
 
--- a statement that avoids a branch names another
+-- the branch that a statement names isn't one that it avoids
 avoids_named : (statement : Statement) (xid other : Xid) → Avoids statement xid → named_by statement ≡ Some other
     → same_xid xid other ≡ false
 avoids_named (Start named) xid other avoids is = subst (λ n. same_xid xid n ≡ false) (same_Some named other is) avoids
@@ -1019,7 +1027,7 @@ avoids_named (Put key value) xid other avoids is = absurd (none-some other is)
 avoids_named (Del key) xid other avoids is = absurd (none-some other is)
 avoids_named Disconnect xid other avoids is = absurd (none-some other is)
 
--- what a step names and what its session has open is its branch
+-- the statement names no branch but this one, its session has no other one ACTIVE, and it isn't XA RECOVER
 record IsTheirs (state : State) (session : ℕ) (statement : Statement) (xid : Xid) : Type 0 where
   pub named : (other : Xid) → named_by statement ≡ Some other → other ≡ xid
   pub own : (other : Xid) → association_of state session ≡ Active other → other ≡ xid
@@ -1033,7 +1041,7 @@ same_active xid other e = cc
 free_active : (other : Xid) → Free ≡ Active other → ⊥
 free_active other e = cc
 
--- nor has one that has ended its work on its branch
+-- a session that has ended its work on its branch has no ACTIVE branch open
 idle_active : (xid other : Xid) → Idle xid ≡ Active other → ⊥
 idle_active xid other e = cc
 
@@ -1043,7 +1051,7 @@ may_active : (state : State) (session : ℕ) (xid other : Xid) → MayEnd state 
 may_active state session xid other (inl free) e = free_active other (sym free.0 ∙ e)
 may_active state session xid other (inr own) e = idle_active xid other (sym own ∙ e)
 
--- so it is with each step of the session's own branch, and none is an XA RECOVER
+-- `IsTheirs` holds of each step of the session's own branch
 theirs : (state : State) (session : ℕ) (statement : Statement) (xid : Xid) (rows : List (List ℕ))
     → IsOwnStep state session statement xid rows → IsTheirs state session statement xid
 theirs state session statement xid rows (starts is free new) = record {
@@ -1132,7 +1140,7 @@ step_value state session other one two xid rows key law step clear e = elim (out
     its : HasRow state session key xid × IsAmong key rows
     its = row_of state session one xid rows key step e
 
--- what the step's reply depends on
+-- a clear statement of another session leaves what the step's reply depends on (`IsAsked`)
 asked_one : (state : State) (session other : ℕ) (one two : Statement) (xid : Xid) (rows : List (List ℕ))
     → LockLaw state → session ≢ other → IsOwnStep state session one xid rows → IsClearOf one two xid rows
     → IsAsked state (after state other two) session one
@@ -1179,7 +1187,7 @@ step_leaves state session one xid rows key law (finishes ending may accepted hel
     unheld (Some mode) e = absurd (false≢true (sym (apart key (held key (ap is_some e)))
         ∙ same_itself bytes_total exact_texts key))
 
--- what the other statement's reply depends on
+-- a step leaves what the reply to a clear statement of another session depends on (`IsAsked`)
 asked_two : (state : State) (session other : ℕ) (one two : Statement) (xid : Xid) (rows : List (List ℕ))
     → LockLaw state → session ≢ other → IsOwnStep state session one xid rows → IsClearOf one two xid rows
     → IsAsked state (after state session one) other two
@@ -1213,7 +1221,8 @@ asked_two state session other one two xid rows law apart step clear = record {
       | inr beside ↦ prepared_same state (after state session one) at (there at (away xid at beside))
     ]
 
--- what is written depends on the named branch
+-- if the branch that a statement names is the same in two states, the statement leaves the same of a row's committed
+-- value in both
 written_same : (old new : State) (a : Association) (statement : Statement) (key : List ℕ) (found : Option Text)
     → ((xid : Xid) → named_by statement ≡ Some xid → map.get new.branches xid ≡ map.get old.branches xid)
     → written new a statement key found ≡ written old a statement key found
@@ -1236,7 +1245,8 @@ written_same old new (Active own) (Del row) key found same = refl
 written_same old new (Idle own) (Del row) key found same = refl
 written_same old new a Disconnect key found same = refl
 
--- what the step's branch wrote to a row stays, whether the other statement comes before or after it
+-- whether what the step's branch wrote to a row is committed before or after the other statement, the row gets the
+-- same value
 either_order : (state : State) (other : ℕ) (two : Statement) (xid : Xid) (key : List ℕ) (found : Option Text)
     → LockLaw state → Avoids two xid
     → ((mode : LockMode) (row : List ℕ) → lock_at state xid key ≡ Some mode → key_of two ≡ Some row
@@ -1268,7 +1278,8 @@ either_order state other two xid key found law avoids apart = by (write_at state
         (λ at f. write_none state law at key (sole_holder state law xid at key held
         (avoids_named two xid at avoids f))))
 
--- the step and a clear statement of another session may come in any order
+-- the step and the statement of another session come in any order to the same replies and the same state, and the
+-- step is still one after the other statement
 pub record Commutes (state : State) (session other : ℕ) (one two : Statement) (xid : Xid)
     (rows : List (List ℕ)) : Type 0 where
   pub first : reply_to (after state other two) session one ≡ reply_to state session one
@@ -1276,7 +1287,8 @@ pub record Commutes (state : State) (session other : ℕ) (one two : Statement) 
   pub same : after (after state other two) session one ≡ after (after state session one) other two
   pub still : IsOwnStep (after state other two) session one xid rows
 
--- so it is with each step and each statement of another session that is clear of it, where the lock law holds
+-- where the lock law holds, a step and a statement of another session that is clear of it come to the same in any
+-- order (`Commutes`)
 pub step_commutes : (state : State) (session other : ℕ) (one two : Statement) (xid : Xid) (rows : List (List ℕ))
     → LockLaw state → session ≢ other → IsOwnStep state session one xid rows → IsClearOf one two xid rows
     → Commutes state session other one two xid rows

@@ -1,10 +1,11 @@
 -- A step of a session's branch that no other session has to do with until it returns takes effect at once.
 --     exchanged                            an act of another session may come after the step
---     seen_later, event_aside              so may an event of one;  what is open after it is still aside
+--     seen_later, event_aside              an event of another session may, too;  what is open after it is still aside
+--     returns_past, returns_here           what a call returns, by the next event
 --     shown_there                          an answered call has the answer that its return shows
---     goes_first                           so it may come first of all moves
+--     goes_first                           the step may come first of all moves
 --     steps_first, steps_none              in what is kept the step is taken;  or that stays as it is
---     goes_stepped, goes_same              orders go on from a list in which each has taken it;  or none has
+--     goes_stepped, goes_same, goes_past   orders go on from a list in which each has taken it;  or none has;  past two
 --     StepsBoth, steps_more, steps_end     a loop in which each of a list takes its step
 use Rattle.std.proofs.Common.{◌≡◌, ◌≢◌, ◌⊎◌, ◌==◌, ℕ, true, false, cond, Option, Some, None, List, [], ◌∷◌, set, refl}
 use Rattle.std.proofs.Common.{ap, sym, ◌∙◌}
@@ -64,7 +65,8 @@ record RequestsCommute (state : State) (session other : ℕ) (one : Statement) (
       ≡ next_state (next_state state session (Given one)) other two
   pub still : IsOwnStep (next_state state other two) session one xid rows
 
--- so it is with each request of another session that is clear of the step, where the lock law holds
+-- where the lock law holds, a step and a request of another session that is clear of it come to the same in any order
+-- (`RequestsCommute`)
 requests_commute : (state : State) (session other : ℕ) (one : Statement) (two : Request) (xid : Xid)
     (rows : List (List ℕ)) → LockLaw state
     → session ≢ other → IsOwnStep state session one xid rows → IsClearRequest one two xid rows
@@ -75,7 +77,7 @@ requests_commute state session other one (Given two) xid rows law apart step cle
 requests_commute state session other one Unread xid rows law apart step clear =
     record { first = refl; second = refl; same = refl; still = step }
 
--- leaving has nothing to do with a step of another session
+-- DISCONNECT is clear of each step of another session
 leaving_clear : (one : Statement) (xid : Xid) (rows : List (List ℕ)) → IsClearOf one Disconnect xid rows
 leaving_clear one xid rows = record {
   avoids = tt;
@@ -86,7 +88,8 @@ leaving_clear one xid rows = record {
     no : (convert : _) → Disconnect ≡ Rattle.xa_xid.specs.declared.statement.Statement.TheVariants.Recover convert → ⊥
     no convert e = cc
 
--- an act of another session may come after the step
+-- an act of another session that was before the step may come after it, to the same configuration, if what that
+-- session has open is clear of the step
 pub exchanged : (run mid next : Config) (session other : ℕ) (act : Act) (one : Statement) (xid : Xid)
     (rows : List (List ℕ))
     → LockLaw run.state → session ≢ other → slice_get run.clients session ≡ Some (Called (Given one))
@@ -163,7 +166,8 @@ exchanged run mid next session other act one xid rows law apart at step clear le
 
 -- ---- events
 
--- an event of another session may come after the act
+-- an event of another session that was seen before the act may be seen after it, with the same configuration at the
+-- end
 pub seen_later : (run mid next : Config) (session : ℕ) (act : Act) (event : Event) → session ≢ session_of event
     → observed run event ≡ Some mid → effect_of mid session act ≡ Some next
     → (first : Config) × (effect_of run session act ≡ Some first) × (observed first event ≡ Some next)
@@ -195,19 +199,20 @@ unfolding returns_in
 returns_past event more other apart =
     ap (λ b. cond b (seen_in (Some event)) (returns_in other more)) (apart_test (session_of event) other apart)
 
--- what the session's call returns, if its next event is this one
+-- what a session's call returns is what the session's next event shows; it isn't known if that isn't a return
 pub returns_here : (event : Event) (more : List Event) → returns_in (session_of event) (event ∷ more) ≡ seen_in (Some event)
 unfolding returns_in
 returns_here event more =
     ap (λ b. cond b (seen_in (Some event)) (returns_in (session_of event) more)) (same_test (session_of event))
 
--- what isn't known to return is clear
+-- a request that is aside (`IsAside`) has nothing to do with the step, if it isn't known to return
 clear_of : (one : Statement) (request : Request) (xid : Xid) (rows : List (List ℕ)) (returns : Option Seen)
     → returns ≡ None → IsAside one request xid rows returns → IsClearRequest one request xid rows
 clear_of one request xid rows returns none (unrelated clear) = clear
 clear_of one request xid rows returns none (held seen shown back) = absurd (none-some seen (sym none ∙ shown))
 
--- what is open after another session's event is aside, if what it calls for is
+-- if what other sessions have open before an event is aside (`AreOpenAside`), so is what they have open after it,
+-- where what the event calls for is aside
 pub event_aside : (run mid : Config) (session : ℕ) (one : Statement) (xid : Xid) (rows : List (List ℕ)) (event : Event)
     (more : List Event)
     → AreOpenAside run session one xid rows (event ∷ more) → observed run event ≡ Some mid
@@ -363,7 +368,7 @@ event_aside run mid session one xid rows event more aside sees calls = λ other 
     here {other} (Unknown it) seen gives before request apart opened e =
         over it (slice_get run.clients it) refl seen other request opened e
 
--- what is open after another session's act is aside
+-- if what other sessions have open before an act is aside (`AreOpenAside`), so is what they have open after it
 act_aside : (run mid : Config) (session other : ℕ) (act : Act) (one : Statement) (xid : Xid) (rows : List (List ℕ))
     (more : List Event) → AreOpenAside run session one xid rows more → effect_of run other act ≡ Some mid
     → AreOpenAside mid session one xid rows more
@@ -396,13 +401,14 @@ act_aside run mid session other act one xid rows more aside leads = λ at reques
 
 -- ---- what a call returns
 
--- a session that isn't open has what its call returns
+-- the client has called and isn't answered, or has an answer that the return shows
 abbrev IsShownIn : Seen → ClientState → Type 0
 IsShownIn seen (Answered answer) = shows_answer seen answer ≡ true
 IsShownIn seen (Called request) = Unit {0}
 IsShownIn seen other = ⊥
 
--- if a session's next event is a return, and moves lead there, its call is open or has the answer that is shown
+-- if a session's next event is a return, and moves lead through the events, its call isn't answered yet or has an
+-- answer that the return shows (`IsShownIn`)
 shown_there : (run end : Config) (session : ℕ) (seen : Seen) (c : ClientState) (more : List Event) (moves : List Move)
     → returns_in session more ≡ Some seen → slice_get run.clients session ≡ Some c → LeadsThrough run more moves end
     → IsShownIn seen c
@@ -479,8 +485,8 @@ shown_there run end session seen c (event ∷ more) [] is at runs = absurd runs
 
 -- ---- the step comes first
 
--- if what is open, or is called for until the step's call returns, is clear of the step, it may come first of all moves
--- through the events: to an end where who was answered is answered so
+-- if what other sessions have open, or call for until the step's call returns, is aside (`IsAside`), the step may
+-- come first of all moves through the events: to an end where who was answered is answered so
 pub goes_first : (run end : Config) (session : ℕ) (one : Statement) (xid : Xid) (rows : List (List ℕ))
     (more : List Event) (moves : List Move)
     → LockLaw run.state → slice_get run.clients session ≡ Some (Called (Given one))
@@ -629,7 +635,8 @@ goes_first run end session one xid rows (event ∷ more) [] law at step aside ca
 
 -- ---- in what is kept
 
--- a step that nothing has to do with takes effect at once
+-- in what is kept a step may take effect at once (`IsSteppedFor`), if what other sessions have open, or call for
+-- until its call returns, is aside (`IsAside`), and its call isn't noted as one that isn't heard of any more
 pub steps_first : (hints : List Hint) (kept new : Config) (session : ℕ) (one : Statement) (xid : Xid)
     (rows : List (List ℕ)) (more : List Event) → slice_get kept.clients session ≡ Some (Called (Given one))
     → (fact_of hints session).never ≡ false → IsOwnStep kept.state session one xid rows
@@ -660,11 +667,12 @@ steps_first hints kept new session one xid rows more at heard step aside calls l
     as_far run alike (inr (inl ahead)) = absurd (not_answered ahead.answer (sym at ∙ ahead.kept))
     as_far run alike (inr (inr behind)) = absurd (false≢true (sym heard ∙ behind.never))
 
--- what doesn't take it stays as it is
+-- a configuration from which no step is taken may stay as it is: moves lead on from it to the same answers
 pub steps_none : (hints : List Hint) (more : List Event) (kept : Config) → IsSteppedFor hints more kept kept
 steps_none hints more kept = λ run end moves alike runs. (run, moves, end, alike, runs, (λ at answer e. e))
 
--- orders go on from a list of which each configuration has taken the step if it can
+-- if a new list has, for each configuration of the old one, the configuration after its step or itself
+-- (`IsSteppedFor`), orders that go on from the old list go on from the new one, to the same answers
 pub goes_stepped : (hints : List Hint) (more : List Event) (old new : Config → Type 0)
     → ((kept : Config) → old kept → (other : Config) × new other × IsSteppedFor hints more kept other)
     → (end : Config) → GoesOn hints old more end → GoesOnLike hints new more end
@@ -684,12 +692,13 @@ goes_stepped hints more old new steps end (inl from) =
     )
 goes_stepped hints more old new steps end (inr left) = (end, (λ at answer e. e), inr left)
 
--- what doesn't step goes on
+-- if no configuration of a list takes a step, orders go on from the list as before
 pub goes_same : (hints : List Hint) (more : List Event) (known : List Configuration) (end : Config)
     → GoesOn hints (Has known) more end → GoesOnLike hints (Has known) more end
 goes_same hints more known end goes = (end, (λ at answer e. e), goes)
 
--- what goes on from a second list goes on from a third, if the second does from the first
+-- if orders go on from a second list where they do from a first, and from a third where they do from the second, they
+-- go on from the third where they do from the first, to the same answers
 pub goes_past : (hints : List Hint) (more : List Event) (old mid new : Config → Type 0)
     → ((end : Config) → GoesOn hints old more end → GoesOnLike hints mid more end)
     → ((end : Config) → GoesOn hints mid more end → GoesOnLike hints new more end)
@@ -721,7 +730,7 @@ steps_more hints more first known rest list new one added parts adds here has = 
   | inr done ↦ inr (done.0, still_has list new done.0 (adds_one list new added adds) done.1, done.2)
 ]
 
--- at its end nothing is to come: of each configuration the step is there
+-- at the end of that loop no configuration is still to come, so the list has what each one becomes by its step
 pub steps_end : (hints : List Hint) (more : List Event) (first rest list : List Configuration) → rest ≡ []
     → StepsBoth hints more first rest list → (kept : Config) → Has first kept
     → (other : Config) × Has list other × IsSteppedFor hints more kept other

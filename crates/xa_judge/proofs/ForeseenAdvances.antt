@@ -1,8 +1,8 @@
 -- One event more, where later returns are known.
---     advance_closed               before a return or an unknown answer, all allowed acts may come
---     advance_open, needs_none     before a call or a loss none has to;  which calls these are
+--     advance_closed               past an event, from a list that acts have closed for it
+--     advance_open, needs_none     past a call or a loss before which no act is needed;  which calls these are
 --     answers_end, all_after       each answer that a session can have after all events is kept
---     goes_never                   a return is noted of a call of which none was
+--     goes_never                   a place is noted at which a call ends of which none was
 --     goes_first, goes_last        before all events;  after all events
 --     goes_shortened               common first moves are taken out
 use Rattle.std.proofs.Common.{◌≡◌, ℕ, false, Option, Some, None, List, [], ◌∷◌, ◌++◌, set, length, take}
@@ -41,7 +41,8 @@ use Rattle.xa_judge.proofs.ForeseenLists.{goes_closed, goes_called, left_past, u
 use Rattle.xa_judge.proofs.ForeseenReturns.{goes_returned, ends_answered}
 use Rattle.xa_judge.proofs.ForeseenGrowth.{still_has, closed_all}
 
--- before a return or an unknown answer, all allowed acts may come
+-- past an event from a list that acts have closed for it (`AreClosedFor`): orders go on from the new list, which has
+-- what the event leads to from the closed one (`HasSeenFor`), where they did from the old list (`IsAdvanceFor`)
 pub advance_closed : (events : List Event) (places later : List OpenCall) (place : OpenCall) (event : Event)
     (old closed new : List Configuration) → later ≡ set places (session_of event) place
     → FitsHints (hints_of events places) event → NotesCall (hints_of events places) (hint_in events place) event
@@ -81,7 +82,8 @@ advance_closed events places later place event old closed new is fits notes grow
         goes_closed (hints_of events places) (hint_in events place) (Unknown session) (Has closed) (Has new) kept run
         end more moves all there alike fits notes seen runs
 
--- before a call or a loss none has to
+-- past an event before which no act is needed (`NeedsNone`), as a call or a loss: orders go on from the new list,
+-- which has what the event leads to from the old one, where they did from the old one (`IsAdvanceFor`)
 pub advance_open : (events : List Event) (places later : List OpenCall) (place : OpenCall) (event : Event)
     (old new : List Configuration) → later ≡ set places (session_of event) place
     → FitsHints (hints_of events places) event → NotesCall (hints_of events places) (hint_in events place) event
@@ -110,7 +112,7 @@ advance_open events places later place event old new is fits notes needs seen = 
     waits (Lost session) none kept there run heard = tt
     waits (Unknown session) none kept there run heard = absurd none
 
--- a call of a session of which no kept client is gone with an open call
+-- before a call no act is needed (`NeedsNone`), if no kept client of its session is gone with an open call
 pub needs_none : (known : List Configuration) (session : ℕ) (event : Event) → IsCallOf session event
     → ((one : Config) → Has known one → has_unheard one session ≡ false) → NeedsNone known event
 needs_none known session (Call other request) call none = λ one has.
@@ -119,7 +121,7 @@ needs_none known session (Return other seen) call none = absurd call
 needs_none known session (Lost other) call none = absurd call
 needs_none known session (Unknown other) call none = absurd call
 
--- in a closed list each answer that a session can have at the end is kept, if nothing is known of open calls
+-- in a closed list each answer that a session can have at the end is kept, if no return is known of any open call
 pub answers_end : (hints : List Hint) (known closed : List Configuration) (session : ℕ)
     → ExtendsBy known closed → AreClosedFor hints (Some session) (length closed) closed
     → ((other : ℕ) → hint_of hints other ≡ None) → (fact_of hints session).never ≡ false
@@ -133,7 +135,8 @@ answers_end hints known closed session grows are none heard end answer (inl from
 answers_end hints known closed session grows are none heard end answer (inr left) at =
     absurd (none-some left.dead.seen (sym (none left.dead.session) ∙ left.dead.hinted))
 
--- so each answer that the session can have after the events is kept
+-- if all orders through the events go on from the list that is kept, and a closed list is found that has each answer
+-- with which orders from there end, it has each answer that the session can have after the events
 pub all_after : (base : State) (events : List Event) (session : ℕ) (hints : List Hint) (known : List Configuration)
     (found : Option Frontier)
     → ((moves : List Move) (end : Config) → LeadsThrough (opening_config base) events moves end
@@ -147,7 +150,8 @@ all_after base events session hints known (Some front) goes all = λ answer afte
     let like = goes after.reached.moves after.config after.reached.runs in
     all like.0 answer like.2 (like.1 session answer after.answered)
 
--- a call of which nothing is known may be noted as one that isn't heard of any more
+-- what is kept of a configuration is still kept of it once anything is noted of how a call ends, of which nothing was
+-- known: as a return, or that it isn't heard of any more
 alike_never : (hints : List Hint) (number : ℕ) (hint : Hint) (run kept : Config) → AreAlike hints run kept
     → (fact_of hints number).seen ≡ None → (fact_of hints number).never ≡ false
     → hint.asked ≡ (fact_of hints number).asked → (was : Hint) → slice_get hints number ≡ Some was
@@ -186,7 +190,7 @@ alike_never hints number hint run kept alike unseen heard asked was at = record 
     at_it session is (inr (inl ahead)) = absurd (none-some ahead.seen (sym unseen ∙ ahead.hinted))
     at_it session is (inr (inr behind)) = absurd (false≢true (sym heard ∙ behind.never))
 
--- an order that couldn't go on past a return can't once more is noted of a call of which no return is known
+-- an order that can't go on past a return still can't once something is noted of a call of which no return was known
 dead_never : (hints : List Hint) (number : ℕ) (hint : Hint) (run : Config) → (fact_of hints number).seen ≡ None
     → IsDead hints run → IsDead (set hints number hint) run
 dead_never hints number hint run unseen dead = record {
@@ -202,7 +206,7 @@ dead_never hints number hint run unseen dead = record {
   hidden = dead.hidden;
 }
 
--- orders go on alike once a return is noted of a call of which none was
+-- where orders went on from a list, they still do once a place is noted at which a call ends of which none was
 pub goes_never : (events : List Event) (places : List OpenCall) (number : ℕ) (old entry : OpenCall)
     → slice_get places number ≡ Some old → old.returns ≡ None → entry.call ≡ old.call
     → (known : List Configuration) (more : List Event) (end : Config)
@@ -248,7 +252,8 @@ goes_never events places number old entry at blank same known more end goes =
     asked : hint.asked ≡ (fact_of hints number).asked
     asked = ap (asked_by events) same ∙ sym (ap (λ (h : Hint). h.asked) fact)
 
--- before all events
+-- before all events: each order from the base goes on from the list with the opening configuration alone, where the
+-- lock law holds
 pub goes_first : (base : State) (hints : List Hint) (list : List Configuration) (more : List Event)
     (moves : List Move) (end : Config) → IsOpening base list → LockLaw base
     → length hints ≡ 17 → LeadsThrough (opening_config base) more moves end → GoesOn hints (Has list) more end
@@ -276,7 +281,8 @@ goes_shortened hints trunk longer old new more end is (inl from) = inl (record {
 })
 goes_shortened hints trunk longer old new more end is (inr left) = inr left
 
--- after all events
+-- after all events: what goes on from the list once the first `place` events are seen goes on once all are, since
+-- these are all
 pub goes_last : (base : State) (events : List Event) (hints : List Hint) (place : ℕ) (list : List Configuration)
     (moves : List Move) (end : Config) → place ≡ length events
     → LeadsThrough (opening_config base) events moves end

@@ -1,8 +1,9 @@
 -- What is kept where later returns are known sees what an order sees.
 --     saw                      an event changes its own client alone
---     same_client              one client goes on alike on the way and in what is kept
---     alike_sees               an event
---     dead_acts, dead_sees     an order that can't go on past a return stays so
+--     same_client              one client is replaced by the same one on the way and in what is kept
+--     idle_shut                an idle client has nothing open
+--     alike_sees               an event that an order sees, what is kept of it sees
+--     dead_acts, dead_sees     an order that can't go on past a return still can't after an act;  after an event
 use Rattle.std.proofs.Common.{◌≡◌, ◌≢◌, ℕ, true, false, cond, Option, Some, None, List, set, refl, ap, sym, ◌∙◌}
 use Rattle.std.proofs.Common.{subst, inl, inr}
 use Rattle.std.specs.Prelude.{slice_get}
@@ -66,12 +67,13 @@ fact_apart : (hints : List Hint) (session other : ℕ) (hint : Hint) → session
     → fact_of (set hints session hint) other ≡ fact_of hints other
 fact_apart hints session other hint apart = ap (λ o. unwrap_or o no_hint) (get_apart hints session other hint apart)
 
--- and so does what that call returns
+-- once one session's hint is set, what is known that the call of another one returns stays so
 hint_apart : (hints : List Hint) (session other : ℕ) (hint : Hint) → session ≢ other
     → hint_of (set hints session hint) other ≡ hint_of hints other
 hint_apart hints session other hint apart = ap (λ (h : Hint). h.seen) (fact_apart hints session other hint apart)
 
--- what is open was called for, also once one client has gone on and that is noted
+-- where the hints have the request of each open call (`AreAsked`), they still do once one client and its hint are
+-- replaced, if that hint has the request that the new client has open
 asked_set : (hints : List Hint) (run : Config) (session : ℕ) (hint : Hint) (c one : ClientState) → AreAsked hints run
     → slice_get run.clients session ≡ Some one
     → ((request : Request) → (c ≡ Called request) ⊎ (c ≡ Gone (Some request)) → hint.asked ≡ Some request)
@@ -103,7 +105,8 @@ asked_set hints run session hint c one asked here noted = record {
     place = get_within hints session (subst (λ n. session < n) (sym asked.room)
         (slice_get_within run.clients session one here))
 
--- one client is in the same state in both, and the others are as they were
+-- what is kept of a configuration is still kept of it once one session's client is replaced by the same one in both,
+-- with a hint that has what it has open
 pub same_client : (hints : List Hint) (run kept : Config) (session : ℕ) (hint : Hint) (c : ClientState)
     (one other : ClientState) → AreAlike hints run kept → slice_get run.clients session ≡ Some one
     → slice_get kept.clients session ≡ Some other
@@ -125,7 +128,7 @@ same_client hints run kept session hint c one other are here there noted = recor
   ];
 }
 
--- what an event leaves open is noted
+-- if what an event calls for is noted (`NotesCall`), what its session has open afterwards is noted
 noted_event : (hints : List Hint) (hint : Hint) (run next : Config) (event : Event) (c : ClientState)
     → AreAsked hints run → NotesCall hints hint event → observed run event ≡ Some next
     → next ≡ with_client run (session_of event) c → (was : ClientState)
@@ -261,7 +264,8 @@ idle_shut hint request (inr e) = absurd (no request e)
     no : (r : Request) → Idle ≡ Gone (Some r) → ⊥
     no r f = cc
 
--- what is kept sees the event as well
+-- what is kept sees the event as well, and what that leads to is kept of `next`, once the hint of the event's session
+-- is replaced
 abbrev pub SeesAlike : List Hint → Hint → Config → Event → Config → Type 0
 SeesAlike hints hint kept event next = (new : Config) × (observed kept event ≡ Some new)
     × AreAlike (set hints (session_of event) hint) next new
@@ -282,7 +286,8 @@ equal_sees hints hint run kept next event are notes sees same =
           (noted_event hints hint run next event s.next are.asked notes sees s.is s.before s.found)),
     )
 
--- so it does where it is ahead, if the event fits what is known
+-- where the session of the event is ahead in what is kept (`IsAheadAt`), what is kept sees the event as well, if the
+-- event fits what is known
 ahead_sees : (hints : List Hint) (hint : Hint) (run kept next : Config) (event : Event)
     → AreAlike hints run kept → FitsHints hints event → observed run event ≡ Some next
     → IsAheadAt (hint_of hints (session_of event)) run.state (session_of event)
@@ -326,7 +331,8 @@ ahead_sees hints hint run kept next (Lost session) are fits sees ahead =
 ahead_sees hints hint run kept next (Unknown session) are fits sees ahead =
     absurd (none-some ahead.seen (sym fits ∙ ahead.hinted))
 
--- what is kept is behind: its call isn't heard of any more
+-- where the session of the event is behind in what is kept (`IsBehindAt`), what is kept sees the event as well, if
+-- the event fits what is known
 behind_sees : (hints : List Hint) (hint : Hint) (run kept next : Config) (event : Event)
     → AreAlike hints run kept → FitsHints hints event → observed run event ≡ Some next
     → IsBehindAt (fact_of hints (session_of event)) (slice_get run.clients (session_of event))
@@ -366,7 +372,7 @@ alike_sees hints hint run kept next event are fits notes sees = by (are.clients 
 
 -- ---- an order that can't go on past a return
 
--- it stays so after an act
+-- an order that can't go on past a return (`IsDead`) still can't after an act
 pub dead_acts : (hints : List Hint) (run next : Config) (session : ℕ) (act : Act) → IsDead hints run
     → effect_of run session act ≡ Some next → IsDead hints next
 dead_acts hints run next session act dead leads =
@@ -393,7 +399,7 @@ dead_acts hints run next session act dead leads =
         → Some c ≡ Some (Answered dead.answer) → ⊥
     by c un is = answered c un (same_Some c (Answered dead.answer) is)
 
--- and after an event that fits what is known
+-- an order that can't go on past a return (`IsDead`) still can't after an event that fits what is known
 pub dead_sees : (hints : List Hint) (hint : Hint) (run next : Config) (event : Event) → IsDead hints run
     → FitsHints hints event → observed run event ≡ Some next
     → IsDead (set hints (session_of event) hint) next

@@ -1,8 +1,8 @@
 -- Lists of configurations, as they grow.
 --     extends_none, extends_more, still_at, still_has     a list has more at its end
 --     adds_one                                            a configuration is added
---     next_added, both_added                              what an act leads to is added;  what both of a session do
---     expanded_more, closed_more, closed_all              the next session;  the next place;  all of them
+--     next_added, both_added                              what an act leads to is added;  what a session's two do
+--     expanded_more, closed_more, closed_all              loops over sessions and places;  after them a list is closed
 --     seen_added, unseen                                  what an event leads to is added;  or it can't be seen
 --     SeesBothFor, sees_more, sees_end                    a loop in which each of a list sees an event
 use Rattle.std.proofs.Common.{◌≡◌, ◌⊎◌, ℕ, false, Option, Some, None, List, [], ◌∷◌, ◌++◌, ap, sym, ◌∙◌, subst, inl}
@@ -50,7 +50,8 @@ pub adds_one : (old new : List Configuration) (one : Configuration) → AddsUnle
 adds_one old new one (inl there) = ([], there.1 ∙ sym (append-nil old))
 adds_one old new one (inr more) = (one ∷ [], more)
 
--- what an act leads to is added
+-- once what an act leads to from the configuration at a place, or what is as good (`ReplacesFor`), was added unless
+-- it was there, the list has it
 pub next_added : (hints : List Hint) (old list : List Configuration) (place : ℕ) (here next added : Configuration)
     (found : Option Configuration) (session : ℕ) (act : Act)
     → slice_get old place ≡ Some here
@@ -69,7 +70,8 @@ next_added hints old list place here next added found session act at is some rep
       subst (λ c. ReplacesFor hints c (config_of added)) made replaces,
     )
 
--- the session's two acts
+-- if the list has what a session's statement leads to from the configuration at a place, and then what its DISCONNECT
+-- does, it has what each of its acts leads to (`HasNextFor`)
 pub both_added : (hints : List Hint) (old mid new : List Configuration) (place session : ℕ)
     → ExtendsBy old mid → ExtendsBy mid new
     → ((one : Configuration) (next : Config) → slice_get old place ≡ Some one
@@ -84,7 +86,8 @@ both_added hints old mid new place session first then has after one at Statement
 both_added hints old mid new place session first then has after one at Disconnect next leads allowed =
     after one next (still_at old mid place one first at) leads
 
--- the next session
+-- a list that has what sessions below a number lead to from a configuration (`IsExpandedFor`) has what those up to it
+-- lead to, once it has this session's
 pub expanded_more : (hints : List Hint) (number : ℕ) (one : Config) (mid new : List Configuration)
     → ExtendsBy mid new → IsExpandedFor hints number one mid
     → (IsSession number → HasNextFor hints one number new)
@@ -105,7 +108,8 @@ expanded_still hints count one old new grows is = λ session below its act next 
     let other = is session below its act next leads allowed in
     (other.0, still_has old new other.0 grows other.1, other.2)
 
--- the next place
+-- a list that has what allowed acts lead to from each place before one (`AreClosedFor`) has it from each place up to
+-- that one, once it has what they lead to from there
 pub closed_more : (hints : List Hint) (returning : Option ℕ) (place : ℕ) (old new : List Configuration)
     → place < length old → ExtendsBy old new → AreClosedFor hints returning place old
     → ((one : Configuration) → slice_get old place ≡ Some one → is_over returning (config_of one) ≡ false
@@ -130,7 +134,7 @@ closed_more hints returning place old new within grows before here = λ at one b
           (subst (λ r. is_over returning (config_of r) ≡ false) (sym same) unanswered))
     ]
 
--- such a list is closed
+-- a list that has what allowed acts lead to from each of its places is closed
 pub closed_all : (hints : List Hint) (returning : Option ℕ) (list : List Configuration)
     → AreClosedFor hints returning (length list) list → IsClosedFor hints returning (Has list)
 closed_all hints returning list closed = λ kept new session act there unanswered is leads allowed.
@@ -140,7 +144,8 @@ closed_all hints returning list closed = λ kept new session act there unanswere
     next act new (ap (λ c. effect_of c session act) at.4 ∙ leads)
     (subst (λ c. IsAllowed hints c session) (sym at.4) allowed)
 
--- what an event leads to is added
+-- once what the event leads to from a configuration, or what is as good (`ReplacesFor`), was added unless it was
+-- there, the list has it
 pub seen_added : (hints : List Hint) (old list : List Configuration) (one next added : Configuration)
     (found : Option Configuration) (event : Event)
     → option_map config_of found ≡ observed (config_of one) event → found ≡ Some next
@@ -155,7 +160,7 @@ seen_added hints old list one next added found event is some replaces adds new l
       subst (λ c. ReplacesFor hints c (config_of added)) made replaces,
     )
 
--- nothing is added, since the event can't be seen
+-- where nothing was found to which the event leads, it can't be seen: if it is, anything follows
 pub unseen : (found : Option Configuration) (config new : Config) (event : Event) {P : Type 0}
     → option_map config_of found ≡ observed config event → found ≡ None → observed config event ≡ Some new → P
 unseen found config new event is none leads =
@@ -180,7 +185,8 @@ sees_more hints event first known rest list new one parts grows here has = λ c 
   | inr done ↦ inr (done.0, still_has list new done.0 grows done.1, done.2)
 ]
 
--- at its end nothing is to come
+-- at the end of that loop no configuration is still to come, so the list has what the event leads to from each
+-- (`HasSeenFor`)
 pub sees_end : (hints : List Hint) (event : Event) (first rest list : List Configuration) → rest ≡ []
     → SeesBothFor hints event first rest list → HasSeenFor hints event (Has first) (Has list)
 sees_end hints event first rest list none has = λ kept next there sees. elim (has kept next there sees) [

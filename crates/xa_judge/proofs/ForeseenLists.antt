@@ -1,9 +1,9 @@
 -- Lists of what is kept where later returns are known.
---     left_past                           an order that can't go on past a return, past an event
---     seen_from                           the event itself
---     goes_closed                         past an event, from a closed list
+--     left_past                           an order that can't go on past a return can't after an event either
+--     seen_from                           an event that an order sees is seen in what is kept
+--     goes_closed, unheard_alike          past an event, from a closed list;  an open call that nobody hears
 --     goes_called                         past a call or a loss, from any list
---     answer_kept                         the answer of a session of whose call nothing is known
+--     answer_kept                         the client of a session of whose call nothing is known
 --     hints_set, unknown_at, noted_at     what is known of open calls, by their places
 use Rattle.std.proofs.Common.{◌≡◌, ℕ, false, Option, Some, None, List, [], ◌∷◌, set, map, zero, suc, refl, ap}
 use Rattle.std.proofs.Common.{sym, ◌∙◌, inl}
@@ -110,7 +110,7 @@ goes_called hints hint event old new kept run end more moves there alike fits no
     first.sees
     first.runs)
 
--- if nothing is known of any open call, a session's answer is that of what is kept
+-- if nothing is known of a session's call, its client in what is kept is that of the order's configuration
 pub answer_kept : (hints : List Hint) (run kept : Config) (session : ℕ) (c : Option ClientState)
     → AreAlike hints run kept → hint_of hints session ≡ None → (fact_of hints session).never ≡ false
     → slice_get run.clients session ≡ c → slice_get kept.clients session ≡ c
@@ -135,7 +135,7 @@ pub hints_set : (events : List Event) (places : List OpenCall) (session : ℕ) (
     → hints_of events (set places session place) ≡ set (hints_of events places) session (hint_in events place)
 hints_set events places session place = set_mapped (hint_in events) places session place
 
--- a session with no place, or one with one at which no call returns
+-- no return is known of the call of a session that has no place, or one at which no call returns
 pub unknown_at : (events : List Event) (places : List OpenCall) (session : ℕ)
     → ((o : OpenCall) → slice_get places session ≡ Some o → (hint_in events o).seen ≡ None)
     → hint_of (hints_of events places) session ≡ None
@@ -148,7 +148,7 @@ unknown_at events places session none =
     by None at = refl
     by (Some place) at = none place at
 
--- what is noted of a session is noted at its place
+-- if a request is noted of a session, the session has a place, and the call at that place is for this request
 pub noted_at : (events : List Event) (places : List OpenCall) (session : ℕ) (request : Request)
     → (fact_of (hints_of events places) session).asked ≡ Some request
     → (o : OpenCall) × (slice_get places session ≡ Some o) × ((hint_in events o).asked ≡ Some request)

@@ -35,7 +35,8 @@ use Rattle.xa_judge.proofs.ForeseenSteps.{answered_rests, alike_acts, quiet_keep
 use Rattle.xa_judge.proofs.ForeseenEvents.{idle_shut, same_client, dead_acts}
 use Rattle.xa_judge.proofs.ForeseenLists.{left_past, seen_from, answer_kept}
 
--- an act of another session leads on as well from where a client stands otherwise
+-- an act of another session leads on as well once one session's client is replaced, to the same with that client
+-- replaced
 apart_acts : (run next : Config) (session other : ℕ) (act : Act) (c : ClientState) → session ≢ other
     → effect_of run other act ≡ Some next
     → effect_of (with_client run session c) other act ≡ Some (with_client next session c)
@@ -53,7 +54,7 @@ record Shown (config : Config) (session : ℕ) (seen : Seen) (answer : Answer) (
   pub shown : shows_answer seen answer ≡ true
   pub idle : next ≡ with_client config session Idle
 
--- so it is with each return that is seen of a session that was answered
+-- `Shown` holds of each return that is seen of a session that was answered
 shown_at : (config next : Config) (session : ℕ) (seen : Seen) (answer : Answer)
     → slice_get config.clients session ≡ Some (Answered answer)
     → observed config (Return session seen) ≡ Some next → Shown config session seen answer next
@@ -69,7 +70,7 @@ record Quietly (run next : Config) (session : ℕ) (request : Request) : Type 0 
   pub is : next ≡ with_client (record run { state = next_state run.state session request }) session
       (Answered (answer_to run.state session request))
 
--- so it is with each act of a session whose call is open
+-- each act of a session whose call is open does that (`Quietly`)
 quietly : (run next : Config) (session : ℕ) (act : Act) (request : Request)
     → slice_get run.clients session ≡ Some (Called request) → effect_of run session act ≡ Some next
     → Quietly run next session request
@@ -84,7 +85,8 @@ quietly run next session ItsStatement request at leads =
 quietly run next session ItsDisconnect request at leads =
     absurd (none-some next (sym (ap (λ o. disconnected o run session) at) ∙ leads))
 
--- the quiet call of an order that is still open may be left out: its return is seen at once
+-- if moves lead past a return, and its call is still open and quiet for it, moves also lead on from where its session
+-- is idle at once: the call's effect may be left out
 pub returned_early : (run end : Config) (session : ℕ) (request : Request) (seen : Seen) (more : List Event)
     (moves : List Move) → slice_get run.clients session ≡ Some (Called request)
     → IsQuietFor run.state session request seen → LockLaw run.state
@@ -135,7 +137,7 @@ returned_early run end session request seen more (Seeing ∷ moves) at quiet law
     absurd (none-some runs.0 (sym (ap (λ o. returned o run session seen) at) ∙ runs.1))
 returned_early run end session request seen more [] at quiet law runs = absurd runs
 
--- the answer that is kept of a session
+-- a client that has an answer has one that can be named
 answered_at : (o : Option ClientState) → answered_so o ≡ true → (answer : Answer) × (o ≡ Some (Answered answer))
 answered_at None is = absurd (false≢true is)
 answered_at (Some Idle) is = absurd (false≢true is)
@@ -144,7 +146,7 @@ answered_at (Some (Answered answer)) is = (answer, refl)
 answered_at (Some (Gone request)) is = absurd (false≢true is)
 answered_at (Some Left) is = absurd (false≢true is)
 
--- what is kept has answered the session: the return is seen there at once
+-- if what is kept has answered the session, an order that goes on past the return goes on from the new list (`GoesOn`)
 seen_answered : (hints : List Hint) (hint : Hint) (session : ℕ) (seen : Seen)
     (old new : Config → Type 0) (kept run end : Config) (more : List Event) (moves : List Move) → old kept
     → AreAlike hints run kept → FitsHints hints (Return session seen) → NotesCall hints hint (Return session seen)
@@ -202,7 +204,8 @@ either : (b : Bool) → (b ≡ true) ⊎ (b ≡ false)
 either true = inl refl
 either false = inr refl
 
--- past a return, from a list that is closed where the session isn't answered
+-- an order of which something is kept in a list goes on past a return from the new list, if the first one has what
+-- allowed acts lead to where the session isn't answered (`IsClosedFor`)
 pub goes_returned : (hints : List Hint) (hint : Hint) (session : ℕ) (seen : Seen)
     (old new : Config → Type 0) (kept run end : Config) (more : List Event) (moves : List Move)
     → IsClosedFor hints (Some session) old → old kept → AreAlike hints run kept
@@ -231,7 +234,7 @@ goes_returned hints hint session seen old new kept run end more (Seeing ∷ move
     runs.1 runs.2)
 goes_returned hints hint session seen old new kept run end more [] closed there alike fits notes are runs = absurd runs
 
--- an answer stays until its return
+-- acts leave the answer that a session has
 answer_stays : (run end : Config) (session : ℕ) (answer : Answer) (moves : List Move)
     → slice_get run.clients session ≡ Some (Answered answer) → LeadsThrough run [] moves end
     → slice_get end.clients session ≡ Some (Answered answer)
@@ -248,7 +251,7 @@ answer_stays run end session answer (Seeing ∷ moves) at runs = absurd runs
 answer_stays run end session answer [] at runs =
     subst (λ (c : Config). slice_get c.clients session ≡ Some (Answered answer)) (sym runs) at
 
--- an order that gives a call another answer than it returns, at the end
+-- an order that gave a call another answer than it returns (`IsDead`) still has after acts
 dead_end : (hints : List Hint) (from end : Config) (moves : List Move) → IsDead hints from
     → LeadsThrough from [] moves end → IsDead hints end
 dead_end hints from end (Effect session act ∷ moves) dead runs =
@@ -256,7 +259,7 @@ dead_end hints from end (Effect session act ∷ moves) dead runs =
 dead_end hints from end (Seeing ∷ moves) dead runs = absurd runs
 dead_end hints from end [] dead runs = subst (IsDead hints) (sym runs) dead
 
--- if what is kept has answered it, so has the order
+-- if nothing is known of a session's call, the answer that it has in what is kept it has in the order's configuration
 run_answered : (hints : List Hint) (run kept : Config) (session : ℕ) (answer : Answer) → AreAlike hints run kept
     → hint_of hints session ≡ None → (fact_of hints session).never ≡ false
     → slice_get kept.clients session ≡ Some (Answered answer)
@@ -269,7 +272,7 @@ run_answered hints run kept session answer alike none heard at = by (alike.clien
     by (inr (inl ahead)) = absurd (none-some ahead.seen (sym none ∙ ahead.hinted))
     by (inr (inr behind)) = absurd (false≢true (sym heard ∙ behind.never))
 
--- in a closed list each answer is kept that a session has where moves end, if it isn't known what it returns
+-- in a closed list each answer that a session has where acts end is kept, if no return is known of any open call
 pub ends_answered : (hints : List Hint) (has : Config → Type 0) (kept run end : Config) (session : ℕ) (answer : Answer)
     (moves : List Move) → ((other : ℕ) → hint_of hints other ≡ None) → (fact_of hints session).never ≡ false
     → IsClosedFor hints (Some session) has → has kept → AreAlike hints run kept → LeadsThrough run [] moves end

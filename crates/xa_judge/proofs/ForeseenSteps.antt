@@ -94,7 +94,7 @@ quiet_same state session (Given (Get key)) quiet = (free_get state session key q
 quiet_same state session (Given Disconnect) quiet = free_leaves state session quiet
 quiet_same state session request quiet = absurd quiet
 
--- so does one whose answer is shown by a return of an error
+-- a request whose answer is shown by a return of an error leaves the state as it was
 error_keeps : (state : State) (session : ℕ) (request : Request) (numbers : _)
     → shows_answer (SeenError numbers) (answer_to state session request) ≡ true
     → next_state state session request ≡ state
@@ -111,7 +111,7 @@ quiet_keeps state session request SeenOk quiet shown = quiet_same state session 
 quiet_keeps state session request (SeenValue value) quiet shown = quiet_same state session request quiet
 quiet_keeps state session request (SeenRows rows) quiet shown = quiet_same state session request quiet
 
--- what another session does leaves it quiet
+-- a quiet request is still quiet in a state in which its session has open what it had (`LeavesSession`)
 still_quiet : (old new : State) (session : ℕ) (request : Request) → LeavesSession old new session
     → IsQuiet old session request → IsQuiet new session request
 still_quiet old new session (Given (Recover convert)) leaves quiet = quiet
@@ -119,7 +119,8 @@ still_quiet old new session (Given (Get key)) leaves quiet = leaves.association 
 still_quiet old new session (Given Disconnect) leaves quiet = leaves.association ∙ quiet
 still_quiet old new session request leaves quiet = absurd quiet
 
--- and quiet for a return
+-- a request that is quiet for a return is still so in a state in which its session has open what it had
+-- (`LeavesSession`)
 pub still_quiet_for : (old new : State) (session : ℕ) (request : Request) (seen : Seen) → LeavesSession old new session
     → IsQuietFor old session request seen → IsQuietFor new session request seen
 still_quiet_for old new session request (SeenError numbers) leaves quiet = quiet
@@ -139,7 +140,7 @@ pub record Keeps (old new : State) (session : ℕ) : Type 0 where
   pub law : LockLaw new
   pub others : (other : ℕ) → session ≢ other → LeavesSession old new other
 
--- so it is after a request of the session, if the lock law held
+-- a request keeps the lock law, if it held, and leaves what other sessions have open (`Keeps`)
 request_keeps : (state : State) (session : ℕ) (request : Request) → LockLaw state
     → Keeps state (next_state state session request) session
 request_keeps state session (Given statement) law = record {
@@ -148,7 +149,7 @@ request_keeps state session (Given statement) law = record {
 }
 request_keeps state session Unread law = record { law = law; others = λ other apart. leaves_same state other }
 
--- and after an act of the session
+-- an act of a session keeps the lock law, if it held, and leaves what other sessions have open (`Keeps`)
 pub act_keeps : (old new : Config) (session : ℕ) (act : Act) → LockLaw old.state → effect_of old session act ≡ Some new
     → Keeps old.state new.state session
 unfolding effect_of carried_out disconnected
@@ -180,7 +181,8 @@ act_keeps old new session ItsDisconnect law leads = by (slice_get old.clients se
 
 -- ---- acts
 
--- another session stays alike
+-- a session that stands alike on the way and in what is kept (`IsAlikeAt`) still does in a state in which it has open
+-- what it had
 alike_still : (hint : Hint) (old new : State) (session : ℕ) (one other : Option ClientState)
     → LeavesSession old new session → IsAlikeAt hint old session one other → IsAlikeAt hint new session one other
 alike_still hint old new session one other leaves (inl same) = inl same
@@ -201,7 +203,8 @@ alike_still hint old new session one other leaves (inr (inl ahead)) = inr (inl (
   ];
 }))
 
--- what is kept stays; or it does the same; or the order can't go on past a return
+-- after an order's act: what is kept stays; or the same act is allowed there and leads to what is kept; or the order
+-- can't go on past a return
 abbrev pub Foresees : List Hint → Config → ℕ → Act → Config → Type 0
 Foresees hints kept session act next =
     AreAlike hints next kept
@@ -209,7 +212,7 @@ Foresees hints kept session act next =
     × AreAlike hints next new)
     ⊎ IsDead hints next)
 
--- the same act in both
+-- where a session's client is the same on the way and in what is kept, its act leads to what is alike again in both
 pub both_act : (hints : List Hint) (run kept next : Config) (session : ℕ) (act : Act) → AreAlike hints run kept
     → effect_of run session act ≡ Some next → slice_get run.clients session ≡ slice_get kept.clients session
     → (new : Config) × (effect_of kept session act ≡ Some new) × AreAlike hints next new
@@ -241,7 +244,8 @@ both_act hints run kept next session act are leads same =
       },
     )
 
--- what is kept is ahead: nothing happens there, or the call was answered otherwise than it returns
+-- where a session is ahead in what is kept (`IsAheadAt`), after its act what is kept stays as it is, or the call was
+-- answered otherwise than it returns (`IsDead`)
 ahead_act : (hints : List Hint) (run kept next : Config) (session : ℕ) (act : Act) → AreAlike hints run kept
     → effect_of run session act ≡ Some next
     → IsAheadAt (hint_of hints session) run.state session (slice_get run.clients session)
@@ -323,7 +327,8 @@ ahead_act hints run kept next session act are leads ahead = elim ahead.way [
     by ItsDisconnect request at quiet e =
         absurd (none-some next (sym (ap (λ o. disconnected o run session) at) ∙ e))
 
--- a call is answered otherwise than it returns
+-- an order in which an act answers a call otherwise than it is known to return can't go on past that return
+-- (`IsDead`)
 dead_act : (hints : List Hint) (run next : Config) (session : ℕ) (act : Act) (request : Request) (seen : Seen)
     → hint_of hints session ≡ Some seen → slice_get run.clients session ≡ Some (Called request)
     → shows_answer seen (answer_to run.state session request) ≡ false
@@ -342,7 +347,7 @@ dead_act hints run next session ItsStatement request seen hinted at hidden leads
 dead_act hints run next session ItsDisconnect request seen hinted at hidden leads =
     absurd (none-some next (sym (ap (λ o. disconnected o run session) at) ∙ leads))
 
--- the call isn't heard of any more, and changes nothing
+-- the session's call in what is kept isn't heard of any more, and would change nothing
 record Waits (hints : List Hint) (kept : Config) (session : ℕ) : Type 0 where
   pub never : (fact_of hints session).never ≡ true
   pub unseen : hint_of hints session ≡ None
@@ -377,13 +382,13 @@ reading_keeps state session (Given Disconnect) reads =
     free_leaves state session (freed (association_of state session) reads)
 reading_keeps state session request reads = absurd (false≢true reads)
 
--- nor does one that is refused
+-- a request that is refused changes nothing
 refusal_keeps : (state : State) (session : ℕ) (request : Request) → refuses (answer_to state session request) ≡ true
     → next_state state session request ≡ state
 refusal_keeps state session (Given statement) refused = refused_leaves state session statement refused
 refusal_keeps state session Unread refused = refl
 
--- such an act changes nothing
+-- a request that only reads, or is refused (`is_still`), leaves the state as it was
 still_keeps : (state : State) (session : ℕ) (request : Request) → is_still state session request ≡ true
     → next_state state session request ≡ state
 still_keeps state session request still = by (is_reading state session request) refl still
@@ -393,7 +398,7 @@ still_keeps state session request still = by (is_reading state session request) 
     by true reads e = reading_keeps state session request reads
     by false reads e = refusal_keeps state session request e
 
--- what is kept waits
+-- where a session's call isn't heard of any more and changes nothing (`Waits`), its act leaves what is kept as it is
 waits_act : (hints : List Hint) (run kept next : Config) (session : ℕ) (act : Act) → AreAlike hints run kept
     → effect_of run session act ≡ Some next → slice_get run.clients session ≡ slice_get kept.clients session
     → Waits hints kept session → AreAlike hints next kept
@@ -441,7 +446,7 @@ waits_act hints run kept next session ItsStatement are leads same waits =
 waits_act hints run kept next session ItsDisconnect are leads same waits =
     absurd (none-some next (sym (ap (λ o. disconnected o run session) (same ∙ waits.at)) ∙ leads))
 
--- an answered call doesn't act
+-- a session that has its answer has no act
 pub answered_rests : (run next : Config) (session : ℕ) (act : Act) (answer : Answer)
     → slice_get run.clients session ≡ Some (Answered answer) → effect_of run session act ≡ Some next → ⊥
 unfolding effect_of carried_out disconnected
@@ -450,7 +455,8 @@ answered_rests run next session ItsStatement answer at leads =
 answered_rests run next session ItsDisconnect answer at leads =
     none-some next (sym (ap (λ o. disconnected o run session) at) ∙ leads)
 
--- whether the act is allowed
+-- an act of a session is allowed; or it would give the call another answer than it returns; or the call isn't heard
+-- of any more and changes nothing (`Waits`)
 allowed_or : (hints : List Hint) (kept : Config) (session : ℕ) (hint : Option Seen) (c : Option ClientState)
     → hint_of hints session ≡ hint → slice_get kept.clients session ≡ c
     → IsAllowed hints kept session
@@ -563,7 +569,7 @@ allowed_or hints kept session (Some seen) (Some Left) hinted at =
     no : (request : Request) → Some Left ≡ Some (Called request) → ⊥
     no request e = cc
 
--- an act of an order: what is kept stays, or follows; or the order can't go on
+-- after an act of an order, what is kept stays or follows, or the order can't go on past a return (`Foresees`)
 pub alike_acts : (hints : List Hint) (run kept next : Config) (session : ℕ) (act : Act)
     → AreAlike hints run kept → effect_of run session act ≡ Some next → Foresees hints kept session act next
 alike_acts hints run kept next session act are leads = by (are.clients session)
@@ -641,7 +647,7 @@ alike_settles hints run kept session request seen new are hinted at quiet shown 
 
 -- ---- whether a session has a branch
 
--- if XA END is refused since there is none
+-- a session whose XA END is refused with the state NON-EXISTING has no branch open
 pub told_none : (state : State) (session : ℕ) (xid : Xid) (answer : Answer)
     → answer ≡ answer_to state session (Given (End xid))
     → answer ≡ Replied (Refused (Rmfail NonExisting)) → association_of state session ≡ Free
@@ -666,7 +672,7 @@ told_none state session xid answer is told = by (association_of state session) (
     by (Active one) e = absurd (own (same_xid xid one) e)
     by (IdleBranch one) e = absurd (idle e)
 
--- a call that can take effect at once, does
+-- what is kept of an order is still kept of it once a call takes effect there that can at once (`CanSettle`)
 pub settles_one : (hints : List Hint) (run kept new : Config) (session : ℕ) (seen : Seen)
     → AreAlike hints run kept → hint_of hints session ≡ Some seen → CanSettle kept session seen
     → effect_of kept session ItsStatement ≡ Some new → AreAlike hints run new
@@ -679,7 +685,7 @@ all_idle zero session c is = absurd (none-some c is)
 all_idle (suc n) zero c is = sym (same_Some Idle c is)
 all_idle (suc n) (suc session) c is = all_idle n session c is
 
--- before all events
+-- before all events the opening configuration is kept of itself, where the lock law holds
 pub alike_first : (base : State) (hints : List Hint) → LockLaw base → length hints ≡ 17
     → AreAlike hints (opening_config base) (opening_config base)
 unfolding opening_config

@@ -21,7 +21,7 @@ use Rattle.xa_judge.specs.Found.{config_of, configs, Has, Grows, Reaches, AddsUn
 use Rattle.xa_judge.proofs.Places.{map_append, get_front}
 use Rattle.xa_judge.proofs.Waits.{runs_effect, runs_event}
 
--- what is in the list stays
+-- what is in a list is in it with more behind it
 pub has_more : (old more : List Configuration) (one : Config) → Has old one → Has (old ++ more) one
 has_more old more one has = subst (λ l. Contains l one) (sym (map_append config_of old more))
     (Contains-append_left (configs old) (configs more) one has)
@@ -104,7 +104,7 @@ all_at P list place one all found = at list place all found
     at list place all found = subst P (get_or_from_slice_get list place one one found)
         (all place one (slice_get_within list place one found))
 
--- the list with what an effect of one of it leads to
+-- a list grows if what an act leads to from one of its configurations is added unless it is there
 pub grows_added : (old new : List Configuration) (place : ℕ) (one next : Configuration) (session : ℕ) (act : Act)
     → slice_get old place ≡ Some one
     → IsSession session

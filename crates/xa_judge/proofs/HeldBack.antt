@@ -114,7 +114,7 @@ recovered state Free convert = refl
 recovered state (Active own) convert = refl
 recovered state (Idle own) convert = refl
 
--- a list that shows the step isn't given before it
+-- before a step, no XA RECOVER of another session gives a list that shows it (`IsListedAfter`, `IsHeldBack`)
 pub held_list : (one : Statement) (xid : Xid) (rows : List (List ℕ)) (listed : Vec Xid Global) (convert : Bool)
     → IsListedAfter one xid listed.items → IsHeldBack one (Given (Recover convert)) xid rows (SeenRows listed)
 unfolding reply_to
@@ -143,7 +143,7 @@ uncommitted state Free xid none = ap (λ b. shows_answer SeenOk (Replied (ok_if 
 uncommitted state (Active own) xid none = refl
 uncommitted state (Idle own) xid none = refl
 
--- nor is an XA ROLLBACK of a session that hasn't it open
+-- no XA ROLLBACK of a branch that isn't PREPARED is accepted of a session that hasn't it open
 unrolled : (state : State) (a : Association) (xid : Xid) → IsBeside a xid → is_prepared state xid ≡ false
     → shows_answer SeenOk (Replied (table state a (Rollback xid))) ≡ false
 unfolding table
@@ -151,7 +151,8 @@ unrolled state Free xid beside none = ap (λ b. shows_answer SeenOk (Replied (ok
 unrolled state (Active own) xid beside none = refl
 unrolled state (Idle own) xid beside none = ap (λ b. shows_answer SeenOk (Replied (ok_if b (Rmfail StateIdle)))) beside
 
--- another session ends the branch only once it is PREPARED
+-- before the step that prepares a branch, no XA COMMIT in two phases and no XA ROLLBACK of it by another session is
+-- accepted (`IsHeldBack`)
 pub held_end : (one two : Statement) (xid : Xid) (rows : List (List ℕ)) → EndsPrepared one two xid
     → IsHeldBack one (Given two) xid rows SeenOk
 unfolding reply_to

@@ -4,6 +4,8 @@
 --                                  the client
 --     observed_is, effect_is       that is all that they do
 --     AreClients, AreParts         the clients of the whole, by those of its parts;  the configurations
+--     is_rest                      by its turn, a session's call is in the other part, or it may have a branch
+--     AreEnded                     a session whose call to end its branch was accepted owns none
 --     chosen_acts, rest_acts       an act of a session whose call belongs to one part is one of the whole
 --     chosen_seen, rest_seen       so is an event of one part
 --     absent_rests, idle_rests     a session that isn't there, or is idle, has no act
@@ -50,7 +52,8 @@ Together P None None = Unit {0}
 Together P (Some one) (Some other) = P one other
 Together P one other = ⊥
 
--- where the one is there, so is the other
+-- if two results are missing or belong together (`Together`), and the one is there, so is the other, with which it
+-- belongs together
 pub forth : {A B : Type 0} (P : A → B → Type 0) (one : Option A) (other : Option B) (x : A) → Together P one other
     → one ≡ Some x
     → (y : B) × (other ≡ Some y) × P x y
@@ -59,7 +62,8 @@ forth P None (Some y) x both is = absurd both
 forth P (Some a) None x both is = absurd both
 forth P (Some a) (Some y) x both is = (y, refl, subst (λ c. P c y) (same_Some a x is) both)
 
--- and where the other is there, so is the one
+-- if two results are missing or belong together (`Together`), and the other is there, so is the one, with which it
+-- belongs together
 pub back : {A B : Type 0} (P : A → B → Type 0) (one : Option A) (other : Option B) (y : B) → Together P one other
     → other ≡ Some y
     → (x : A) × (one ≡ Some x) × P x y
@@ -70,7 +74,7 @@ back P (Some x) (Some b) y both is = (x, refl, subst (P x) (same_Some b y is) bo
 
 -- ---- what events and acts do
 
--- what an event makes of its session's client
+-- what an event makes of its session's client; None if the event can't be seen there
 unfoldable pub client_after : Event → Option ClientState → Option ClientState
 client_after (Call session request) (Some Idle) = Some (Called request)
 client_after (Call session request) (Some (Gone None)) = Some (Gone (Some request))
@@ -139,12 +143,12 @@ observed_is config (Unknown session) = by (slice_get config.clients session)
     by (Some (Gone other)) = refl
     by (Some Left) = refl
 
--- a state, and what one session is about
+-- what an act makes: the state, and the client of its session
 pub record Deed : Type 0 where
   pub state : State
   pub client : ClientState
 
--- what an act makes of the state and of its session's client
+-- what an act makes of the state and of its session's client; None if it can't take effect
 unfoldable pub deed_of : ℕ → Act → State → Option ClientState → Option Deed
 deed_of session Statement state (Some (Called request)) =
     Some (record { state = next_state state session request; client = Answered (answer_to state session request) })
@@ -158,7 +162,7 @@ deed_of session act state client = None
 abbrev pub done_in : Config → ℕ → Deed → Config
 done_in config session deed = record { state = deed.state; clients = set config.clients session deed.client }
 
--- an act changes nothing else
+-- an act changes the state and its session's client as `deed_of` says, and nothing else
 pub effect_is : (config : Config) (session : ℕ) (act : Act)
     → effect_of config session act
     ≡ option_map (done_in config session) (deed_of session act config.state (slice_get config.clients session))
@@ -193,11 +197,13 @@ IsFreeClient named (Called request) = IsOnRows named request
 IsFreeClient named (Answered answer) = Unit {0}
 IsFreeClient named client = ⊥
 
--- the request may be one of a session with this turn
+-- a session with this turn may have called for the request: it is no XA START if the session has no branch, and one
+-- that ends or detaches a branch (`is_ending`) if the turn is Ending
 abbrev pub IsCallOf : Turn → Request → Type 0
 IsCallOf turn request = (has_none turn ≡ true → is_start request ≡ false) × (turn ≡ Ending → is_ending request ≡ true)
 
--- a client of the other part
+-- the client may be one of the other part: what it has called for names no chosen row and suits its turn, by which
+-- its session may have a branch if the client is gone
 abbrev pub IsOtherClient : (List ℕ → Bool) → Turn → ClientState → Type 0
 IsOtherClient named turn (Called request) = IsOffRows named request × IsCallOf turn request
 IsOtherClient named turn (Gone (Some request)) = (has_none turn ≡ false) × IsOffRows named request
@@ -228,7 +234,8 @@ is_rest Within = true
 is_rest Rest = true
 is_rest Ending = true
 
--- by such a turn, the session is idle in the chosen part, and its client in the other part is that in the whole
+-- by a turn that isn't of the chosen part (`is_rest`), the session is idle in that part, and its client in the other
+-- part is that in the whole
 rested : (named : List ℕ → Bool) (turn : Turn) (whole chosen rest : Option ClientState) → is_rest turn ≡ true
     → AreClients named (Some turn) whole chosen rest → IsRested named turn whole chosen rest
 rested named Nobody whole chosen rest is are = absurd (false≢true is)
@@ -238,7 +245,8 @@ rested named Within whole chosen rest is are = are
 rested named Rest whole chosen rest is are = are
 rested named Ending whole chosen rest is are = are
 
--- and the other way round: clients that are told so are those of a session with such a turn
+-- if a session's turn isn't of the chosen part (`is_rest`), clients of which `IsRested` holds belong together by it
+-- (`AreClients`)
 are_rested : (named : List ℕ → Bool) (turn : Turn) (whole chosen rest : Option ClientState) → is_rest turn ≡ true
     → IsRested named turn whole chosen rest → AreClients named (Some turn) whole chosen rest
 are_rested named Nobody whole chosen rest is are = absurd (false≢true is)
@@ -248,7 +256,7 @@ are_rested named Within whole chosen rest is are = are
 are_rested named Rest whole chosen rest is are = are
 are_rested named Ending whole chosen rest is are = are
 
--- a session whose call to end its branch was accepted has none
+-- a session whose turn is Ending, and whose call was accepted, owns no branch
 abbrev pub AreEnded : List Turn → Config → Type 0
 AreEnded turns whole = (session : ℕ) → slice_get turns session ≡ Some Ending
     → slice_get whole.clients session ≡ Some (Answered (Replied Accepted)) → OwnsNone whole.state session
@@ -261,7 +269,7 @@ pub record AreParts (named : List ℕ → Bool) (turns : List Turn) (whole chose
   pub law : LockLaw whole.state
   pub ended : AreEnded turns whole
 
--- the same clients, told otherwise
+-- what holds of a turn and its three clients (`AreClients`) holds of equal ones
 told : (named : List ℕ → Bool) (t u : Option Turn) (a b c x y z : Option ClientState)
     → t ≡ u → a ≡ x → b ≡ y → c ≡ z → AreClients named t a b c → AreClients named u x y z
 told named t u a b c x y z e f g h are =
@@ -270,7 +278,8 @@ told named t u a b c x y z e f g h are =
     (subst (λ b. AreClients named t a b z) g
     (subst (λ c. AreClients named t a b c) h are)))
 
--- all clients after one session's changed
+-- if one session's turn and clients are replaced by such that belong together (`AreClients`), and all others are as
+-- they were, those of each session belong together
 clients_set : (named : List ℕ → Bool) (session : ℕ) (turns new_turns : List Turn)
     (whole chosen rest new_whole new_chosen new_rest : List ClientState)
     → ((other : ℕ) → AreClients named (slice_get turns other) (slice_get whole other) (slice_get chosen other)
@@ -291,7 +300,7 @@ clients_set named session turns new_turns whole chosen rest new_whole new_chosen
           (were other)
     ]
 
--- another place isn't written
+-- a write leaves what stands at another place
 aside : {A : Type 0} (xs : List A) (session : ℕ) (x : A) (other : ℕ) → session ≢ other
     → slice_get xs other ≡ slice_get (set xs session x) other
 aside xs session x other apart = sym (get_apart xs session other x apart)
@@ -306,7 +315,7 @@ RestTogether named turns chosen whole rest = AreParts named turns whole chosen r
 
 -- ---- requests of a session with a turn
 
--- whether it has no branch, by its turn
+-- a session counts as one without a branch (`free_in`) as its turn says (`has_none`)
 free_turn : (turns : List Turn) (session : ℕ) (turn : Turn) → slice_get turns session ≡ Some turn
     → free_in turns session ≡ has_none turn
 free_turn turns session turn at = ap (λ o. option_map_or has_none o false) at
@@ -345,7 +354,8 @@ law_next : (state : State) (session : ℕ) (request : Request) → LockLaw state
 law_next state session Unread law = law
 law_next state session (Given statement) law = law_after state session statement law
 
--- a session that was answered so after a request of its own, and all others
+-- after a session's request `AreEnded` still holds, if the session has no branch then where its turn is Ending and
+-- the request was accepted
 ended_next : (turns : List Turn) (whole : Config) (session : ℕ) (request : Request) (client next : ClientState)
     → AreEnded turns whole → slice_get whole.clients session ≡ Some client
     → (slice_get turns session ≡ Some Ending → next ≡ Answered (Replied Accepted)
@@ -412,7 +422,7 @@ chosen_deed named turns whole chosen rest session act Idle parts turn is at ther
 chosen_deed named turns whole chosen rest session act (Gone request) parts turn is at there idle = absurd is
 chosen_deed named turns whole chosen rest session act Left parts turn is at there idle = absurd is
 
--- results that are told otherwise
+-- results that are equal to two that belong together, or are both missing, do so too
 pub together_told : {A B : Type 0} (P : A → B → Type 0) (one new : Option A) (other new_other : Option B)
     → new ≡ one → new_other ≡ other → Together P one other → Together P new new_other
 together_told P one new other new_other e f both =
@@ -434,7 +444,9 @@ chosen_acts named turns whole chosen rest session act parts turn =
     ∙ ap (λ o. option_map (done_in chosen session) (deed_of session act chosen.state o)) here.3)
     (chosen_deed named turns whole chosen rest session act here.0 parts turn here.1 here.2 here.3 here.4)
 
--- the whole and the other part after a request of a session
+-- a request of a session that isn't in the chosen part by its turn (`is_rest`), carried out in the whole and in the
+-- other part, leaves parts again (`AreParts`), if the states are still joined, the session's new client is one of the
+-- other part, and `AreEnded` holds of the session
 rest_done : (named : List ℕ → Bool) (turns : List Turn) (whole chosen rest : Config) (session : ℕ) (turn : Turn)
     (request : Request) (client next same : ClientState) → AreParts named turns whole chosen rest
     → slice_get turns session ≡ Some turn → is_rest turn ≡ true
@@ -469,7 +481,7 @@ rest_done named turns whole chosen rest session turn request client next same pa
       ended = ended_next turns whole session request client next parts.ended at own;
     }
 
--- what is answered
+-- if two answered clients are equal, so are their answers
 answer_is : (one other : Answer) → Answered one ≡ Answered other → one ≡ other
 answer_is one other e = cc
 
@@ -477,7 +489,7 @@ answer_is one other e = cc
 gone_answered : (answer : Answer) → Gone None ≡ Answered answer → ⊥
 gone_answered answer e = cc
 
--- nor is one whose DISCONNECT took effect
+-- a client whose DISCONNECT took effect isn't answered
 left_answered : (answer : Answer) → Left ≡ Answered answer → ⊥
 left_answered answer e = cc
 
@@ -559,7 +571,7 @@ absent_rests config new session act at leads = none-some new (sym (effect_is con
     nothing Statement = refl
     nothing Disconnect = refl
 
--- nor has one that is idle
+-- a session that is idle has no act
 pub idle_rests : (config new : Config) (session : ℕ) (act : Act) → slice_get config.clients session ≡ Some Idle
     → effect_of config session act ≡ Some new → ⊥
 unfolding deed_of
@@ -573,12 +585,12 @@ idle_rests config new session act at leads = none-some new (sym (effect_is confi
 
 -- ---- events
 
--- the turn of a session that is there
+-- `turn_in` finds the turn of a session that is there
 turn_is : (turns : List Turn) (session : ℕ) (turn : Turn) → slice_get turns session ≡ Some turn
     → turn_in turns session ≡ turn
 turn_is turns session turn at = ap (λ o. unwrap_or o Nobody) at
 
--- an open call of the chosen part is one of these
+-- the turn of an open call of the chosen part is Chosen
 chosen_is : (turn : Turn) → is_chosen turn ≡ true → turn ≡ Chosen
 chosen_is Nobody is = absurd (false≢true is)
 chosen_is Chosen is = refl
@@ -587,7 +599,7 @@ chosen_is Within is = absurd (false≢true is)
 chosen_is Rest is = absurd (false≢true is)
 chosen_is Ending is = absurd (false≢true is)
 
--- where an event of the chosen part may stand
+-- an event of the chosen part stands only where the turn of its session is Nobody or Chosen
 chosen_turns : (named : List ℕ → Bool) (turn : Turn) (event : Event) → FitsTurn named turn event true
     → (turn ≡ Nobody) ⊎ (turn ≡ Chosen)
 chosen_turns named turn (Call session request) fits = inl fits.0
@@ -595,7 +607,8 @@ chosen_turns named turn (Return session seen) fits = inr (chosen_is turn fits)
 chosen_turns named turn (Lost session) fits = absurd fits
 chosen_turns named turn (Unknown session) fits = inr (chosen_is turn fits)
 
--- there the whole and the chosen part have the same client
+-- where an event of the chosen part may stand, its session has the same client in the whole and in that part, and is
+-- idle in the other one
 pub same_chosen : (named : List ℕ → Bool) (turn : Turn) (event : Event)
     (whole chosen rest : Option ClientState) → FitsTurn named turn event true
     → AreClients named (Some turn) whole chosen rest
@@ -613,7 +626,7 @@ same_chosen named turn event whole chosen rest fits are = elim (chosen_turns nam
         → (client : ClientState) × (whole ≡ Some client) × (chosen ≡ Some client) × (rest ≡ Some Idle)
     by_chosen same = (same.0, same.2, same.3, same.4)
 
--- an event of the other part stands only where no open call belongs to the chosen one
+-- an event of the other part stands only where its session's open call isn't one of the chosen part
 pub other_turn : (named : List ℕ → Bool) (turn : Turn) (event : Event) → FitsTurn named turn event false
     → is_chosen turn ≡ false
 other_turn named turn (Call session request) fits = fits.0
@@ -625,7 +638,8 @@ other_turn named turn (Unknown session) fits = fits
 abbrev pub IsIdleIf : Turn → ClientState → Type 0
 IsIdleIf turn client = turn ≡ Nobody → client ≡ Idle
 
--- and then the whole and the other part have the same client
+-- a session whose open call isn't one of the chosen part has the same client in the whole and in the other part, and
+-- is idle in the chosen one
 pub same_rest : (named : List ℕ → Bool) (turn : Turn) (whole chosen rest : Option ClientState)
     → is_chosen turn ≡ false
     → AreClients named (Some turn) whole chosen rest
@@ -649,7 +663,7 @@ return_idle session seen (Answered answer) next is = sym (cond_some (shows_answe
 return_idle session seen (Gone request) next is = absurd (none-some next is)
 return_idle session seen Left next is = absurd (none-some next is)
 
--- it was answered what the return shows
+-- a session whose return was seen had an answer that the return shows
 return_shows : (session : ℕ) (seen : Seen) (client next : ClientState)
     → client_after (Return session seen) (Some client) ≡ Some next
     → (answer : Answer) × (client ≡ Answered answer) × (shows_answer seen answer ≡ true)
@@ -671,7 +685,7 @@ unknown_idle session (Answered answer) next is = sym (same_Some Idle next is)
 unknown_idle session (Gone request) next is = absurd (none-some next is)
 unknown_idle session Left next is = absurd (none-some next is)
 
--- a call leaves a client of the other part
+-- after a call that names no chosen row and suits the new turn, its session's client is one of the other part
 call_other : (named : List ℕ → Bool) (new : Turn) (session : ℕ) (request : Request) (client next : ClientState)
     → IsOffRows named request → IsCallOf new request → ((client ≡ Idle) ⊎ (has_none new ≡ false))
     → client_after (Call session request) (Some client) ≡ Some next
@@ -691,7 +705,7 @@ call_other named new session request (Gone (Some before)) next off call idle is 
 call_other named new session request Left next off call idle is =
     subst (IsOtherClient named new) (same_Some Left next is) tt
 
--- and so does a client that is gone
+-- after it is lost, a client of the other part is still one, with the turn Within
 lost_other : (named : List ℕ → Bool) (turn : Turn) (session : ℕ) (client next : ClientState)
     → IsOtherClient named turn client
     → client_after (Lost session) (Some client) ≡ Some next
@@ -706,14 +720,14 @@ lost_other named turn session (Answered answer) next other is =
 lost_other named turn session (Gone request) next other is = absurd (none-some next is)
 lost_other named turn session Left next other is = absurd (none-some next is)
 
--- an idle session calls
+-- once an idle session's call is seen, its client has called for that request
 idle_calls : (session : ℕ) (request : Request) (next : ClientState)
     → client_after (Call session request) (Some Idle) ≡ Some next
     → Called request ≡ next
 unfolding client_after
 idle_calls session request next is = same_Some (Called request) next is
 
--- what an event of the chosen part leaves of its session's clients
+-- after an event of the chosen part its session's clients belong together by the new turn (`AreClients`)
 chosen_next : (named : List ℕ → Bool) (turn : Turn) (event : Event) (client next : ClientState)
     (rest : Option ClientState) → FitsTurn named turn event true
     → AreClients named (Some turn) (Some client) (Some client) rest
@@ -740,7 +754,7 @@ chosen_next named turn (Unknown session) client next rest fits are is =
       (same_chosen named turn (Unknown session) (Some client) (Some client) rest fits are).3,
     )
 
--- a session has called in the other part
+-- after a call in the other part its session's clients belong together by the new turn (`AreClients`)
 called_next : (named : List ℕ → Bool) (turn : Turn) (session : ℕ) (request : Request) (client next : ClientState)
     (chosen : Option ClientState) → is_chosen turn ≡ false → IsOffRows named request → IsIdleIf turn client
     → chosen ≡ Some Idle
@@ -791,7 +805,8 @@ called_next named turn session request client next chosen not off idle rests is 
     by Rest chosen idle_if = within (is_ending request) refl
     by Ending chosen idle_if = within (is_ending request) refl
 
--- a call of the other part has returned, or it isn't known what it returned
+-- a session that is idle in all three has clients that belong together by the turns Nobody and Within, as after a
+-- return or an unknown answer
 idle_next : (named : List ℕ → Bool) (turn : Turn) (next : ClientState) (chosen : Option ClientState)
     → (turn ≡ Nobody) ⊎ (turn ≡ Within) → next ≡ Idle → chosen ≡ Some Idle
     → AreClients named (Some turn) (Some next) chosen (Some next)
@@ -813,7 +828,7 @@ returned_turns Ending (SeenValue value) = inr refl
 returned_turns Ending (SeenRows rows) = inr refl
 returned_turns Ending (SeenError numbers) = inr refl
 
--- so it is after an answer that isn't known
+-- after an answer that isn't known its session's turn is Nobody or Within
 unknown_turns : (turn : Turn) → (turn_unknown turn ≡ Nobody) ⊎ (turn_unknown turn ≡ Within)
 unknown_turns Nobody = inr refl
 unknown_turns Chosen = inl refl
@@ -822,7 +837,7 @@ unknown_turns Within = inr refl
 unknown_turns Rest = inr refl
 unknown_turns Ending = inr refl
 
--- what an event of the other part leaves of its session's clients
+-- after an event of the other part its session's clients belong together by the new turn (`AreClients`)
 rest_next : (named : List ℕ → Bool) (turn : Turn) (event : Event) (client next : ClientState)
     (chosen : Option ClientState) → FitsTurn named turn event false
     → IsOtherClient named turn client → IsIdleIf turn client
@@ -841,7 +856,7 @@ rest_next named turn (Unknown session) client next chosen fits other idle_if idl
 
 -- ---- who has no branch after an event
 
--- after an event of the chosen part its session has none, as before
+-- where an event of the chosen part may stand, its session has no branch, by its turn
 chosen_none : (named : List ℕ → Bool) (turn : Turn) (event : Event) → FitsTurn named turn event true
     → has_none turn ≡ true
 chosen_none named turn event fits = elim (chosen_turns named turn event fits) [
@@ -849,7 +864,7 @@ chosen_none named turn event fits = elim (chosen_turns named turn event fits) [
   | inr is ↦ ap has_none is
 ]
 
--- an answer that OK shows
+-- the answer that a return of OK shows is that the statement was accepted
 ok_accepted : (answer : Answer) → shows_answer SeenOk answer ≡ true → answer ≡ Replied Accepted
 ok_accepted (Replied Accepted) is = refl
 ok_accepted (Replied (Value value)) is = absurd (false≢true is)
@@ -857,7 +872,7 @@ ok_accepted (Replied (Recovered xids)) is = absurd (false≢true is)
 ok_accepted (Replied (Refused error)) is = absurd (false≢true is)
 ok_accepted NotRead is = absurd (false≢true is)
 
--- a call of a session that may have a branch leaves it so
+-- a session that has no branch by its turn after a call in the other part had none before it
 within_called : (turn : Turn) (request : Request) → is_chosen turn ≡ false
     → has_none (turn_called turn request) ≡ true → has_none turn ≡ true
 within_called turn request not none = by turn not none
@@ -874,7 +889,8 @@ within_called turn request not none = by turn not none
     by Rest chosen e = absurd (within (is_ending request) e)
     by Ending chosen e = absurd (within (is_ending request) e)
 
--- after a return a session has none that had none, or whose call to end its branch was accepted
+-- a session that has no branch by its turn after a return had none before it, or its call to end its branch was
+-- accepted
 returned_none : (turn : Turn) (seen : Seen) (answer : Answer) → shows_answer seen answer ≡ true
     → has_none (turn_returned turn seen) ≡ true
     → (has_none turn ≡ true) ⊎ ((turn ≡ Ending) × (answer ≡ Replied Accepted))
@@ -888,7 +904,7 @@ returned_none Ending (SeenValue value) answer shows none = absurd (false≢true 
 returned_none Ending (SeenRows rows) answer shows none = absurd (false≢true none)
 returned_none Ending (SeenError numbers) answer shows none = absurd (false≢true none)
 
--- after an answer that isn't known only a session has no branch that had none
+-- a session that has no branch by its turn after an answer that isn't known had none before it
 unknown_none : (turn : Turn) → has_none (turn_unknown turn) ≡ true → has_none turn ≡ true
 unknown_none Nobody none = refl
 unknown_none Chosen none = refl
@@ -897,7 +913,8 @@ unknown_none Within none = absurd (false≢true none)
 unknown_none Rest none = absurd (false≢true none)
 unknown_none Ending none = absurd (false≢true none)
 
--- who has none after an event of the other part had none, or that is known by now
+-- a session that has no branch by its turn after an event of the other part had none before it, or its call to end
+-- its branch was accepted
 rest_none : (named : List ℕ → Bool) (turn : Turn) (event : Event) (client next : ClientState)
     → FitsTurn named turn event false
     → client_after event (Some client) ≡ Some next
@@ -913,7 +930,7 @@ rest_none named turn (Return session seen) client next fits is none =
 rest_none named turn (Lost session) client next fits is none = absurd (false≢true none)
 rest_none named turn (Unknown session) client next fits is none = inl (unknown_none turn none)
 
--- a call to end a branch isn't answered at once
+-- after its call a session isn't answered yet
 called_unanswered : (session : ℕ) (request : Request) (client : ClientState) (answer : Answer)
     → client_after (Call session request) (Some client) ≡ Some (Answered answer) → ⊥
 unfolding client_after
@@ -930,7 +947,7 @@ called_unanswered session request (Gone None) answer is = apart (same_Some (Gone
 called_unanswered session request (Gone (Some before)) answer is = none-some (Answered answer) is
 called_unanswered session request Left answer is = left_answered answer (same_Some Left (Answered answer) is)
 
--- and no other event leaves such a call open
+-- a session whose turn is Ending after an event isn't answered then: its call to end its branch has only begun
 open_by_call : (turn : Turn) (event : Event) (side : Bool) (client next : ClientState) (answer : Answer)
     → client_after event (Some client) ≡ Some next → turn_after turn event side ≡ Ending → next ≡ Answered answer → ⊥
 open_by_call turn (Call session request) side client next answer is ending answered =
@@ -956,10 +973,11 @@ open_by_call turn (Unknown session) side client next answer is ending answered =
     apart : (t : Turn) → (t ≡ Ending → ⊥) → t ≡ Ending → ⊥
     apart t never e = never e
 
--- clients after one session's changed in some of the lists
+-- an event of a session with this turn, where the whole and its parts belong together (`AreParts`)
 module _ (named : List ℕ → Bool) (turns : List Turn) (whole chosen rest : Config) (event : Event)
     (turn : Turn) (parts : AreParts named turns whole chosen rest)
     (at : slice_get turns (session_of event) ≡ Some turn) where
+  -- the clients of the event's session, by its turn
   here : AreClients named (Some turn) (slice_get whole.clients (session_of event))
       (slice_get chosen.clients (session_of event)) (slice_get rest.clients (session_of event))
   here = subst (λ t. AreClients named t (slice_get whole.clients (session_of event))
@@ -972,7 +990,8 @@ module _ (named : List ℕ → Bool) (turns : List Turn) (whole chosen rest : Co
   written side = get_written turns (session_of event) turn _ at
       ∙ ap (λ t. Some (turn_after t event side)) (turn_is turns (session_of event) turn at)
 
-  -- who has no branch after the event
+  -- who has no branch by the turns after the event had none before it, or owns none, if that is so of the event's
+  -- session
   none_past : (side : Bool)
       → (has_none (turn_after turn event side) ≡ true
       → (has_none turn ≡ true) ⊎ OwnsNone whole.state (session_of event))
@@ -988,7 +1007,7 @@ module _ (named : List ℕ → Bool) (turns : List Turn) (whole chosen rest : Co
     | inr apart ↦ inl (ap (λ o. option_map_or has_none o false) (aside turns (session_of event) _ other apart) ∙ none)
   ]
 
-  -- whose call to end its branch was accepted
+  -- after the event `AreEnded` still holds: no event answers a call
   ended_past : (side : Bool) (client next : ClientState)
       → client_after event (Some client) ≡ Some next
       → slice_get whole.clients (session_of event) ≡ Some client
@@ -1048,7 +1067,7 @@ module _ (named : List ℕ → Bool) (turns : List Turn) (whole chosen rest : Co
             ended = ended_past true same.0 next is same.1;
           }
 
-  -- and an event of the other part
+  -- an event of the other part is seen in the whole where it is seen in that part
   pub rest_seen : FitsTurn named turn event false
       → Together (RestTogether named (turns_past turns false event) chosen) (observed whole event)
       (observed rest event)

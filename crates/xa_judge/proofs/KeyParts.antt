@@ -39,7 +39,7 @@ cut_more named turns sides events place event turn side so_far within is at fits
       (so_far.on (side ∷ more) (subst (IsCut named turns (side ∷ more)) (sym all) (turn, at, fits, cut)));
 }
 
--- once none is left, all events are cut
+-- once no event is left, all events are cut
 pub cut_all : (named : List ℕ → Bool) (turns : List Turn) (sides : List Bool) (events : List Event)
     (place : ℕ) → CutSoFar named turns sides events place
     → length events ≤ place
@@ -63,7 +63,7 @@ same_side true false is = absurd (false≢true is)
 same_side false true is = absurd (false≢true is)
 same_side false false is = refl
 
--- and differ if it fails
+-- two truth values differ if the test whether they are the same fails
 pub other_side : (left right : Bool) → beq left right ≡ false → left ≢ right
 other_side true true is = absurd (false≢true (sym is))
 other_side true false is = λ e. false≢true (sym e)
@@ -78,7 +78,7 @@ picked_in true false sides event events is = absurd (false≢true is)
 picked_in false true sides event events is = absurd (false≢true (sym is))
 picked_in false false sides event events is = refl
 
--- one of the other part isn't
+-- an event of the part that isn't wanted isn't picked
 pub picked_out : (wanted side : Bool) (sides : List Bool) (event : Event) (events : List Event) → side ≢ wanted
     → picked wanted (side ∷ sides) (event ∷ events) ≡ picked wanted sides events
 picked_out true true sides event events is = absurd (is refl)
@@ -95,7 +95,7 @@ picked_none true (false ∷ sides) = refl
 picked_none false (true ∷ sides) = refl
 picked_none false (false ∷ sides) = refl
 
--- nor is one of events whose parts are not told
+-- no event is picked of which it isn't told to which part it belongs
 none_picked : (wanted : Bool) (events : List Event) → picked wanted [] events ≡ []
 none_picked true events = refl
 none_picked false events = refl
@@ -115,7 +115,8 @@ picked_end wanted (suc place) (side ∷ sides) (event ∷ events) (inl over) =
 picked_end wanted (suc place) (side ∷ sides) (event ∷ events) (inr over) =
     picked_end wanted place sides events (inr (omega arith))
 
--- one step of picking
+-- one round of a loop that picks events: what was picked (`part`) and what is picked from this place on are the
+-- wanted part. So it is from the next place on, with the event there put behind `part` if it is of the wanted part
 pub picked_next : (wanted d : Bool) (place : ℕ) (sides : List Bool) (event : Event) (events part : List Event)
     → place < length sides → place < length events
     → event ≡ get_or events place event
@@ -168,7 +169,7 @@ one_in true false is = absurd (false≢true is)
 one_in false true is = absurd (false≢true (sym is))
 one_in false false is = refl
 
--- one of the other part doesn't count
+-- an event of the part that isn't wanted doesn't count
 one_out : (wanted side : Bool) → side ≢ wanted → count_in wanted (side ∷ []) ≡ 0
 one_out true true is = absurd (is refl)
 one_out true false is = refl
@@ -181,7 +182,8 @@ got [] i d within = absurd (omega arith)
 got (x ∷ xs) zero d within = refl
 got (x ∷ xs) (suc i) d within = got xs i d (omega arith)
 
--- one step of counting
+-- one round of a loop that counts events: up to and with a place a part has one more than before it, if the event
+-- there is of this part, and as many if not
 pub count_next : (wanted d : Bool) (place : ℕ) (sides : List Bool) → place < length sides
     → (get_or sides place d ≡ wanted → count_in wanted (take (place + 1) sides)
     ≡ count_in wanted (take place sides) + 1)
@@ -217,7 +219,7 @@ read_at [] i x found = refl
 read_at (y ∷ xs) zero x found = sym (same_Some y x found)
 read_at (y ∷ xs) (suc i) x found = read_at xs i x found
 
--- one step of picking at which nothing is picked
+-- one round of the loop that picks events, if the event at the place isn't of the wanted part: what was picked stays
 pub picked_past : (wanted d : Bool) (place : ℕ) (sides : List Bool) (events part : List Event)
     → place < length sides → place < length events
     → part ++ picked wanted (drop place sides) (drop place events) ≡ picked wanted sides events

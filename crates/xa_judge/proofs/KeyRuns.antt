@@ -20,7 +20,8 @@ use Rattle.xa_judge.proofs.KeyClients.{is_rest}
 
 -- ---- moves before the next event
 
--- acts, and then moves through events
+-- if acts lead from a configuration to another, and moves from there through events, they all lead through these
+-- events
 pub first_then : (old mid new : Config) (events : List Event) (acts moves : List Move) → LeadsThrough old [] acts mid
     → LeadsThrough mid events moves new
     → LeadsThrough old events (acts ++ moves) new
@@ -39,7 +40,8 @@ pub record IsSplit (old : Config) (event : Event) (events : List Event) (new : C
   pub moves : List Move
   pub runs : LeadsThrough next events moves new
 
--- moves that lead through an event and more split so
+-- moves that lead through an event and more begin with acts, then see the event, and then lead through the rest
+-- (`IsSplit`)
 pub split : (old new : Config) (event : Event) (events : List Event) (moves : List Move)
     → LeadsThrough old (event ∷ events) moves new
     → IsSplit old event events new
@@ -67,7 +69,7 @@ split old new event events [] runs = absurd runs
 
 -- ---- whose act it is
 
--- the session's clients, where it is known to which part its open call belongs
+-- by its turn, if it has one, a session's clients in the whole and in the parts belong together (`AreClients`)
 pub clients_at : (named : List ℕ → Bool) (turns : List Turn) (whole chosen rest : Config) (session : ℕ)
     (turn : Option Turn) → AreParts named turns whole chosen rest
     → slice_get turns session ≡ turn
@@ -99,7 +101,7 @@ chosen_turn named turns whole chosen rest mid session act parts leads = by (slic
     by (Some Ending) at = absurd (idle_rests chosen mid session act
         (clients_at named turns whole chosen rest session (Some Ending) parts at).3 leads)
 
--- and so it is with the other part
+-- an act in the other part is of a session whose open call belongs to that part, or that may have a branch
 rest_turn : (named : List ℕ → Bool) (turns : List Turn) (whole chosen rest mid : Config)
     (session : ℕ) (act : Act) → AreParts named turns whole chosen rest
     → effect_of rest session act ≡ Some mid
@@ -121,7 +123,7 @@ rest_turn named turns whole chosen rest mid session act parts leads = by (slice_
 
 -- ---- from the whole to the parts
 
--- moves through the parts that the moves through the whole come to
+-- moves lead through the events of each part, to ends that are parts of the whole's end `new`
 pub record IsInParts (named : List ℕ → Bool) (turns : List Turn) (chosen rest new : Config)
     (chosen_events rest_events : List Event) : Type 0 where
   pub chosen_moves : List Move
@@ -132,7 +134,7 @@ pub record IsInParts (named : List ℕ → Bool) (turns : List Turn) (chosen res
   pub rest_runs : LeadsThrough rest rest_events rest_moves rest_end
   pub parts : AreParts named turns new chosen_end rest_end
 
--- acts before the next event
+-- acts that lead on in the whole lead on in its parts, each in the part of its session's call
 acts_in : (named : List ℕ → Bool) (turns : List Turn) (whole chosen rest new : Config)
     (acts : List Move) → AreParts named turns whole chosen rest
     → LeadsThrough whole [] acts new
@@ -249,7 +251,7 @@ in_parts named turns whole chosen rest new (false ∷ sides) (event ∷ events) 
 
 -- ---- from the parts to the whole
 
--- moves through the whole that the moves through its parts come to
+-- moves lead through the events in the whole, to an end of which these two ends are the parts
 pub record IsWhole (named : List ℕ → Bool) (turns : List Turn) (whole chosen_end rest_end : Config)
     (events : List Event) : Type 0 where
   pub moves : List Move
@@ -257,7 +259,7 @@ pub record IsWhole (named : List ℕ → Bool) (turns : List Turn) (whole chosen
   pub runs : LeadsThrough whole events moves end
   pub parts : AreParts named turns end chosen_end rest_end
 
--- acts of the chosen part before its next event
+-- acts in the chosen part lead on in the whole, and the other part stays
 chosen_first : (named : List ℕ → Bool) (turns : List Turn) (whole chosen rest new : Config)
     (acts : List Move) → AreParts named turns whole chosen rest
     → LeadsThrough chosen [] acts new
@@ -281,7 +283,7 @@ chosen_first named turns whole chosen rest new [] parts runs = record {
   parts = subst (λ c. AreParts named turns whole c rest) (sym runs) parts;
 }
 
--- and of the other part
+-- acts in the other part lead on in the whole, and the chosen part stays
 rest_first : (named : List ℕ → Bool) (turns : List Turn) (whole chosen rest new : Config)
     (acts : List Move) → AreParts named turns whole chosen rest
     → LeadsThrough rest [] acts new

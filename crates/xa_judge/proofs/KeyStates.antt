@@ -4,7 +4,7 @@
 --     rows_after                       a request of the other part leaves the values of the chosen rows
 --     AreJoined                        the state of the whole record, by those of its parts
 --     free_get, free_put, free_del     what a free session reads and writes
---     free_join, other_join            a request of one part is answered there as in the whole, and leaves them so
+--     free_join, other_join            a request of one part is answered there as in the whole;  states stay joined
 --     none_apart, none_listed          a state without branches
 --     joined_first, joined_with        before all events;  if other sessions count as those that have no branch
 use Rattle.std.proofs.Common.{◌≡◌, ◌⊎◌, ℕ, ◌==◌, List, [], ◌∷◌, refl, ap, sym, ◌∙◌, subst, Bool, true, false, inl, inr}
@@ -50,7 +50,7 @@ use Rattle.xa_judge.proofs.NearStates.{near_answer, near_next, near_put, near_de
 
 -- ---- what a request of the other part does to branches
 
--- a key that is named isn't one that isn't
+-- a key that is named differs from one that isn't
 unlike : (named : List ℕ → Bool) (key other : List ℕ) → named other ≡ false → named key ≡ true
     → eq_by_cmp bytes_cmp key other ≡ false
 unlike named key other unnamed is = elim (same_or_apart bytes_total exact_texts key other) [
@@ -64,7 +64,7 @@ either_apart : (named : List ℕ → Bool) (free : ℕ → Bool) (b : Bool) (one
 either_apart named free true one other is was = is
 either_apart named free false one other is was = was
 
--- a branch that was apart and is changed
+-- if a change leaves a branch apart, what is there is still apart once it was changed
 changed_apart : (named : List ℕ → Bool) (free : ℕ → Bool) (change : Branch → Branch) (found : Option Branch)
     → ((branch : Branch) → IsApartBranch named free branch → IsApartBranch named free (change branch))
     → IsApartAt named free found → IsApartAt named free (option_map change found)
@@ -98,7 +98,7 @@ lock_apart named free key branch unnamed was = record {
     by false other is = get_inserted_apart bytes_total exact_texts branch.locks key Shared other
         (unlike named other key unnamed is) ∙ was.locks other is
 
--- and once it writes one
+-- a branch that is apart stays so once it writes a row that isn't chosen
 write_apart : (named : List ℕ → Bool) (free : ℕ → Bool) (key : List ℕ) (write : Write) (branch : Branch)
     → named key ≡ false → IsApartBranch named free branch → IsApartBranch named free (with_own_write key write branch)
 write_apart named free key write branch unnamed was = record {
@@ -109,7 +109,7 @@ write_apart named free key write branch unnamed was = record {
       (unlike named other key unnamed is) ∙ was.locks other is;
 }
 
--- and once it is detached
+-- a branch that is apart stays so once it is detached
 detached_apart : (named : List ℕ → Bool) (free : ℕ → Bool) (branch : Branch) → IsApartBranch named free branch
     → IsApartBranch named free (detached branch)
 unfolding detached
@@ -122,7 +122,7 @@ detached_apart named free branch was = record {
     not_owned : (session : ℕ) → ◌≡◌ {A = Option ℕ} None (Some session) → ⊥
     not_owned session e = cc
 
--- and once the work on it has ended
+-- a branch that is apart stays so once the work on it has ended
 idle_apart : (named : List ℕ → Bool) (free : ℕ → Bool) (branch : Branch) → IsApartBranch named free branch
     → IsApartBranch named free (idle branch)
 unfolding idle
@@ -172,7 +172,7 @@ branch_apart named free session (Active own) Disconnect at found other was =
 branch_apart named free session (Idle own) Disconnect at found other was =
     either_apart named free (same_xid at own) None found tt was
 
--- a statement of the other part leaves every branch so
+-- a statement of the other part leaves every branch apart (`IsApart`)
 statement_apart : (named : List ℕ → Bool) (free : ℕ → Bool) (state : State) (session : ℕ) (statement : Statement)
     → IsOtherRequest named free session (Given statement)
     → IsApart named free state → IsApart named free (after state session statement)
@@ -184,7 +184,7 @@ statement_apart named free state session statement other was = elim (outcome sta
       (was xid)))
 ]
 
--- and so does a request of the other part
+-- a request of the other part leaves every branch apart (`IsApart`)
 pub apart_after : (named : List ℕ → Bool) (free : ℕ → Bool) (state : State) (session : ℕ) (request : Request)
     → IsOtherRequest named free session request
     → IsApart named free state → IsApart named free (next_state state session request)
@@ -194,7 +194,7 @@ apart_after named free state session (Given statement) other was =
 
 -- ---- what follows for the sessions that have no branch, and for the chosen rows
 
--- such a session has nothing open
+-- where every branch is apart, a session that counts as one without a branch has nothing open
 pub free_of : (named : List ℕ → Bool) (free : ℕ → Bool) (state : State) (session : ℕ) → IsApart named free state
     → free session ≡ true
     → association_of state session ≡ Free
@@ -217,7 +217,7 @@ none_any : (p : Xid → Bool) (xs : List Xid) → ((x : Xid) → p x ≡ false) 
 none_any p [] none = refl
 none_any p (x ∷ xs) none = ap (λ b. b || list_any p xs) (none x) ∙ none_any p xs none
 
--- and nobody holds a chosen row
+-- where every branch is apart, nobody holds a chosen row
 pub unheld : (named : List ℕ → Bool) (free : ℕ → Bool) (state : State) (key : List ℕ) → IsApart named free state
     → named key ≡ true
     → is_held_against state Free key ≡ false
@@ -233,7 +233,7 @@ unheld named free state key are is =
 
 -- ---- what a request of the other part does to chosen rows
 
--- writes of other rows
+-- writes of other rows leave the value of a row
 unwritten : (key : List ℕ) (writes : List (List ℕ × Write)) (rows : map.FinMap bytes_cmp Text)
     → map.find bytes_cmp key writes ≡ None
     → map.get (with_writes writes rows) key ≡ map.get rows key
@@ -281,7 +281,7 @@ committed_rows named free state xid key are is = by (map.get state.branches xid)
     by (Some branch) at = unwritten key (map.entries branch.writes) state.rows
         (sym (get-entries branch.writes key) ∙ at.writes key is)
 
--- so does writing a row that isn't chosen, in a branch or outside of one
+-- writing a row that isn't chosen, in a branch or outside of one, leaves the values of the chosen rows
 written_rows : (named : List ℕ → Bool) (state : State) (association : Association) (other key : List ℕ)
     (write : Write) → named other ≡ false → named key ≡ true
     → committed_value (row_written state association other write) key ≡ committed_value state key
@@ -293,7 +293,7 @@ written_rows named state (Active own) other key write unnamed is =
     ap (λ rows. map.get rows key) (changed_rows state own (with_own_write other write))
 written_rows named state (Idle own) other key write unnamed is = refl
 
--- so does the effect of each statement of the other part, if every branch is apart
+-- the effect of a statement of the other part leaves the values of the chosen rows, if every branch is apart
 effect_rows : (named : List ℕ → Bool) (free : ℕ → Bool) (state : State) (session : ℕ) (association : Association)
     (statement : Statement) (key : List ℕ)
     → IsOtherRequest named free session (Given statement)
@@ -346,7 +346,7 @@ free_get state session key free = (
   ap (λ a. unless_refused (table state a (Get key)) state (effect state session a (Get key))) free,
 )
 
--- and writes a row at once that nobody holds
+-- a session that has nothing open writes a row at once that nobody holds
 pub free_put : (state : State) (session : ℕ) (key : List ℕ) (value : Text) → association_of state session ≡ Free
     → is_held_against state Free key ≡ false
     → (reply_to state session (Put key value) ≡ Accepted)
@@ -359,7 +359,7 @@ free_put state session key value free nobody = (
       (record state { rows = with_write key (Some value) state.rows })) nobody,
 )
 
--- and deletes one so
+-- a session that has nothing open deletes a row at once that nobody holds
 pub free_del : (state : State) (session : ℕ) (key : List ℕ) → association_of state session ≡ Free
     → is_held_against state Free key ≡ false
     → (reply_to state session (Del key) ≡ Accepted)
@@ -399,7 +399,8 @@ same_write named key None left right agree other is =
     get-remove bytes_total left key other ∙ ap (cond (eq_by_cmp bytes_cmp other key) None) (agree other is)
     ∙ sym (get-remove bytes_total right key other)
 
--- the whole and the chosen part after the same write
+-- after the same write in the whole and the chosen part the three are still joined, if the whole is still near the
+-- other part
 join_write : (named : List ℕ → Bool) (free : ℕ → Bool) (whole chosen rest new other_new : State) (key : List ℕ)
     (write : Write) → AreJoined named free whole chosen rest
     → new ≡ record whole { rows = with_write key write whole.rows }
@@ -415,12 +416,12 @@ join_write named free whole chosen rest new other_new key write joined is was ne
   none = subst HasNoBranch (sym was) joined.none;
 }
 
--- where there is no branch, that is so of every branch
+-- where there is no branch, every branch is apart (`IsApart`)
 pub none_apart : (named : List ℕ → Bool) (free : ℕ → Bool) (state : State) → HasNoBranch state
     → IsApart named free state
 none_apart named free state none xid = subst (IsApartAt named free) (sym (none xid)) tt
 
--- a request of the chosen part is answered there as in the whole, and leaves the states so
+-- a request of the chosen part is answered there as in the whole, and leaves the three states joined (`AreJoined`)
 pub free_join : (named : List ℕ → Bool) (free : ℕ → Bool) (whole chosen rest : State) (session : ℕ) (request : Request)
     → AreJoined named free whole chosen rest
     → IsFreeRequest named free session request
@@ -463,7 +464,7 @@ reads_others : (named : List ℕ → Bool) (free : ℕ → Bool) (session : ℕ)
 reads_others named free session (Given (Get key)) other = ap not other
 reads_others named free session request other = tt
 
--- and so it is with a request of the other part
+-- a request of the other part is answered there as in the whole, and leaves the three states joined (`AreJoined`)
 pub other_join : (named : List ℕ → Bool) (free : ℕ → Bool) (whole chosen rest : State) (session : ℕ)
     (request : Request)
     → AreJoined named free whole chosen rest
@@ -492,7 +493,7 @@ none_listed state none xid = get-entries state.branches xid ∙ by (map.entries 
     by [] e = refl
     by (entry ∷ entries) e = some entry (map_list entry_of entries) e
 
--- before all events
+-- before all events a base without branches is the whole and both parts (`AreJoined`)
 pub joined_first : (named : List ℕ → Bool) (free : ℕ → Bool) (base : State) → HasNoBranch base
     → AreJoined named free base base base
 joined_first named free base none = record {
@@ -502,7 +503,8 @@ joined_first named free base none = record {
   none = none;
 }
 
--- if other sessions count as those that have no branch, of which that is so
+-- the three states stay joined if `more` are the sessions that count as those without a branch: each of them did
+-- before, or owns no branch in the whole
 pub joined_with : (named : List ℕ → Bool) (free more : ℕ → Bool) (whole chosen rest : State)
     → ((session : ℕ) → more session ≡ true → (free session ≡ true) ⊎ OwnsNone whole session)
     → AreJoined named free whole chosen rest → AreJoined named more whole chosen rest

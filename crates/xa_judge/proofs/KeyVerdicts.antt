@@ -75,7 +75,7 @@ module _ {A : Type 0} where
   within_of (y ∷ xs) zero x at = omega arith
   within_of (y ∷ xs) (suc i) x at = omega (arith, within_of xs i x at)
 
--- the first events are cut likewise
+-- if events are cut, so are the first ones of them, in the same way
 pub cut_take : (named : List ℕ → Bool) (turns : List Turn) (count : ℕ) (sides : List Bool)
     (events : List Event) → IsCut named turns sides events
     → IsCut named turns (take count sides) (take count events)
@@ -86,7 +86,7 @@ cut_take named turns (suc count) (side ∷ sides) [] cut = absurd cut
 cut_take named turns (suc count) (side ∷ sides) (event ∷ events) cut =
     (cut.0, cut.1, cut.2, cut_take named (turns_past turns side event) count sides events cut.3)
 
--- an event fits where it stands
+-- each event of a record that is cut may stand where it does: it fits the turn that its session has by then
 pub cut_at : (named : List ℕ → Bool) (turns : List Turn) (place : ℕ) (sides : List Bool)
     (events : List Event) (side : Bool) (event : Event) → IsCut named turns sides events
     → slice_get sides place ≡ Some side → slice_get events place ≡ Some event
@@ -135,7 +135,7 @@ picked_take false (suc count) (true ∷ sides) (event ∷ events) = picked_take 
 picked_take false (suc count) (false ∷ sides) (event ∷ events) =
     ap (λ l. event ∷ l) (picked_take false count sides events)
 
--- one more, if the event at the place is of this part
+-- up to and with a place a part has one event more than before it, if the event there is of this part
 pub count_more : (wanted : Bool) (place : ℕ) (sides : List Bool) → slice_get sides place ≡ Some wanted
     → count_in wanted (take (suc place) sides) ≡ suc (count_in wanted (take place sides))
 count_more wanted place [] at = absurd (none-some wanted at)
@@ -148,7 +148,7 @@ count_more true (suc place) (false ∷ sides) at = count_more true place sides a
 count_more false (suc place) (true ∷ sides) at = count_more false place sides at
 count_more false (suc place) (false ∷ sides) at = ap suc (count_more false place sides at)
 
--- the event at a place of the record, and at its place in its part
+-- an event of a part stands in that part at the place that is the number of the part's events before it
 pub picked_at : (named : List ℕ → Bool) (turns : List Turn) (wanted : Bool) (place : ℕ)
     (sides : List Bool) (events : List Event) → IsCut named turns sides events
     → slice_get sides place ≡ Some wanted
@@ -257,7 +257,8 @@ same_client named turns whole chosen rest session seen turn false parts at fits 
     (clients_at named turns whole chosen rest session (Some turn) parts at) in
     same.2 ∙ sym same.4
 
--- where an answer could be in a part, it could be in the record
+-- an answer that a call could have in its part, it could have in the record, if the other part is explained up to
+-- there
 could_whole : (named : List ℕ → Bool) (base : State) (sides : List Bool) (events : List Event)
     (wanted : Bool) (place : ℕ) (answer : Answer) → HasNoBranch base
     → IsCut named first_turns sides events
@@ -307,7 +308,7 @@ could_whole named base sides events false place answer apart cut at other could 
       };
     }
 
--- and where it could be in the record, it could be in the part
+-- an answer that a call could have in the record, it could have in its part
 could_part : (named : List ℕ → Bool) (base : State) (sides : List Bool) (events : List Event)
     (wanted : Bool) (place : ℕ) (answer : Answer) → HasNoBranch base
     → IsCut named first_turns sides events
@@ -361,7 +362,8 @@ could_part named base sides events false place answer apart cut at could =
       };
     }
 
--- the answers in the record are those in the part
+-- all the answers that a call could have in its part are all that it could have in the record, if the other part is
+-- explained up to there
 pub answers_part : (named : List ℕ → Bool) (base : State) (sides : List Bool) (events : List Event)
     (wanted : Bool) (place : ℕ) (answers : List Answer) → HasNoBranch base
     → IsCut named first_turns sides events
@@ -378,7 +380,7 @@ answers_part named base sides events wanted place answers apart cut at other are
 
 -- ---- verdicts
 
--- the moves up to where the first events were seen
+-- moves that lead through events begin with moves that lead through the first `count` of them
 cut_short : (old new : Config) (events : List Event) (count : ℕ) (moves : List Move) → LeadsThrough old events moves new
     → (fewer : List Move) × (end : Config) × LeadsThrough old (take count events) fewer end
 cut_short old new events count (Effect session act ∷ moves) runs =
@@ -399,7 +401,7 @@ pub explained_take : (base : State) (events : List Event) (count : ℕ) → Expl
 explained_take base events count explained =
     cut_short (opening_config base) explained.1 events count explained.0 explained.2
 
--- the first of the first ones
+-- the first few of a list's first ones are the list's first few
 taken_twice : {A : Type 0} (few many : ℕ) (xs : List A) → few ≤ many → take few (take many xs) ≡ take few xs
 taken_twice zero many xs le = refl
 taken_twice (suc few) zero xs le = absurd (omega arith)

@@ -3,7 +3,7 @@
 --     reached_more     acts lead to all that is in a list while it grows
 --     unheard_at, heard_more      an open call of a session whose client is gone, in some of a list;  in none
 --     settled_only, seen_only     what was made of a list comes of it
---     kept_on          so it is with what is kept from one event to the next
+--     opens_kept, kept_on      what has to be kept before all events;  what has to be after one event more
 use Rattle.std.proofs.Common.{◌≡◌, ◌≢◌, ◌⊎◌, ℕ, ◌+◌, ◌<◌, suc, Option, Some, List, [], ◌∷◌, ◌++◌, length, get_or, true}
 use Rattle.std.proofs.Common.{false, refl, ap, sym, ◌∙◌, subst, inl, inr, arith}
 use Rattle.std.specs.Prelude.{slice_get}
@@ -29,7 +29,7 @@ use Rattle.xa_judge.proofs.Loops.{has_last, has_pushed}
 has_none : (c : Config) → Has [] c → ⊥
 has_none c has = omega (arith, has.1)
 
--- what one more was added for is that one
+-- what a list has once a configuration was added unless it was there, it had before or is that one
 added_last : (old new : List Configuration) (one : Configuration) (c : Config) → AddsUnlessThere old one new → Has new c
     → Has old c ⊎ (config_of one ≡ c)
 added_last old new one c (inl was) has = inl (subst (λ l. Has l c) was.1 has)
@@ -39,7 +39,7 @@ added_last old new one c (inr is) has = has_last old new one c is has
 pub adds_none : (returning : Option ℕ) (one : Config) (list : List Configuration) → AddsOnly returning one list list
 adds_none returning one list = λ config has. inl has
 
--- what two steps added, acts of `one` lead to, if they do in each
+-- if each of two steps adds only what acts of `one` lead to (`AddsOnly`), so do both together
 pub adds_more : (returning : Option ℕ) (one : Config) (old mid new : List Configuration)
     → AddsOnly returning one old mid
     → AddsOnly returning one mid new → AddsOnly returning one old new
@@ -48,7 +48,8 @@ adds_more returning one old mid new first second = λ config has. elim (second c
   | inr next ↦ inr next
 ]
 
--- what is added because one act leads to it comes of an act, of a session other than the one that returns
+-- if a configuration is added since an act of another session than the returning one leads to it, only what acts that
+-- count lead to is added (`AddsOnly`)
 pub adds_effect : (old new : List Configuration) (place : ℕ) (one next : Configuration) (found : Option Configuration)
     (session : ℕ) (act : Act)
     → slice_get old place ≡ Some one → IsSession session
@@ -90,18 +91,18 @@ SettledOnly session first rest list =
     ((config : Config) → Has rest config → Has first config)
     × ((config : Config) → Has list config → IsSettledIn first session config)
 
--- each configuration that was made so far is one that sees the event, from one that was already gone over
+-- what is left of a list is of it, and what was made of the rest is what the event leads to from one of it
 abbrev pub SeenOnly : Event → List Configuration → List Configuration → List Configuration → Type 0
 SeenOnly event first rest list =
     ((config : Config) → Has rest config → Has first config)
     × ((config : Config) → Has list config → IsSeenIn first event config)
 
--- the last of the list was of the first one too
+-- if all of a list is in a first one, so is its last configuration
 last_of : (first known rest : List Configuration) (one : Configuration) → known ≡ rest ++ one ∷ []
     → ((config : Config) → Has known config → Has first config) → Has first (config_of one)
 last_of first known rest one parts of = of (config_of one) (has_pushed rest known one parts)
 
--- what is in the rest of a list is in the list
+-- if all of a list is in a first one, so is all of it but its last configuration
 rest_of : (first known rest : List Configuration) (one : Configuration) → known ≡ rest ++ one ∷ []
     → ((config : Config) → Has known config → Has first config) → (config : Config) → Has rest config → Has first config
 rest_of first known rest one parts of config has =
@@ -120,7 +121,7 @@ settled_only session first known rest list new one next parts pushed is only = (
   ],
 )
 
--- the step of the loop in which configurations see an event
+-- one round of the loop in which configurations see an event: the last one was taken off, and saw it if it can
 pub seen_only : (event : Event) (first known rest list new : List Configuration) (one : Configuration)
     → known ≡ rest ++ one ∷ [] → IsSeenAdded event one list new
     → SeenOnly event first known list → SeenOnly event first rest new
@@ -140,7 +141,8 @@ seen_only event first known rest list new one parts (inr some) only = (
 pub settled_none : (session : ℕ) (first : List Configuration) → SettledOnly session first first []
 settled_none session first = (λ config has. has, λ config has. absurd (has_none config has))
 
--- the client of the session is gone with an open call in the configuration at a place
+-- if at a place of a list the session's client is gone with an open call, that is so in some configuration of the
+-- list (`IsAnyUnheard`)
 pub unheard_at : (known : List Configuration) (place session : ℕ) (one : Configuration) → place < length known
     → one ≡ get_or known place one → has_unheard (config_of one) session ≡ true → IsAnyUnheard (Has known) session
 unheard_at known place session one within at is = (
@@ -149,7 +151,8 @@ unheard_at known place session one within at is = (
   is,
 )
 
--- the loop over configurations: neither those before a place nor the one there have an open call that nobody hears
+-- one round of the loop that looks for an open call which nobody hears: if the session has none in the configurations
+-- before a place, nor in the one there, it has none in those up to that place
 pub heard_more : (known : List Configuration) (place session : ℕ) (one : Configuration) → place < length known
     → one ≡ get_or known place one → has_unheard (config_of one) session ≡ false
     → ((k : ℕ) (other : Configuration) → k < place → slice_get known k ≡ Some other

@@ -60,7 +60,7 @@ module _ {A : Type 0} where
   get_behind (x ∷ xs) ys i = let e : suc (length xs) + i ≡ suc (length xs + i) = omega arith in
       rw e (get_behind xs ys i)
 
--- this session's client stands so, and all others are idle
+-- the session has this client, and all others are idle
 record IsAlone (clients : List ClientState) (session : ℕ) (client : ClientState) : Type 0 where
   here : slice_get clients session ≡ Some client
   others : (other : ℕ) → IsSession other → other ≢ session → slice_get clients other ≡ Some Idle
@@ -80,7 +80,7 @@ alone_opening state session is = record {
   others = λ other among apart. idle_at 17 other (omega (arith, among.1));
 }
 
--- the session is about something else now, and the others are still idle
+-- once one session's client is replaced, all other sessions are still idle if they were
 alone_written : (clients : List ClientState) (session : ℕ) (old new : ClientState) → IsAlone clients session old
     → IsAlone (set clients session new) session new
 alone_written clients session old new alone = record {
@@ -289,7 +289,8 @@ alone_only state session request seen more all end is runs =
           (sym (idle_again state second.state session (Called request) (Answered answer) is)) after_return.1,
     )
 
--- a state to which events lead goes on by one call that returns at once
+-- if events lead to a state with all sessions idle (`IsLoadedTo`), then with one call more that returns at once they
+-- lead to the state after its request
 pub loaded_more : (base full : State) (events : List Event) (session : ℕ) (request : Request) (seen : Seen)
     → IsSession session → IsLoadedTo base events full
     → shows_answer seen (answer_to full session request) ≡ true
@@ -379,7 +380,7 @@ could_from base full first later place answer loaded could =
       after = record { config = it.config; reached = record { moves = rest.0; runs = rest.1 }; answered = it.answered };
     }
 
--- all the answers from the state are all behind them
+-- all the answers that a call could have from a state are all that it could have behind the events that lead there
 pub answers_behind : (base full : State) (first later : List Event) (place : ℕ) (answers : List Answer)
     → IsLoadedTo base first full
     → AreAllAnswers full later place answers → AreAllAnswers base (first ++ later) (length first + place) answers

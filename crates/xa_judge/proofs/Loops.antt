@@ -1,4 +1,6 @@
 -- Loops over configurations.
+--     KeepsReachBoth, ReachesPastBoth   events lead to what is left of a list, and to what was made of the rest
+--     SettlesBoth, SeesBoth             each configuration is still to come, or what is made of it is there
 --     settles_step, settles_reach       in each, what a session called for takes effect;  so all are reached
 --     sees_step, sees_reach             each sees an event;  so all are reached, with one event more
 --     answers_step, answers_more        the answers that a session has in them;  no other ones, and all of them
@@ -48,12 +50,13 @@ ReachesPastBoth event first rest list =
     (base : State) (events : List Event) (trunk : List Move) → All (Reaches base events trunk) first
     → All (Reaches base events trunk) rest × All (Reaches base (events ++ event ∷ []) trunk) list
 
--- each of the first list is still to come, or has after_settling
+-- in a loop over a list: each of its configurations is still to come, or the list has what it settles to
+-- (`after_settling`)
 abbrev pub SettlesBoth : ℕ → List Configuration → List Configuration → List Configuration → Type 0
 SettlesBoth session first rest list = (one : Config) → Has first one
     → Has rest one ⊎ Has list (after_settling one session)
 
--- each of the first list is still to come, or what the event leads to from it is in the list
+-- in a loop over a list: each of its configurations is still to come, or the list has what the event leads to from it
 abbrev pub SeesBoth : Event → List Configuration → List Configuration → List Configuration → Type 0
 SeesBoth event first rest list = (one new : Config) → Has first one → observed one event ≡ Some new
     → Has rest one ⊎ Has list new
@@ -63,7 +66,7 @@ pub has_pushed : (list new : List Configuration) (one : Configuration) → new �
     → Has new (config_of one)
 has_pushed list new one is = has_added list new one (inr is)
 
--- a member of a list with one more at its end
+-- what is in a list with one more at its end is in the list before it, or is that one
 pub has_last : (rest known : List Configuration) (one : Configuration) (c : Config) → known ≡ rest ++ one ∷ []
     → Has known c
     → Has rest c ⊎ (config_of one ≡ c)
@@ -149,7 +152,8 @@ HasAnswersBefore count known session answers =
     (place : ℕ) (one : Configuration) (answer : Answer) → place < count → slice_get known place ≡ Some one
     → slice_get one.clients.items session ≡ Some (Answered answer) → Contains answers answer
 
--- the loop over configurations: the answer that the session has in one more is added
+-- one round of a loop that takes up a session's answers: each of the list is one that the session has in some
+-- configuration, also once the one at this place was added
 pub answers_step : (known : List Configuration) (place session : ℕ) (one : Configuration) (old new : List Answer)
     → place < length known
     → one ≡ get_or known place one → IsAnswerAdded (slice_get one.clients.items session) old new
@@ -172,7 +176,8 @@ answers_step known place session one old new within at added all = by (slice_get
     by (Some (Gone request)) is same = subst (λ l. All (IsAnsweredIn known session) l) (sym same) all
     by (Some Left) is same = subst (λ l. All (IsAnsweredIn known session) l) (sym same) all
 
--- the answers before a place and the one there
+-- one round of a loop that takes up a session's answers: a list with each one that the session has before a place has
+-- each one up to it, once the answer there was added
 pub answers_more : (known : List Configuration) (place session : ℕ) (one : Configuration) (old new : List Answer)
     → place < length known
     → one ≡ get_or known place one → IsAnswerAdded (slice_get one.clients.items session) old new
@@ -199,7 +204,8 @@ answers_more known place session one old new within at added before k other answ
     kept (Some (Gone request)) same has = subst (λ l. Contains l answer) (sym same) has
     kept (Some Left) same has = subst (λ l. Contains l answer) (sym same) has
 
--- a list stays closed as it grows, and is at one place more
+-- a list that has what acts lead to from each place before one (`IsClosedBelow`) has it from each place up to that
+-- one, once it has what they lead to from there
 pub closed_more : (place : ℕ) (returning : Option ℕ) (old new : List Configuration) → place < length old
     → IsClosedBelow place returning old → Grows old new
     → ((one : Configuration) → slice_get old place ≡ Some one → IsExpandedBelow 17 one returning new)
@@ -239,7 +245,8 @@ effect_added old new place one next found session act at is effect path some add
     led : effect_of (config_of one) session act ≡ Some (config_of next)
     led = sym effect ∙ ap (option_map config_of) some
 
--- what both acts of a session lead to is there
+-- if the list has what a session's statement leads to from the configuration at a place, and then what its DISCONNECT
+-- does, it has what each of its acts leads to
 pub effects_added : (old mid new : List Configuration) (place session : ℕ) → Grows old mid → Grows mid new
     → ((one : Configuration) (config : Config) → slice_get old place ≡ Some one
     → effect_of (config_of one) session Statement ≡ Some config → Has mid config)
@@ -275,7 +282,7 @@ others_more old now new place number returning one first second at before here s
 -- ---- elements that are taken up one after another
 
 module _ {X : Type 0} where
-  -- those before the place and the one there are in the list
+  -- one round of a loop that takes up elements: those before the place and the one there are in the new list
   pub contained_more : (xs : List X) (i : ℕ) (x : X) (old new : List X) → i < length xs → x ≡ get_or xs i x
       → ((other : X) → Contains old other → Contains new other) → Contains new x
       → ((other : X) → Contains (take i xs) other → Contains old other)

@@ -2,7 +2,8 @@
 --     WaitsNamed                  a client waits for no request but one that reads named rows
 --     AreNearConfigs              configurations whose sessions are about the same, on near states
 --     near_effect, near_event     where an effect, an event can be in one it can be in the other
---     near_run, near_opening      so it is with all moves; and before all events
+--     near_run                    where moves lead on from one they lead on from the other
+--     near_opening                before all events, configurations on near states are near
 use Rattle.std.proofs.Common.{◌≡◌, ℕ, Bool, cond, Option, Some, None, List, [], ◌∷◌, replicate, set, zero, suc, refl}
 use Rattle.std.proofs.Common.{ap, sym, ◌∙◌, subst, inl, inr}
 use Rattle.std.specs.Prelude.{slice_get}
@@ -43,12 +44,12 @@ pub record AreNearConfigs (named : List ℕ → Bool) (left right : Config) : Ty
   pub waits : (session : ℕ) (client : ClientState) → slice_get left.clients session ≡ Some client
       → WaitsNamed named client
 
--- the effect can be from this configuration, too, and leads to a near one
+-- the effect can be from the right configuration, too, and leads there to one near `mid`
 abbrev EffectToo : (List ℕ → Bool) → Config → Config → ℕ → Act → Type 0
 EffectToo named right mid session act =
     (other : Config) × (effect_of right session act ≡ Some other) × AreNearConfigs named mid other
 
--- the event can be seen from this configuration, too, and leads to a near one
+-- the event can be seen from the right configuration, too, and leads there to one near `mid`
 abbrev SeenToo : (List ℕ → Bool) → Config → Config → Event → Type 0
 SeenToo named right mid event = (other : Config) × (observed right event ≡ Some other) × AreNearConfigs named mid other
 
@@ -89,7 +90,7 @@ changed named left right session before next same state beside near found e stat
   waits = waits_set named left.clients session before next found reads near.waits;
 }
 
--- what a session called for takes effect in the other too
+-- what a session called for can take effect from a near configuration, too; `o` is where its client stands
 near_statement : (named : List ℕ → Bool) (o : Option ClientState) (left right mid : Config) (session : ℕ)
     → AreNearConfigs named left right
     → slice_get left.clients session ≡ o
@@ -162,7 +163,7 @@ near_effect named left right mid session Statement near is =
 near_effect named left right mid session Disconnect near is =
     near_disconnect named (slice_get left.clients session) left right mid session near refl is
 
--- an event that does to its session what it does in one
+-- an event that makes the same of its session's client in two near configurations leads to near ones
 seen_too : (named : List ℕ → Bool) (left right mid : Config) (event : Event) (before next : ClientState)
     → AreNearConfigs named left right
     → slice_get left.clients (session_of event) ≡ Some before
@@ -178,7 +179,7 @@ seen_too named left right mid event before next near found is reads at = (
       reads),
 )
 
--- a call for what reads no row but one that is named
+-- a call for what reads only named rows can be seen from a near configuration, too; `o` is where its client stands
 near_call : (named : List ℕ → Bool) (o : Option ClientState) (left right mid : Config) (session : ℕ) (request : Request)
     → AreNearConfigs named left right
     → ReadsNamed named request
@@ -220,7 +221,7 @@ near_return named (Some (Answered answer)) left right mid session seen near foun
 near_return named (Some (Gone request)) left right mid session seen near found is = absurd (none-some mid is)
 near_return named (Some Left) left right mid session seen near found is = absurd (none-some mid is)
 
--- the client of a session is gone; what it waited for it waits for still
+-- the loss of a client can be seen from a near configuration, too; `o` is where that client stands
 near_lost : (named : List ℕ → Bool) (o : Option ClientState) (left right mid : Config) (session : ℕ)
     → AreNearConfigs named left right
     → slice_get left.clients session ≡ o
@@ -241,7 +242,7 @@ near_lost named (Some (Answered answer)) left right mid session near found is =
 near_lost named (Some (Gone request)) left right mid session near found is = absurd (none-some mid is)
 near_lost named (Some Left) left right mid session near found is = absurd (none-some mid is)
 
--- a return of which only the fact is known can be seen from a near configuration, too
+-- a return of which only the fact is known can be seen from a near configuration, too; `o` is where its client stands
 near_unknown : (named : List ℕ → Bool) (o : Option ClientState) (left right mid : Config) (session : ℕ)
     → AreNearConfigs named left right
     → slice_get left.clients session ≡ o
@@ -276,7 +277,7 @@ near_event named left right mid (Lost session) near reads is =
 near_event named left right mid (Unknown session) near reads is =
     near_unknown named (slice_get left.clients session) left right mid session near refl is
 
--- whatever moves lead to, from a near configuration they lead to a near one
+-- whatever moves lead to, from a near configuration they lead to a near one, if all calls read only named rows
 run_too : (named : List ℕ → Bool) (events : List Event) (moves : List Move) (left right end : Config)
     → AreNearConfigs named left right
     → AllByRecursion (CallsNamed named) events
@@ -295,7 +296,8 @@ run_too named [] [] left right end near all runs =
     (right, refl, subst (λ c. AreNearConfigs named c right) (sym runs) near)
 run_too named (event ∷ events) [] left right end near all runs = absurd runs
 
--- moves that lead on from one of two near configurations lead on from the other, to near ones
+-- moves that lead on from one of two near configurations lead on from the other, to near ones, if all calls read only
+-- named rows
 pub near_run : (named : List ℕ → Bool) (events : List Event) (moves : List Move) (left right end : Config)
     → AreNearConfigs named left right
     → All (CallsNamed named) events

@@ -1,9 +1,9 @@
 -- Servers that differ in rows that aren't named answer alike, and stay so.
---     near_answer         what is read of near states is the same
---     near_next           requests leave near states
---     near_after          statements do
---     near_put, near_del          a free session's write of a row that isn't named, on the left alone, does
---     near_refl, near_sym         a state is near itself;  and near states are so in either order
+--     near_answer               a request that reads only named rows is answered alike
+--     near_next, near_after     a request, a statement leaves near states near
+--     near_put, near_del        so does a free session's write of a row that isn't named, on the left alone
+--     near_refl, near_sym       a state is near itself;  and near states are so in either order
+--     free_told                 a session that has nothing open, by the refusal of its XA END
 use Rattle.std.proofs.Common.{◌≡◌, ℕ, List, [], ◌∷◌, refl, ap, sym, ◌∙◌, subst, Bool, true, false, inl, inr}
 use Rattle.std.specs.Prelude.{Option, Some, None, cond}
 use Rattle.std.specs.Option.{option_map_or, unwrap_or}
@@ -132,7 +132,7 @@ table_agrees named branches left right agree (Active own) (Del key) reads = refl
 table_agrees named branches left right agree (Idle own) (Del key) reads = refl
 table_agrees named branches left right agree association Disconnect reads = refl
 
--- what a session has open is seen in the branches
+-- what a session has open doesn't depend on committed values
 association_agrees : (branches : Branches) (left right : Rows) (session : ℕ)
     → association_of (state_at branches left) session ≡ association_of (state_at branches right) session
 unfolding association_of own_xid
@@ -149,7 +149,7 @@ reply_agrees named branches left right agree session statement reads =
     (association_agrees branches left right session)
     ∙ table_agrees named branches left right agree (association_of (state_at branches right) session) statement reads
 
--- whether a statement is refused doesn't hang on rows
+-- whether `refused_if` refuses depends on its test, not on the value that would be returned
 refusal_of_get : (b : Bool) (error : XaError) (left right : Option Text)
     → is_refused (refused_if b error (Value left)) ≡ is_refused (refused_if b error (Value right))
 refusal_of_get true error left right = refl
@@ -283,7 +283,7 @@ near_effect named branches left right agree session (Active own) Disconnect =
 near_effect named branches left right agree session (Idle own) Disconnect =
     near_at named (map.remove branches own) left right agree
 
--- a refused statement leaves the state
+-- after a statement the state is the old one if its reply is a refusal, and else the new one
 by_refusal : (reply : Reply) (old new : State) → unless_refused reply old new ≡ cond (is_refused reply) old new
 by_refusal Accepted old new = refl
 by_refusal (Value value) old new = refl
@@ -310,7 +310,7 @@ near_unless named reply other_reply old new other other_new same before later =
     subst Left (sym (by_refusal reply old new)) (subst Right right
     (near_either named (is_refused reply) old new other other_new before later))
 
--- a statement that reads only named rows leaves near states near: here of states given by branches and rows
+-- a statement leaves near states near, whatever it reads: here of states given by branches and rows
 after_at : (named : List ℕ → Bool) (branches : Branches) (left right : Rows) → Agree named left right
     → (session : ℕ) (statement : Statement)
     → AreNear named (after (state_at branches left) session statement)
@@ -329,7 +329,7 @@ right_is : (named : List ℕ → Bool) (left right : State) → AreNear named le
     → state_at left.branches right.rows ≡ right
 right_is named left right near = same_state (state_at left.branches right.rows) right near.branches refl
 
--- what is read of near states is the same
+-- a request that reads only named rows is answered alike by near states
 pub near_answer : (named : List ℕ → Bool) (left right : State) (session : ℕ) (request : Request)
     → AreNear named left right → ReadsNamed named request
     → answer_to left session request ≡ answer_to right session request
@@ -338,7 +338,7 @@ near_answer named left right session (Given statement) near reads =
     ap Replied (reply_agrees named left.branches left.rows right.rows near.rows session statement reads
     ∙ ap (λ s. reply_to s session statement) (right_is named left right near))
 
--- a statement that reads only named rows leaves near states near
+-- a statement leaves near states near, whatever it reads
 pub near_after : (named : List ℕ → Bool) (left right : State) (session : ℕ) (statement : Statement)
     → AreNear named left right
     → AreNear named (after left session statement) (after right session statement)
@@ -347,7 +347,7 @@ near_after named left right session statement near =
     subst P (right_is named left right near)
     (after_at named left.branches left.rows right.rows near.rows session statement)
 
--- a request that reads only named rows leaves near states near
+-- a request leaves near states near, whatever it reads
 pub near_next : (named : List ℕ → Bool) (left right : State) (session : ℕ) (request : Request)
     → AreNear named left right
     → AreNear named (next_state left session request) (next_state right session request)
@@ -402,7 +402,7 @@ near_refl named state = record { branches = refl; rows = λ key is. refl }
 pub near_sym : (named : List ℕ → Bool) (left right : State) → AreNear named left right → AreNear named right left
 near_sym named left right near = record { branches = sym near.branches; rows = λ key is. sym (near.rows key is) }
 
--- a session that is answered so to an XA END has nothing open
+-- a session whose XA END is refused with the state NON-EXISTING has no branch open
 pub free_told : (state : State) (session : ℕ) (xid : Xid) (reply : Reply) → reply ≡ reply_to state session (End xid)
     → reply ≡ Refused (Rmfail NonExisting)
     → association_of state session ≡ Free

@@ -19,7 +19,8 @@ use Rattle.xa_judge.proofs.Loaded.{refuted_behind, answers_behind}
 use Rattle.xa_judge.proofs.NearStates.{near_sym}
 use Rattle.xa_judge.proofs.NearRuns.{near_run, near_opening}
 
--- an order on one of two near states is an order on the other
+-- what some order explains from one of two near states, some order explains from the other, if all calls read only
+-- named rows
 explained_near : (named : List ℕ → Bool) (left right : State) (events : List Event) → AreNear named left right
     → All (CallsNamed named) events
     → Explained left events → Explained right events
@@ -28,7 +29,7 @@ explained_near named left right events near calls explained =
     (near_opening named left right near) calls explained.2 in
     (explained.0, run.0, run.1)
 
--- what is refuted on one is refuted on the other
+-- what is refuted from one of two near states is refuted from the other, if all calls read only named rows
 pub refuted_near : (named : List ℕ → Bool) (left right : State) (events : List Event) (place : ℕ)
     → AreNear named left right → All (CallsNamed named) events
     → IsRefuted left events place → IsRefuted right events place
@@ -74,7 +75,8 @@ answers_near named left right events place answers near calls are = record {
       (near_sym named left right near) calls could);
 }
 
--- what is illegal on a near server, behind events that lead to the other, is illegal behind these
+-- events that are ILLEGAL from a near state are so behind the events that lead to the state that it is near to, if
+-- all their calls read only named rows
 pub illegal_behind : (named : List ℕ → Bool) (base full near : State) (events first later : List Event)
     (limit place : ℕ) (answers : Vec Answer Global)
     (verdict : Verdict) → events ≡ first ++ later → IsLoadedTo base first full → AreNear named full near

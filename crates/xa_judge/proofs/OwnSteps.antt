@@ -3,6 +3,7 @@
 --     row_step, finished_step                     a statement on a row;  one that ends a branch
 --     has_active, has_row                         what is so of the session's branch, by the replies to XA END and DEL
 --     among_at                                    a row that is one of these stands at a place
+--     asked_is, asked_not                         what a call is for, by the event at its noted place
 use Rattle.std.proofs.Common.{◌≡◌, ◌||◌, Bool, true, false, not, Option, Some, None, List, [], ◌∷◌, ℕ}
 use Rattle.std.proofs.Common.{refl, ap, sym, ◌∙◌, subst, inl, inr, zero, suc}
 use Rattle.std.specs.Prelude.{is_some, map, slice_get}
@@ -43,11 +44,11 @@ use Rattle.xa_judge.specs.declared.event.Event.{Event}
 use Rattle.xa_judge.specs.declared.event.Event.TheVariants.{Call}
 use Rattle.xa_judge.specs.Foreseen.{asked_by, request_in}
 
--- an answer that says OK has that reply
+-- if an answer is OK, so is the reply in it
 pub replied : (reply : Reply) → Replied reply ≡ Replied Accepted → reply ≡ Accepted
 replied reply e = cc
 
--- the request's answer is the statement's reply
+-- if the answer to a request is OK, so is the reply to its statement
 pub accepted : (state : State) (session : ℕ) (request : Request) (statement : Statement) → request ≡ Given statement
     → answer_to state session request ≡ Replied Accepted → reply_to state session statement ≡ Accepted
 accepted state session request statement is e =
@@ -73,7 +74,7 @@ active_of state Free xid e = absurd (false≢true (sym (ap is_refused e)))
 active_of state (Active own) xid e = ap Active (sym (own_is xid own _ (ap is_refused e)))
 active_of state (Idle own) xid e = absurd (false≢true (sym (ap is_refused e)))
 
--- XA END is accepted only of the branch that the session has open
+-- XA END is accepted only of the branch that the session has open and ACTIVE
 pub has_active : (state : State) (session : ℕ) (xid : Xid) → reply_to state session (End xid) ≡ Accepted
     → association_of state session ≡ Active xid
 unfolding reply_to
@@ -106,7 +107,7 @@ has_row state session key xid own e = (
   accepted_del state xid key (ap is_refused (sym (ap (λ a. table state a (Del key)) own) ∙ e)),
 )
 
--- the only row of a statement that names one
+-- a row is among the rows of which it is the only one
 one_row : (key : List ℕ) → IsAmong key (key ∷ [])
 one_row key = ap (λ b. b || false) (same_itself bytes_total exact_texts key)
 
@@ -157,7 +158,7 @@ held_among state xid key e = by (fin.get state.branches xid) e
         ap (list_any (eq_by_cmp bytes_cmp key)) (keys_same branch (fin.entries branch.locks))
         ∙ sym (contains_key-keys branch.locks key) ∙ e
 
--- if a reply is OK that is so only where a test holds, the test holds
+-- if `ok_if` gives OK, its test holds
 passed : (b : Bool) (error : XaError) → ok_if b error ≡ Accepted → b ≡ true
 passed true error e = refl
 passed false error e = absurd (false≢true (sym (ap is_refused e)))
@@ -178,7 +179,7 @@ commit_ends state session xid true (Active own) is e = absurd (false≢true (sym
 commit_ends state session xid false (Idle own) is e = absurd (false≢true (sym (ap is_refused e)))
 commit_ends state session xid true (Idle own) is e = inr (is ∙ ap Idle (sym (own_is xid own _ (ap is_refused e))))
 
--- and if it accepts XA ROLLBACK
+-- if the table accepts XA ROLLBACK, the session may end the branch
 roll_ends : (state : State) (session : ℕ) (xid : Xid) (a : Association) → association_of state session ≡ a
     → table state a (Rollback xid) ≡ Accepted → MayEnd state session xid
 unfolding table
@@ -221,7 +222,7 @@ pub asked_is : (events : List Event) (call : Option ℕ) (place session : ℕ) (
 asked_is events call place session one request is at asked =
     same_Some one request (sym (ap (asked_by events) is ∙ ap request_in at) ∙ asked)
 
--- if that event isn't a call, nothing was
+-- if the event at the noted place isn't a call, no request is noted
 pub asked_not : (events : List Event) (call : Option ℕ) (place : ℕ) (event : Event) (request : Request)
     → call ≡ Some place → slice_get events place ≡ Some event → request_in (Some event) ≡ None
     → asked_by events call ≡ Some request → ⊥

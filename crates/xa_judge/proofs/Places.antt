@@ -23,13 +23,13 @@ module _ {A : Type 0} where
   pub stands_at : (xs : List A) (i : ℕ) (x : A) → i < length xs → x ≡ get_or xs i x → slice_get xs i ≡ Some x
   stands_at xs i x within at = slice_get_read xs (length xs) i x refl within at
 
-  -- the place that was written
+  -- what was written at a place stands there
   pub get_written : (xs : List A) (i : ℕ) (x a : A) → slice_get xs i ≡ Some x → slice_get (set xs i a) i ≡ Some a
   get_written [] i x a found = absurd (none-some x found)
   get_written (y ∷ ys) zero x a found = refl
   get_written (y ∷ ys) (suc i) x a found = get_written ys i x a found
 
-  -- another place
+  -- a write leaves what stands at another place
   pub get_apart : (xs : List A) (i j : ℕ) (a : A) → i ≢ j → slice_get (set xs i a) j ≡ slice_get xs j
   get_apart [] i j a apart = refl
   get_apart (y ∷ ys) zero zero a apart = absurd (apart refl)

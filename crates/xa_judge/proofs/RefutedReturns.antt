@@ -1,6 +1,6 @@
 -- The verdict at a return that shows none of the answers that its call can have.
 --     last_answered        before the last event, a return, its session had an answer that it shows
---     illegal_return       such a return is refuted if it shows none of the answers
+--     illegal_return       a return is refuted if it shows none of the answers that its call can have
 --     all_more, all_end    loops over answers
 use Rattle.std.proofs.Common.{◌≡◌, ℕ, ◌+◌, ◌<◌, true, false, Option, Some, None, List, [], ◌∷◌, ◌++◌, length, take}
 use Rattle.std.proofs.Common.{refl, ap, sym, ◌∙◌, subst, get_or, ◌≤◌}
@@ -28,7 +28,7 @@ use Rattle.xa_judge.proofs.KeyVerdicts.{explained_take}
 
 -- ---- the last event
 
--- the moves up to the last event
+-- moves lead through the events before a last one, which can be seen then
 record IsBeforeLast (old : Config) (events : List Event) (event : Event) : Type 0 where
   pub moves : List Move
   pub mid : Config
@@ -36,7 +36,7 @@ record IsBeforeLast (old : Config) (events : List Event) (event : Event) : Type 
   pub next : Config
   pub sees : observed mid event ≡ Some next
 
--- moves that lead through events and a last one begin with such moves
+-- moves that lead through events and a last one begin so (`IsBeforeLast`)
 before_last : (old new : Config) (events : List Event) (event : Event) (moves : List Move)
     → LeadsThrough old (events ++ event ∷ []) moves new → IsBeforeLast old events event
 before_last old new events event (Effect session act ∷ moves) runs =
@@ -97,7 +97,8 @@ last_answered base events session seen explained =
 
 -- ---- the verdict
 
--- a return that shows none of the answers is refuted
+-- a return is refuted at its place, with these answers, if they are all that its call can have, there is one, and the
+-- return shows none of them
 pub illegal_return : (base : State) (events : List Event) (place session : ℕ) (seen : Seen) (answers : List Answer)
     → place < length events → slice_get events place ≡ Some (Return session seen) → 0 < length answers
     → All (IsAnswerAfter base (take place events) session) answers
@@ -146,6 +147,6 @@ module _ {X : Type 0} (P : X → Type 0) where
       subst (λ l. All P l) (sym (take_more xs i x within ∙ ap (λ y. take i xs ++ y ∷ []) (sym at)))
       (All-push P (take i xs) x all here)
 
-  -- past the end of the list that is so of all
+  -- past the end of the list, what is so of those before the place is so of all
   pub all_end : (xs : List X) (i : ℕ) → length xs ≤ i → All P (take i xs) → All P xs
   all_end xs i over all = subst (λ l. All P l) (take_all i xs over) all

@@ -36,7 +36,7 @@ answered_may (Some (Answered answer)) e = refl
 answered_may (Some (Gone request)) e = absurd (false≢true e)
 answered_may (Some Left) e = absurd (false≢true e)
 
--- a session that can't be answered can't be behind an act
+-- a session that can't be answered (`may_answer`) can't be after an act either
 dead_behind : (old mid : Config) (session other : ℕ) (act : Act) → effect_of old other act ≡ Some mid
     → may_answer (slice_get old.clients session) ≡ false
     → may_answer (slice_get mid.clients session) ≡ false
@@ -63,7 +63,8 @@ dead old new session seen more (Effect other act ∷ moves) none runs =
     dead runs.0 new session seen more moves (dead_behind old runs.0 session other act runs.2 none) runs.3
 dead old new session seen more [] none runs = runs
 
--- a return is seen once what its session called for has taken effect
+-- from a configuration of the list, once what the session called for has taken effect, its return is seen first, and
+-- then come the other moves
 pub record Settled (list : List Configuration) (session : ℕ) (seen : Seen) (more : List Event)
     (new : Config) : Type 0 where
   pub one : Config
@@ -96,14 +97,13 @@ settles_answered list session seen more old new moves has answered runs = record
       (later old new (Return session seen) more moves answered runs);
 }
 
--- what a session's own act does: what it called for takes effect and is answered, or the session can't be answered any
--- more
+-- after a session's own act: what it called for has taken effect and it is answered; or it can't be answered any more
 abbrev OwnAct : Config → ℕ → Config → Type 0
 OwnAct old session mid =
     ((after_settling old session ≡ mid) × (call_is_answered mid session ≡ true))
     ⊎ (may_answer (slice_get mid.clients session) ≡ false)
 
--- the act of a session that leads to its answer is its statement's
+-- each act of a session leaves it answered, or so that it can't be answered any more (`OwnAct`)
 own_act : (session : ℕ) (act : Act) (old mid : Config) → effect_of old session act ≡ Some mid → OwnAct old session mid
 unfolding effect_of carried_out disconnected after_settling
 own_act session act old mid at = by act (slice_get old.clients session) refl at
@@ -145,7 +145,8 @@ own_act session act old mid at = by act (slice_get old.clients session) refl at
     by Disconnect (Some (Gone request)) found is = inr (gone Disconnect request found is)
     by Disconnect (Some Left) found is = absurd (none-some mid (sym (ap (λ o. disconnected o old session) found) ∙ is))
 
--- a return behind the session's own act: settle the session first, and the rest follows
+-- if an order to a return begins with the session's own act, that act settles the session, and the return is seen
+-- from there (`Settled`)
 settles_own : (list : List Configuration) (session : ℕ) (act : Act) (seen : Seen) (more : List Event)
     (old mid new : Config) (moves : List Move) → Has list old
     → effect_of old session act ≡ Some mid
@@ -177,7 +178,9 @@ other_act list returning session act old mid closed has is apart unanswered at =
     (ap (λ c. call_is_answered c returning) same ∙ unanswered)
     (ap (λ c. effect_of c session act) same ∙ at)
 
--- a run that begins with an act, where one that begins behind an act of another session settles
+-- an order to a return that begins with an act: if the session has its answer, or the act is its own, the return is
+-- seen from one of the list (`Settled`). If the act is another session's, the closed list has what it leads to, and
+-- the same is assumed of an order from there
 settles_effect : (list : List Configuration) (session other : ℕ) (act : Act) (seen : Seen) (more : List Event)
     (old new : Config) (moves : List Move)
     → IsClosedBelow (length list) (Some session) list → Has list old
@@ -238,7 +241,7 @@ pub record AnsweredSo (list : List Configuration) (session : ℕ) (answer : Answ
   pub has : Has list one
   pub stands : slice_get (after_settling one session).clients session ≡ Some (Answered answer)
 
--- the answer of a session that has one is that answer
+-- a session that is answered in a configuration of the list keeps that answer through acts
 answers_here : (list : List Configuration) (session : ℕ) (answer : Answer) (old new : Config) (moves : List Move)
     → Has list old
     → call_is_answered old session ≡ true → LeadsThrough old [] moves new
@@ -268,7 +271,9 @@ answers_own list session answer act old mid new moves has at runs stands = elim 
   | inr none ↦ absurd (dead_end mid new session answer moves none runs stands)
 ]
 
--- an act of another session: the closed list has the configuration after it, or the act can wait
+-- acts alone that lead a session to an answer: if the session has it already, or the first act is its own, it is that
+-- of one of the list (`AnsweredSo`). If the first act is another session's, the closed list has what it leads to, and
+-- the same is assumed of acts from there
 answers_effect : (list : List Configuration) (session other : ℕ) (answer : Answer) (act : Act) (old new : Config)
     (moves : List Move)
     → IsClosedBelow (length list) (Some session) list → Has list old

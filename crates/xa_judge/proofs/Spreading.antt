@@ -1,7 +1,7 @@
 -- Configurations that are counted by their numbers.
 --     Chosen           as many of a list as were counted, no two of them the same
---     chosen_none      of none
---     chosen_same, chosen_new      one more was looked at, whose number was there;  or wasn't
+--     chosen_none      before the first configuration
+--     chosen_same, chosen_new      after one whose number was in the set already;  or wasn't
 use Rattle.std.proofs.Common.{◌≡◌, ◌≢◌, ℕ, ◌+◌, ◌<◌, Bool, true, false, not, cond, List, [], ◌∷◌, length, get_or, refl}
 use Rattle.std.proofs.Common.{ap, sym, ◌∙◌, subst, arith}
 use Rattle.std.specs.List.{All}
@@ -27,7 +27,7 @@ pub record Chosen (known : List Configuration) (keys : List (List ℕ)) (marks :
   pub marked : All (λ one. contains nat_cmp marks (mark keys one) ≡ true) chosen
   pub differ : AreDifferent chosen
 
--- before the first configuration none was chosen
+-- before the first configuration none is chosen, whatever numbers the set has
 pub chosen_none : (known : List Configuration) (keys : List (List ℕ)) (marks : BTreeSet ℕ) → Chosen known keys marks 0
 chosen_none known keys marks = record {
   chosen = [];
@@ -47,7 +47,8 @@ still_marked old new added number updates had = updates.0 number ∙ by (is_at (
     by true = refl
     by false = had
 
--- a configuration whose number was noted before isn't chosen
+-- once any number is put into the set, what was chosen before still is: so it stays if a configuration's number was
+-- there
 pub chosen_same : (known : List Configuration) (keys : List (List ℕ)) (old new : BTreeSet ℕ) (count added : ℕ)
     → Updates nat_cmp old new added true
     → Chosen known keys old count → Chosen known keys new count
@@ -83,7 +84,7 @@ not_there : (b : Bool) → not b ≡ true → b ≡ false
 not_there true e = absurd (false≢true e)
 not_there false e = refl
 
--- the number of the configuration at a place was new
+-- if the number of the configuration at a place is new in the set, that configuration is chosen, too
 pub chosen_new : (known : List Configuration) (keys : List (List ℕ)) (old new : BTreeSet ℕ) (count place number : ℕ)
     (one : Configuration) (added : Bool)
     → place < length known → one ≡ get_or known place one → number ≡ mark keys (config_of one)

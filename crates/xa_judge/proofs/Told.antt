@@ -16,7 +16,7 @@ use Rattle.xa_judge.specs.Told.{IsReport, AreReports, no_report, one_more, IsSiz
 use Rattle.xa_judge.specs.Told.{IsToldUpTo, IsSizeOfKept, seen_for}
 
 module _ {S : Type 0} {gives : S → SoFar → S → Type 0} where
-  -- what fits may be less
+  -- reports of sizes that fit one condition fit each weaker one
   pub less_fits : {fits less : ℕ → ℕ → Type 0} {first all : ℕ} {old : S} {count : ℕ} {new : S}
       → ((place size : ℕ) → fits place size → less place size)
       → AreReports gives fits first all old count new → AreReports gives less first all old count new
@@ -30,7 +30,7 @@ module _ {S : Type 0} {gives : S → SoFar → S → Type 0} where
       → AreReports gives IsSize first all old count new
   sizes_of reports = less_fits (λ place size kept. kept.is_size) reports
 
-  -- one pass is passes
+  -- one pass of reports is passes (`ArePasses`)
   pub pass_of : {first all : ℕ} {old : S} {count : ℕ} {new : S} → AreReports gives IsSize first all old count new
       → ArePasses gives all old new
   pass_of {first} {all} {old} {count} {new} reports = one_pass old first count new no_pass reports
@@ -41,7 +41,7 @@ module _ {S : Type 0} {gives : S → SoFar → S → Type 0} where
   told_of {first} {old = old} {count} reports up_to =
       record { mid = old; passes = no_pass; first = first; count = count; last = reports; up_to = up_to }
 
-  -- passes after others
+  -- passes after other passes are passes
   pub passes_on : {all : ℕ} {old mid new : S} → ArePasses gives all old mid → ArePasses gives all mid new
       → ArePasses gives all old new
   passes_on passes no_pass = passes
@@ -71,7 +71,8 @@ module _ {S : Type 0} {gives : S → SoFar → S → Type 0} where
   report_more {count = count} {mid = mid} {size = size} {new = new} before fit report =
       one_more count mid size new before fit report
 
-  -- a verdict that was found, if any
+  -- if up to `seen` events are told, they are told as what was found says: up to what the verdict takes, or in passes
+  -- if there is no verdict
   pub told_found : (events : List Event) {all seen : ℕ} {old new : S} (found : Option Verdict)
       → IfSome found (λ verdict. seen_for events verdict ≡ seen) → IsToldUpTo gives all seen old new
       → MatchOption found (ArePasses gives all old new)

@@ -1,9 +1,11 @@
 -- What a verdict rests on.
 --     complete_more, reach_more               a list has all that is explained, with one event more;  and no more
+--     explained_by                            what leads to a configuration of a list is explained
 --     legal, refuted, wide                    LEGAL, ILLEGAL, UNDECIDED is right
 --     answers_given                           the answers of ILLEGAL are all that some order gives
 --     opens_reached, opens_complete           before the first event
 --     continues_shortened, some_shortened     common first moves are taken out
+--     shortened                               the path of an only configuration is
 use Rattle.std.proofs.Common.{◌≡◌, ℕ, ◌+◌, ◌<◌, Some, List, slice_get, [], ◌∷◌, ◌++◌, length, take, drop, get_or, ap}
 use Rattle.std.proofs.Common.{sym, ◌∙◌, subst, arith, append_assoc, append-nil}
 use Rattle.std.specs.List.{All, Contains}
@@ -162,7 +164,7 @@ wide base events limit place event trunk list many within at all kept spread kee
       (counted (get_or spread.many k d) (spread.has k d below));
 }
 
--- the configuration that judging begins with is reached by no event
+-- before all events the configuration that judging begins with is reached, by no moves
 pub opens_reached : (base : State) (list : List Configuration) → IsOpening base list → All (Reaches base [] []) list
 unfolding Reaches
 opens_reached base list is = subst (λ l. All (Reaches base [] []) l) (sym is.1)
@@ -171,7 +173,7 @@ opens_reached base list is = subst (λ l. All (Reaches base [] []) l) (sym is.1)
     one : LeadsThrough (opening_config base) [] ([] ++ is.0.path) (config_of is.0)
     one = subst (λ m. LeadsThrough (opening_config base) [] m (config_of is.0)) (sym is.3) is.2
 
--- before the first event the list with the first configuration alone is complete
+-- before all events the list with the first configuration alone is complete
 pub opens_complete : (base : State) (list : List Configuration) → IsOpening base list → IsComplete base [] list
 opens_complete base list is more moves end runs = record {
   one = opening_config base;
@@ -199,7 +201,7 @@ pub some_shortened : (trunk longer : List Move) (old new : List Configuration) �
 some_shortened trunk longer old new is some =
     omega (arith, length_map config_of old, length_map config_of new, ap length is.same)
 
--- the only configuration without its path, which is the trunk's end now
+-- a list with one configuration is shortened by putting that one's whole path at the end of the trunk
 pub shortened : (trunk longer : List Move) (old rest new : List Configuration) (only next : Configuration)
     → length rest ≡ 0 → old ≡ rest ++ only ∷ []
     → new ≡ rest ++ next ∷ [] → config_of next ≡ config_of only → next.path ≡ []

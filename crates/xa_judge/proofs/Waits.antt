@@ -1,5 +1,6 @@
 -- LeadsThrough: one more move at the end, and acts that can wait until an event is seen.
 --     runs_effect, runs_event                   one more move at the end
+--     may_answer                                a session's call was or may be answered
 --     Acted, Saw                                what an act, an event did to what one session is about
 --     acted, saw_call, saw_return, saw_lost     what each of them changes
 --     CanWait, First, later                     where acts can wait, the event is seen first
@@ -84,7 +85,7 @@ pub record Acted (old : Config) (session : ℕ) (act : Act) (new : Config) : Typ
   pub unanswered : answered_so (Some before) ≡ false
   pub dead : may_answer (Some before) ≡ false → may_answer (Some next) ≡ false
 
--- what a statement's effect changes: the state, and its own client; `o` is where that stood
+-- what a statement's effect changes: the state, and its own client; `o` is where that client stood
 acted_statement : (o : Option ClientState) (old new : Config) (session : ℕ) → slice_get old.clients session ≡ o
     → carried_out o old session ≡ Some new
     → Acted old session Statement new
@@ -153,7 +154,8 @@ unfolding effect_of
 acted old new session Statement is = acted_statement (slice_get old.clients session) old new session refl is
 acted old new session Disconnect is = acted_disconnect (slice_get old.clients session) old new session refl is
 
--- what a session has called for takes effect
+-- the statement of a session that has called can take effect: that leads to the state after its request, and to its
+-- answer
 pub effect_called : (config : Config) (session : ℕ) (request : Request)
     → called_for (slice_get config.clients session) ≡ Some request
     → effect_of config session Statement
@@ -355,7 +357,8 @@ left_alone (Some (Gone request)) old mid new session found is at =
     none-some new (sym (ap (λ o. lost o mid session) here) ∙ at)
 left_alone (Some Left) old mid new session found is at = none-some mid is
 
--- what a session called for takes effect before it calls again: none does, but with an open call that nobody hears
+-- once what a session called for has taken effect, the session can't call again before it returns, unless its client
+-- is gone with an open call
 called_alone : (o : Option ClientState) (old mid new : Config) (session : ℕ) (request : Request)
     → slice_get old.clients session ≡ o → unheard_so o ≡ false
     → carried_out o old session ≡ Some mid → called (slice_get mid.clients session) mid session request ≡ Some new → ⊥
@@ -403,7 +406,7 @@ gone_alone (Some (Gone None)) old mid new session request found heard is at =
 gone_alone (Some (Gone (Some other))) old mid new session request found heard is at = absurd (false≢true (sym heard))
 gone_alone (Some Left) old mid new session request found heard is at = absurd (none-some mid is)
 
--- an act of the calling session before its call may come after it, unless it is a call that nobody hears
+-- an act of the calling session before its call may come after it, unless its client is gone with an open call
 call_alone : (old mid new : Config) (session : ℕ) (act : Act) (request : Request) → has_unheard old session ≡ false
     → effect_of old session act ≡ Some mid
     → called (slice_get mid.clients session) mid session request ≡ Some new
@@ -423,7 +426,7 @@ CanWait config (Return session seen) = call_is_answered config session ≡ true
 CanWait config (Lost session) = Unit {0}
 CanWait config (Unknown session) = ⊥
 
--- a session that was answered acts no more
+-- an act is of another session than one that has its answer
 pub answered_apart : (old mid : Config) (session other : ℕ) (act : Act) → Acted old session act mid
     → call_is_answered old other ≡ true → session ≢ other
 answered_apart old mid session other act a answered = λ e.

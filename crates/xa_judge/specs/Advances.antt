@@ -1,7 +1,9 @@
 -- What one more event leads to.
 --     Continues        some moves lead on from a configuration of a list through more events
---     AreAnswers       the answers that a return's session can have before it
+--     IsCallOf, IsReturnOf, IsNoReturn     an event is a call of a session;  a return to it;  no return at all
 --     IsSeenFrom       what the event leaves of configurations in which it can be seen at once
+--     AreAnswersTo     the answers that a session can have after acts from a list
+--     AreAnswers       the answers that a return's session can have before it
 --     IsAdvance        what the event leaves of configurations
 use Rattle.std.specs.Prelude.{◌≡◌, ℕ, ◌<◌, List, [], ◌∷◌, Some, vec_len, slice_get}
 use Rattle.std.specs.List.{All, Contains}
@@ -47,8 +49,9 @@ IsNoReturn (Return session seen) = ⊥
 IsNoReturn (Lost session) = Unit {0}
 IsNoReturn (Unknown session) = Unit {0}
 
--- the list has each configuration to which the event leads at once, and no other; or there is none, and these are
--- the answers
+-- what the event leaves of the old list, if no act comes before it. Known: a list with each configuration to which
+-- the event leads, at least one, and no other. Impossible: the event can be seen in none, and `answers` are given
+-- back. Never TooMany
 abbrev pub IsSeenFrom : List Configuration → List Answer → Event → Advance → Type 0
 IsSeenFrom old answers event (Known list) =
     (0 < vec_len list) × ((one new : Config) → Has old one → observed one event ≡ Some new → Has list.items new)
@@ -58,7 +61,8 @@ IsSeenFrom old answers event (Impossible others) =
     ((one new : Config) → Has old one → observed one event ≡ Some new → ⊥) × (others.items ≡ answers)
 IsSeenFrom old answers event TooMany = ⊥
 
--- these are the answers that the session gets from the list by acts only, whenever the list is reached
+-- each of these answers the session can have after the events, whenever all of the list is reached by them; and each
+-- that it has after acts from one of the list is among them
 pub record AreAnswersTo (list : List Configuration) (session : ℕ) (answers : List Answer) : Type 0 where
   pub each : (base : State) (events : List Event) (trunk : List Move) → All (Reaches base events trunk) list
       → All (IsAnswerAfter base events session) answers
@@ -70,8 +74,10 @@ abbrev pub AreAnswers : List Configuration → Event → List Answer → Type 0
 AreAnswers list (Return session seen) answers = AreAnswersTo list session answers
 AreAnswers list event answers = answers ≡ []
 
--- what the event leads to: if events go on from the old list, they go on from the new one, which has only what has
--- to be kept; or they never go on; or too many different configurations are counted before the event
+-- what the event leads to. Known: a list with at least one configuration. Whatever goes on past the event from the
+-- old list goes on from this one, which has only what may be kept after the event (`IsKeptAfter`). Impossible:
+-- nothing goes on past the event, and these are the answers of a return's session. TooMany: acts may have to come
+-- before the event, and lead to more than `limit` different configurations (`IsCounted`)
 abbrev pub IsAdvance : List Configuration → Event → ℕ → Advance → Type 0
 IsAdvance old event limit (Known list) =
     (0 < vec_len list) × ((more : List Event) (new : Config) → Continues old (event ∷ more) new

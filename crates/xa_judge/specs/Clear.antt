@@ -1,13 +1,18 @@
 -- Statements that have nothing to do with a step of another session's branch.
 --     named_by, key_of                the branch and the row that a statement names
 --     Avoids, IsBeside                a statement doesn't name a branch;  a session hasn't it open
---     IsEnding, IsUnlisted            it ends the branch;  it leaves the list of PREPARED branches
+--     IsEnding, IsUnlisted            it ends the branch;  it leaves the list of PREPARED branches as it is
+--     IsAmong, HasRow, MayEnd         a row is one of some;  a session has a row in its branch;  may end a branch
 --     IsOwnStep                       an accepted statement changes only its branch, and values only of rows
---     IsClearOf                       another statement has nothing to do with it
---     IsHeldBack                      another request isn't answered so before it
---     IsAside                         one or the other, by what the request's call returns
---     AreOpenAside, AreCallsAside     so is what is open, or is called for until it returns
+--     IsClearOf, IsClearRequest       another statement has nothing to do with it;  another request
+--     IsHeldBack                      another request isn't answered before it what a return shows
+--     IsListedAfter, EndsPrepared     a list shows that it was taken;  another statement ends what it prepares
+--     returns_in, ComesAfter          what a session's call returns;  that isn't answered before the step
+--     IsAside                         a request is clear of it, or held back, by what the request's call returns
+--     AreOpenAside, AreCallsAside     what is open is aside;  what is called for until the step's call returns
+--     AreNotedAside                   what is noted of open calls is aside
 --     IsSteppedFor                    where moves lead on, some do with the step taken, to the same answers
+--     IsReadyStep                     a session has called for its step
 -- Every rule here is the project's own: crates/xa_judge/README.md.
 use Rattle.std.specs.Prelude.{◌≡◌, ◌≢◌, ◌⊎◌, ◌==◌, ℕ, Bool, true, false, cond, Option, Some, None, List, [], ◌∷◌}
 use Rattle.std.specs.List.{list_any}
@@ -45,7 +50,7 @@ named_by (Commit xid one_phase) = Some xid
 named_by (Rollback xid) = Some xid
 named_by other = None
 
--- the row that it names
+-- the row that a statement names
 abbrev pub key_of : Statement → Option (List ℕ)
 key_of (Get key) = Some key
 key_of (Put key value) = Some key
@@ -67,7 +72,7 @@ IsEnding (Commit other one_phase) xid = other ≡ xid
 IsEnding (Rollback other) xid = other ≡ xid
 IsEnding other xid = ⊥
 
--- the statement leaves the list of PREPARED branches
+-- the statement leaves the list of PREPARED branches as it is
 abbrev pub IsUnlisted : Statement → Type 0
 IsUnlisted (Prepare xid) = ⊥
 IsUnlisted (Commit xid one_phase) = one_phase ≡ true
@@ -95,7 +100,8 @@ MayEnd state session xid =
     ((association_of state session ≡ Free) × (is_prepared state xid ≡ true))
     ⊎ (association_of state session ≡ Idle xid)
 
--- an accepted statement of the session that changes only this branch, and values only of these rows
+-- an accepted statement of the session that changes only this branch, and values only of these rows: it starts, ends,
+-- prepares or finishes the branch, or is on a row in it
 pub data IsOwnStep (state : State) (session : ℕ) (statement : Statement) (xid : Xid) (rows : List
     (List ℕ)) : Type 0 where
   starts : statement ≡ Start xid → association_of state session ≡ Free → map.get state.branches xid ≡ None
@@ -109,7 +115,8 @@ pub data IsOwnStep (state : State) (session : ℕ) (statement : Statement) (xid 
       → ((key : List ℕ) → holds state xid key ≡ true → IsAmong key rows)
       → IsOwnStep state session statement xid rows
 
--- a statement of another session has nothing to do with such a step
+-- `two`, a statement of another session, has nothing to do with the step `one` of this branch: it doesn't name the
+-- branch or one of these rows, and lists PREPARED branches only if the step leaves that list as it is
 pub record IsClearOf (one two : Statement) (xid : Xid) (rows : List (List ℕ)) : Type 0 where
   pub avoids : Avoids two xid
   pub apart : (key other : List ℕ) → IsAmong key rows → key_of two ≡ Some other → eq_by_cmp bytes_cmp other key ≡ false
@@ -120,18 +127,20 @@ abbrev pub IsClearRequest : Statement → Request → Xid → List (List ℕ) �
 IsClearRequest one (Given two) xid rows = IsClearOf one two xid rows
 IsClearRequest one Unread xid rows = Unit {0}
 
--- before the step no request of another session is answered so
+-- before the step: where `one` is a step of this branch on these rows, the request `two` of another session isn't
+-- answered what `seen` shows
 abbrev pub IsHeldBack : Statement → Request → Xid → List (List ℕ) → Seen → Type 0
 IsHeldBack one two xid rows seen = (state : State) (session other : ℕ) → session ≢ other → LockLaw state
     → IsOwnStep state session one xid rows → shows_answer seen (answer_to state other two) ≡ false
 
--- a list of PREPARED branches shows the step: it has the branch, or hasn't it any more
+-- a list of PREPARED branches shows that the step was taken: it has the branch after XA PREPARE, and hasn't it after
+-- XA COMMIT in two phases
 abbrev pub IsListedAfter : Statement → Xid → List Xid → Type 0
 IsListedAfter (Prepare own) xid listed = list_any (same_xid xid) listed ≡ true
 IsListedAfter (Commit own one_phase) xid listed = (one_phase ≡ false) × (list_any (same_xid xid) listed ≡ false)
 IsListedAfter other xid listed = ⊥
 
--- the other statement ends the branch that the step prepares
+-- the step is XA PREPARE of the branch, and the other statement ends it: XA COMMIT in two phases, or XA ROLLBACK
 abbrev pub EndsPrepared : Statement → Statement → Xid → Type 0
 EndsPrepared (Prepare own) (Commit other one_phase) xid = (other ≡ xid) × (one_phase ≡ false)
 EndsPrepared (Prepare own) (Rollback other) xid = other ≡ xid
@@ -143,7 +152,7 @@ returns_in session [] = None
 returns_in session (event ∷ more) =
     cond (session_of event == session) (seen_in (Some event)) (returns_in session more)
 
--- the session's call returns what isn't answered before the step
+-- the call of the session `other`, for `two`, returns what isn't answered before the step
 pub record ComesAfter (other : ℕ) (one : Statement) (two : Request) (xid : Xid) (rows : List (List ℕ))
     (more : List Event) : Type 0 where
   pub seen : Seen
@@ -156,12 +165,13 @@ pub data IsAside (one : Statement) (two : Request) (xid : Xid) (rows : List (Lis
     unrelated : IsClearRequest one two xid rows → IsAside one two xid rows returns
     held : (seen : Seen) → returns ≡ Some seen → IsHeldBack one two xid rows seen → IsAside one two xid rows returns
 
--- so is what other sessions have called for
+-- what other sessions have called for, and is open, is aside from the step
 abbrev pub AreOpenAside : Config → ℕ → Statement → Xid → List (List ℕ) → List Event → Type 0
 AreOpenAside config session one xid rows more = (other : ℕ) (request : Request) → session ≢ other
     → IsOpenFor config other request → IsAside one request xid rows (returns_in other more)
 
--- so is what they call for until the session's call returns, or all is over
+-- what other sessions call for until the session's call returns, or up to the end, is aside from the step. Until then
+-- the session itself has no other event
 abbrev pub AreCallsAside : ℕ → Statement → Xid → List (List ℕ) → List Event → Type 0
 AreCallsAside session one xid rows [] = Unit {0}
 AreCallsAside session one xid rows (Call other request ∷ more) = (session ≢ other)
@@ -171,19 +181,20 @@ AreCallsAside session one xid rows (Return other seen ∷ more) =
 AreCallsAside session one xid rows (Lost other ∷ more) = (session ≢ other) × AreCallsAside session one xid rows more
 AreCallsAside session one xid rows (Unknown other ∷ more) = (session ≢ other) × AreCallsAside session one xid rows more
 
--- so is what is noted of open calls
+-- what the hints name as called for by other sessions is aside from the step
 abbrev pub AreNotedAside : List Hint → ℕ → Statement → Xid → List (List ℕ) → List Event → Type 0
 AreNotedAside hints session one xid rows more = (other : ℕ) (request : Request) → session ≢ other
     → (fact_of hints other).asked ≡ Some request → IsAside one request xid rows (returns_in other more)
 
--- where moves lead on from a configuration, some lead on from one of which the new one is kept, to the same answers
+-- where moves lead on from a configuration for which the old one stands, some lead on from one for which the new one
+-- does, to the same answers
 abbrev pub IsSteppedFor : List Hint → List Event → Config → Config → Type 0
 IsSteppedFor hints more old new = (run end : Config) (moves : List Move) → AreAlike hints run old
     → LeadsThrough run more moves end
     → (first : Config) × (all : List Move) × (last : Config) × AreAlike hints first new
     × LeadsThrough first more all last × IsLike end last
 
--- the session has called for the step
+-- the session has called for this statement, and it is a step of the session's branch now
 abbrev pub IsReadyStep : Config → ℕ → Statement → Xid → List (List ℕ) → Type 0
 IsReadyStep config session one xid rows =
     (slice_get config.clients session ≡ Some (Called (Given one))) × IsOwnStep config.state session one xid rows

@@ -2,10 +2,13 @@
 -- Every rule here is the project's own: docs/HISTORIES.md#what-explains-a-record.
 --     answer_to, next_state      what a request is answered, and the state after it
 --     Config, opening_config     a state of the server, and how far each session is;  before all events
---     effect_of                  an act of a session takes effect
+--     effect_of                  an act of a session takes effect: its request (carried_out), or its DISCONNECT
+--                                (disconnected)
+--     same_text, same_values, same_rows     two texts, values or lists of identifiers are the same
 --     stands_for                 a refusal that was seen stands for one of this number
 --     shows_answer               a return shows this answer
---     observed                   an event is seen
+--     observed                   an event is seen: a call (called), a return (returned), a client gone (lost), or an
+--                                unknown answer (answered_unknown)
 --     LeadsThrough               moves lead through all of the events
 --     Explained                  some moves do, from opening_config on
 use Rattle.std.specs.Prelude.{◌≡◌, ℕ, ◌≤◌, Bool, true, false, cond, ◌&&◌, ◌||◌, ◌==◌, Option, Some, None, List, [], ◌∷◌}
@@ -62,7 +65,8 @@ opening_config base = record { state = base; clients = replicate 17 Idle }
 abbrev pub with_client : Config → ℕ → ClientState → Config
 with_client config session client = record { state = config.state; clients = slice_set config.clients session client }
 
--- what a session called for takes effect: it is answered, or nobody hears the answer
+-- what a session called for takes effect: it is answered, or nobody hears the answer if its client is gone. None if
+-- it has no request that can still take effect
 unfoldable pub carried_out : Option ClientState → Config → ℕ → Option Config
 carried_out (Some (Called request)) config session =
     Some (with_client (record config { state = next_state config.state session request }) session
@@ -71,13 +75,14 @@ carried_out (Some (Gone (Some request))) config session =
     Some (with_client (record config { state = next_state config.state session request }) session (Gone None))
 carried_out other config session = None
 
--- the DISCONNECT of a session whose client is gone takes effect; what it had called for never does after that
+-- the DISCONNECT of a session whose client is gone takes effect; what it had called for never does after that. None
+-- if its client isn't gone, or the DISCONNECT took effect before
 unfoldable pub disconnected : Option ClientState → Config → ℕ → Option Config
 disconnected (Some (Gone request)) config session =
     Some (with_client (record config { state = after config.state session Disconnect }) session Left)
 disconnected other config session = None
 
--- an act of a session takes effect
+-- the configuration after an act of a session takes effect, if it can
 unfoldable pub effect_of : Config → ℕ → Act → Option Config
 effect_of config session ItsStatement = carried_out (slice_get config.clients session) config session
 effect_of config session ItsDisconnect = disconnected (slice_get config.clients session) config session
@@ -102,7 +107,7 @@ same_rows left right = false
 abbrev pub stands_for : ErrorNumbers → ℕ → Bool
 stands_for numbers number = numbers.seen == number || list_any (λ other. other == number) numbers.others.items
 
--- a return shows this answer; of a refusal only the number counts
+-- a return shows this answer; of a refusal only the number counts. A text that isn't a statement is refused with 1064
 abbrev pub shows_answer : Seen → Answer → Bool
 shows_answer SeenOk (Replied Accepted) = true
 shows_answer (SeenValue seen) (Replied (Value value)) = same_values seen value
@@ -112,27 +117,29 @@ shows_answer (SeenError numbers) NotRead = stands_for numbers 1064
 shows_answer seen answer = false
 
 -- an idle session calls. One whose client is gone may call too: nobody hears the answer, and after its
--- DISCONNECT the call does nothing
+-- DISCONNECT the call does nothing. None if the session has an open call
 unfoldable pub called : Option ClientState → Config → ℕ → Request → Option Config
 called (Some Idle) config session request = Some (with_client config session (Called request))
 called (Some (Gone None)) config session request = Some (with_client config session (Gone (Some request)))
 called (Some Left) config session request = Some (with_client config session Left)
 called other config session request = None
 
--- the call of an answered session returns this
+-- the call of an answered session returns this. None if no answer is there, or the return doesn't show it
 unfoldable pub returned : Option ClientState → Config → ℕ → Seen → Option Config
 returned (Some (Answered answer)) config session seen =
     cond (shows_answer seen answer) (Some (with_client config session Idle)) None
 returned other config session seen = None
 
--- the client of a session is gone; an open call may still take effect, and nobody hears its answer
+-- the client of a session is gone; an open call may still take effect, and nobody hears its answer. None if it was
+-- gone before
 unfoldable pub lost : Option ClientState → Config → ℕ → Option Config
 lost (Some Idle) config session = Some (with_client config session (Gone None))
 lost (Some (Called request)) config session = Some (with_client config session (Gone (Some request)))
 lost (Some (Answered answer)) config session = Some (with_client config session (Gone None))
 lost other config session = None
 
--- a session's call is over, with an answer that isn't known; if it has taken no effect by then, it never does
+-- a session's call is over, with an answer that isn't known; if it has taken no effect by then, it never does. None
+-- if no client waits for an answer
 unfoldable pub answered_unknown : Option ClientState → Config → ℕ → Option Config
 answered_unknown (Some (Called request)) config session = Some (with_client config session Idle)
 answered_unknown (Some (Answered answer)) config session = Some (with_client config session Idle)

@@ -1,5 +1,5 @@
 -- Whether moves lead through events.
---     LeadsOn          moves lead through the events that are still to be seen
+--     LeadsOn          there is a configuration so far, and moves lead on from it through the events not seen yet
 --     Leads            moves lead through the events
 use Rattle.std.specs.Prelude.{Option, Some, None, List, drop}
 use Rattle.xa_server.specs.State.{State}
@@ -9,7 +9,8 @@ use Rattle.xa_judge.specs.declared.following.Following.{Following}
 use Rattle.xa_judge.specs.Explained.{Config, opening_config, LeadsThrough}
 use Rattle.xa_judge.specs.Found.{config_of}
 
--- if there is a configuration so far, moves lead on from it through the events that are still to be seen
+-- there is a configuration so far, and the moves lead on from it through the events that are still to be seen; never,
+-- if there is none
 abbrev pub LeadsOn : List Event → Option Following → List Move → Config → Type 0
 LeadsOn events None moves new = ⊥
 LeadsOn events (Some here) moves new = LeadsThrough (config_of here.one) (drop here.seen events) moves new

@@ -4,17 +4,27 @@
 -- Every rule here is the project's own: crates/xa_judge/README.md.
 --     Hint, fact_of        what is known of an open call
 --     hint_of              what the session's open call returns, if that is known
---     IsQuiet, IsQuietFor  the request changes nothing, now and whenever the return shows its answer
+--     IsOpenFor, AreAsked  a session has an open call for a request;  the hints name these requests
+--     IsQuiet, IsQuietFor  the request changes nothing;  nor does it whenever the return shows its answer
 --     IsAheadAt, IsBehindAt, IsAlikeAt   how far a session is, on the way of an order, and in what is kept
---     AreAlike             this is kept of a configuration
---     GoesOn, GoesOnLike   moves lead on from what is kept to the end;  to one with the same answers
---     KeepsEnds            they do from a second list, where they do from a first
+--     is_still             a request changes nothing as things are: it only reads (is_reading), or is refused (refuses)
+--     AreAlike             what is kept stands for a configuration of an order
 --     IsDead               a call was answered otherwise than it returns
 --     CanSettle, IsAllowed   a call can take effect at once;  an act isn't known to be of no use
---     FitsHints, NotesCall   an event fits what is known;  what it calls for is noted
---     hint_in, hints_of    what is known of an open call, of all of them, by the places of calls and returns
+--     FitsHints            an event fits what is known
+--     ReplacesFor          one configuration is as good as another one
+--     IsFollowed, IsLeft   moves lead on to the end from what is kept;  from what can't go on past a return
+--     GoesOn, GoesOnLike   one or the other;  to an end with the same answers (IsLike)
+--     KeepsEnds            moves lead on from a second list, where they do from a first
 --     IsClosedFor, HasSeenFor   a list has what acts lead to;  what an event leads to
+--     seen_in .. asked_by  what the event at a place tells of a call
+--     hint_in, hints_of    what is known of an open call, of all of them, by the places of calls and returns
+--     NotesCall            what an event calls for is noted
+--     ExtendsBy            a list has more at its end
+--     HasNextFor, IsExpandedFor, AreClosedFor   a list has what acts of one session, of some, of all lead to
+--     returning_in         the session to which an event returns
 --     IsAdvanceFor         orders go on past an event, from one list in another
+--     NeedsNone            no act has to come before an event
 use Rattle.std.specs.Prelude.{◌≡◌, length, ◌⊎◌, ◌||◌, ℕ, Bool, true, false, Option, Some, None, List, ◌<◌, ◌∷◌, ◌++◌}
 use Rattle.std.specs.Prelude.{slice_get, map}
 use Rattle.std.specs.Option.{unwrap_or}
@@ -42,7 +52,8 @@ use Rattle.xa_judge.specs.declared.event.Event.TheVariants.{Call, Return, Lost, 
 use Rattle.xa_judge.specs.declared.moves.Act.{Act}
 use Rattle.xa_judge.specs.declared.moves.Move.{Move}
 
--- what is known of an open call: what it returns; or that it isn't heard of any more; and what was called for
+-- what is known of an open call: what it returns (`seen`); or that it isn't heard of any more (`never`); and what was
+-- called for (`asked`)
 pub record Hint : Type 0 where
   pub seen : Option Seen
   pub never : Bool
@@ -58,7 +69,7 @@ IsOpenFor config session request =
     (slice_get config.clients session ≡ Some (Called request))
     ⊎ (slice_get config.clients session ≡ Some (Gone (Some request)))
 
--- each session has a place, and what is open was called for
+-- each place of a client has a hint, and that names the request of the session's open call, if there is one
 pub record AreAsked (hints : List Hint) (config : Config) : Type 0 where
   pub room : length hints ≡ length config.clients
   pub calls : (session : ℕ) (request : Request) → IsOpenFor config session request
@@ -68,7 +79,7 @@ pub record AreAsked (hints : List Hint) (config : Config) : Type 0 where
 abbrev pub fact_of : List Hint → ℕ → Hint
 fact_of hints session = unwrap_or (slice_get hints session) no_hint
 
--- what it returns, if that is known
+-- what the session's open call returns, if that is known
 abbrev pub hint_of : List Hint → ℕ → Option Seen
 hint_of hints session = (fact_of hints session).seen
 
@@ -79,12 +90,13 @@ IsQuiet state session (Given (Get key)) = association_of state session ≡ Free
 IsQuiet state session (Given Disconnect) = association_of state session ≡ Free
 IsQuiet state session request = ⊥
 
--- so it is whenever the return shows its answer: it may also be refused
+-- the request changes nothing whenever the return shows its answer: it is quiet, or the return shows a refusal
 abbrev pub IsQuietFor : State → ℕ → Request → Seen → Type 0
 IsQuietFor state session request (SeenError numbers) = Unit {0}
 IsQuietFor state session request seen = IsQuiet state session request
 
--- what is kept is ahead: the call was answered there with what it returns
+-- what is kept (`other`) is ahead of the order (`one`): the call was answered there with what it returns. In the
+-- order it is still open and changes nothing whenever it is answered so, or it has some answer
 pub record IsAheadAt (hint : Option Seen) (state : State) (session : ℕ) (one other : Option ClientState) : Type 0 where
   pub seen : Seen
   pub hinted : hint ≡ Some seen
@@ -94,7 +106,8 @@ pub record IsAheadAt (hint : Option Seen) (state : State) (session : ℕ) (one o
   pub way : ((request : Request) × (one ≡ Some (Called request)) × IsQuietFor state session request seen)
       ⊎ ((given : Answer) × (one ≡ Some (Answered given)))
 
--- what is kept is behind: the call changed nothing, and isn't heard of any more
+-- what is kept (`other`) is behind the order (`one`): the call is open there, and was answered in the order. It isn't
+-- heard of any more
 pub record IsBehindAt (hint : Hint) (one other : Option ClientState) : Type 0 where
   pub never : hint.never ≡ true
   pub unseen : hint.seen ≡ None
@@ -103,7 +116,7 @@ pub record IsBehindAt (hint : Hint) (one other : Option ClientState) : Type 0 wh
   pub request : Request
   pub kept : other ≡ Some (Called request)
 
--- the session is as far, or what is kept is ahead or behind
+-- the session is as far in what is kept (`other`) as in the order (`one`), or what is kept is ahead or behind
 abbrev pub IsAlikeAt : Hint → State → ℕ → Option ClientState → Option ClientState → Type 0
 IsAlikeAt hint state session one other =
     (one ≡ other) ⊎ (IsAheadAt hint.seen state session one other ⊎ IsBehindAt hint one other)
@@ -120,16 +133,17 @@ is_reading state session (Given (Get key)) = is_free (association_of state sessi
 is_reading state session (Given Disconnect) = is_free (association_of state session)
 is_reading state session request = false
 
--- the answer says that nothing was done
+-- the answer says that nothing was done: it is a refusal, or the text wasn't a statement
 abbrev pub refuses : Answer → Bool
 refuses (Replied reply) = is_refused reply
 refuses NotRead = true
 
--- the request changes nothing as things are
+-- the request changes nothing as things are: it only reads, or is refused
 abbrev pub is_still : State → ℕ → Request → Bool
 is_still state session request = is_reading state session request || refuses (answer_to state session request)
 
--- this is kept of a configuration that an order comes to
+-- `kept` stands for `run`, a configuration that an order comes to: with the same state, and each session as far,
+-- ahead or behind. The state keeps the lock law, and the hints name what is open
 pub record AreAlike (hints : List Hint) (run kept : Config) : Type 0 where
   pub state : kept.state ≡ run.state
   pub law : LockLaw run.state
@@ -162,7 +176,8 @@ pub record IsAllowed (hints : List Hint) (config : Config) (session : ℕ) : Typ
   pub counts : (request : Request) → (fact_of hints session).never ≡ true → hint_of hints session ≡ None
       → slice_get config.clients session ≡ Some (Called request) → is_still config.state session request ≡ false
 
--- the event doesn't end a call otherwise than was known
+-- the event fits what is known of its session's call. A return shows what is known, or nothing is known; the client
+-- is lost only if nothing is known; an answer stays unknown only if no return is known
 abbrev pub FitsHints : List Hint → Event → Type 0
 FitsHints hints (Call session request) = Unit {0}
 FitsHints hints (Return session seen) =
@@ -172,11 +187,11 @@ FitsHints hints (Unknown session) = hint_of hints session ≡ None
 
 -- ---- lists
 
--- what is kept in its place is as good
+-- `new` is as good as `old`: it stands for each configuration for which `old` does (`AreAlike`)
 abbrev pub ReplacesFor : List Hint → Config → Config → Type 0
 ReplacesFor hints old new = (run : Config) → AreAlike hints run old → AreAlike hints run new
 
--- moves lead on to the end from a configuration of which one of the list is kept
+-- moves lead on to the end from a configuration for which one that is kept stands (`AreAlike`)
 pub record IsFollowed (hints : List Hint) (has : Config → Type 0) (events : List Event) (end : Config)
     : Type 0 where
   pub kept : Config
@@ -186,23 +201,24 @@ pub record IsFollowed (hints : List Hint) (has : Config → Type 0) (events : Li
   pub moves : List Move
   pub runs : LeadsThrough run events moves end
 
--- moves lead on to the end from a configuration that can't go on past a return
+-- moves lead on to the end from a configuration in which a call was answered otherwise than it returns
 pub record IsLeft (hints : List Hint) (events : List Event) (end : Config) : Type 0 where
   pub run : Config
   pub dead : IsDead hints run
   pub moves : List Move
   pub runs : LeadsThrough run events moves end
 
--- moves lead on to the end, from what is kept or from what can't go on past a return
+-- moves lead on to the end from a configuration for which a kept one stands, or from one that can't go on past a
+-- return
 abbrev pub GoesOn : List Hint → (Config → Type 0) → List Event → Config → Type 0
 GoesOn hints has events end = IsFollowed hints has events end ⊎ IsLeft hints events end
 
--- who is answered at one end, is answered so at the other
+-- each session that is answered at the end has the same answer at the last one
 abbrev pub IsLike : Config → Config → Type 0
 IsLike end last = (session : ℕ) (answer : Answer) → slice_get end.clients session ≡ Some (Answered answer)
     → slice_get last.clients session ≡ Some (Answered answer)
 
--- moves lead on to such an end
+-- moves lead on (`GoesOn`) to an end in which the sessions that are answered at this end have the same answers
 abbrev pub GoesOnLike : List Hint → (Config → Type 0) → List Event → Config → Type 0
 GoesOnLike hints has events end = (last : Config) × IsLike end last × GoesOn hints has events last
 
@@ -226,7 +242,7 @@ HasSeenFor hints event old new = (kept next : Config) → old kept → observed 
 
 -- ---- what is known of open calls, by the places of their returns
 
--- what a return shows
+-- what the event shows, if it is a return
 abbrev pub seen_in : Option Event → Option Seen
 seen_in (Some (Return session seen)) = Some seen
 seen_in other = None
@@ -241,12 +257,12 @@ abbrev pub seen_by : List Event → Option ℕ → Option Seen
 seen_by events None = None
 seen_by events (Some place) = seen_in (slice_get events place)
 
--- whether that place is after all events: the call isn't heard of any more
+-- whether the place is known and after all events: the call isn't heard of any more
 abbrev pub never_by : List Event → Option ℕ → Bool
 never_by events None = false
 never_by events (Some place) = is_past (slice_get events place)
 
--- what a call is for
+-- what the event calls for, if it is a call
 abbrev pub request_in : Option Event → Option Request
 request_in (Some (Call session request)) = Some request
 request_in other = None
@@ -264,7 +280,8 @@ hint_in events open_call = record {
   asked = asked_by events open_call.call;
 }
 
--- what is noted at an event is what its session has called for
+-- the new hint names what its session has called for: at a call that request, at a lost client what was named before.
+-- At another event it may name anything
 abbrev pub NotesCall : List Hint → Hint → Event → Type 0
 NotesCall hints hint (Call session request) = hint.asked ≡ Some request
 NotesCall hints hint (Lost session) = hint.asked ≡ (fact_of hints session).asked
@@ -278,35 +295,36 @@ hints_of events places = map (hint_in events) places
 abbrev pub ExtendsBy : List Configuration → List Configuration → Type 0
 ExtendsBy old new = (more : List Configuration) × (new ≡ old ++ more)
 
--- the list has what the act leads to from this configuration, or what is as good
+-- the list has what each allowed act of the session leads to from this configuration, or what is as good
 abbrev pub HasNextFor : List Hint → Config → ℕ → List Configuration → Type 0
 HasNextFor hints one session list = (act : Act) (new : Config) → effect_of one session act ≡ Some new
     → IsAllowed hints one session → (other : Config) × Has list other × ReplacesFor hints new other
 
--- the list has what sessions below a number lead to from this configuration, or what is as good
+-- the list has what allowed acts of sessions below a number lead to from this configuration, or what is as good
 abbrev pub IsExpandedFor : List Hint → ℕ → Config → List Configuration → Type 0
 IsExpandedFor hints count one list = (session : ℕ) → session < count → IsSession session
     → HasNextFor hints one session list
 
--- that is so of each configuration before this place in which the session that is to return isn't answered
+-- the list has what allowed acts lead to (`IsExpandedFor`) from each configuration before this place in which the
+-- session that is to return isn't answered
 abbrev pub AreClosedFor : List Hint → Option ℕ → ℕ → List Configuration → Type 0
 AreClosedFor hints returning count list = (place : ℕ) (one : Configuration) → place < count
     → slice_get list place ≡ Some one → is_over returning (config_of one) ≡ false
     → IsExpandedFor hints 17 (config_of one) list
 
--- the session that an event returns to
+-- the session that an event returns to, if it is a return
 abbrev pub returning_in : Event → Option ℕ
 returning_in (Return session seen) = Some session
 returning_in other = None
 
--- where moves lead on past the event from what is kept in the old list, they do from the new one; or the order can't go
--- on past a return
+-- where moves go on past the event from the old list (`GoesOn`), they go on from the new one, by what is known later
 abbrev pub IsAdvanceFor : List Hint → List Hint → Event → List Configuration → List Configuration
     → Type 0
 IsAdvanceFor hints later event old new = (more : List Event) (end : Config) → GoesOn hints (Has old) (event ∷ more) end
     → GoesOn later (Has new) more end
 
--- which events need no act before them, if no kept client is gone with an open call
+-- no act has to come before the event: it is a lost client, or a call of a session that is gone with an open call in
+-- none of the list
 abbrev pub NeedsNone : List Configuration → Event → Type 0
 NeedsNone known (Call session request) = (one : Config) → Has known one → has_unheard one session ≡ false
 NeedsNone known (Return session seen) = ⊥

@@ -1,10 +1,16 @@
 -- The configurations that a judge keeps.
---     config_of        a configuration as the definitions see it
+--     config_of, configs    a configuration as the definitions see it;  all of a list
 --     moved_to         a configuration with this state and these clients, of which one is replaced
 --     Reaches          the trunk and a configuration's path lead to it
 --     Has              a list has this configuration
---     IsEffectAt       an act leads to a configuration from the one at a place of a list
 --     IsSpread         a list has more different configurations than a limit
+--     KeepsReach, ReachesPast    a list is reached if another one is;  by one event more
+--     IsSettledFrom    a configuration is as it was, or after its session's statement
+--     AddsUnlessThere, IsSeenAdded     a list may have one more;  one to which an event leads
+--     IsEffectAt       an act leads to a configuration from the one at a place of a list
+--     IsAnswerAdded, IsAnsweredIn      a client's answer is added;  a session has an answer in one of a list
+--     IsOpening        a list has only the configuration before all events
+--     IsPathOf, IsShortened      the moves to the first of a list;  a longer trunk leads to the same ones
 --     Grows            a list has more at its end, which is reached if the list is
 --     AddsOnly         nothing is added but what acts that count lead to from a configuration
 --     IsSettledIn, IsSeenIn    it comes of one of a list, by what a session called for;  by an event
@@ -64,13 +70,14 @@ ReachesPast event old new =
     (base : State) (events : List Event) (trunk : List Move) → All (Reaches base events trunk) old
     → All (Reaches base (events ++ event ∷ []) trunk) new
 
--- the configuration is as it was, or its path has one effect more
+-- the configuration is as it was; or the session's statement leads to it from the old one, and its path has this
+-- effect more
 abbrev pub IsSettledFrom : ℕ → Configuration → Configuration → Type 0
 IsSettledFrom session old new =
     (new ≡ old) ⊎ (IsSession session × (effect_of (config_of old) session Statement ≡ Some (config_of new))
     × (new.path ≡ old.path ++ Effect session Statement ∷ []))
 
--- the list had this configuration and is as it was; or it has this one in addition
+-- the list had this configuration and is as it was; or it has this one at its end in addition
 abbrev pub AddsUnlessThere : List Configuration → Configuration → List Configuration → Type 0
 AddsUnlessThere old one new = (Has old (config_of one) × (new ≡ old)) ⊎ (new ≡ old ++ one ∷ [])
 
@@ -80,7 +87,8 @@ pub record IsEffectAt (list : List Configuration) (place session : ℕ) (act : A
   pub at : slice_get list place ≡ Some before
   pub leads : effect_of (config_of before) session act ≡ Some (config_of next)
 
--- the event can't be seen, and the list is as it was; or the configuration to which it leads is added
+-- the event can't be seen, and the list is as it was; or the configuration to which it leads is added unless it is
+-- there, with the event at the end of its path
 abbrev pub IsSeenAdded : Event → Configuration → List Configuration → List Configuration → Type 0
 IsSeenAdded event one old new =
     ((observed (config_of one) event ≡ None) × (new ≡ old))
@@ -99,7 +107,7 @@ pub record IsAnsweredIn (list : List Configuration) (session : ℕ) (answer : An
   pub has : Has list one
   pub stands : slice_get one.clients session ≡ Some (Answered answer)
 
--- the only configuration before all events
+-- the list has only the configuration before all events, with an empty path
 abbrev pub IsOpening : State → List Configuration → Type 0
 IsOpening base list =
     (one : Configuration) × (list ≡ one ∷ []) × (config_of one ≡ opening_config base) × (one.path ≡ [])
@@ -108,7 +116,8 @@ IsOpening base list =
 abbrev pub IsPathOf : List Move → List Configuration → List Move → Type 0
 IsPathOf trunk list moves = (one : Configuration) × (slice_get list 0 ≡ Some one) × (moves ≡ trunk ++ one.path)
 
--- the new list has the same configurations; the common first moves of all are in the longer trunk now
+-- the new list has the same configurations. If the trunk and the old paths lead to them, the longer trunk and the new
+-- paths do
 pub record IsShortened (trunk longer : List Move) (old new : List Configuration) : Type 0 where
   pub same : configs new ≡ configs old
   pub reach : (base : State) (events : List Event) → All (Reaches base events trunk) old
@@ -140,7 +149,8 @@ IsExpandedBelow count one returning list =
     → is_over returning (config_of one) ≡ false
     → effect_of (config_of one) session act ≡ Some new → Has list new
 
--- that is so of each configuration before this place
+-- the list has what acts that count, of any session, lead to from each configuration before this place
+-- (`IsExpandedBelow`)
 abbrev pub IsClosedBelow : ℕ → Option ℕ → List Configuration → Type 0
 IsClosedBelow count returning list = (place : ℕ) (one : Configuration) → place < count → slice_get list place ≡ Some one
     → IsExpandedBelow 17 one returning list

@@ -2,14 +2,19 @@
 -- A record is cut in two. One part is all GET, PUT and DEL of the chosen rows, by sessions that have no branch then,
 -- with what they returned. The other part is the rest. Nothing in the rest touches the chosen rows.
 --     IsFreeRequest, IsOtherRequest      a request may stand in the one part;  in the other
+--     IsOnRows, IsOffRows  a request is on a chosen row;  on none of them
 --     session_of           whose event it is
 --     has_none, free_in    a session has no branch, by its turn;  the sessions that have none
+--     is_start, is_ending  a request may start a branch;  leaves its session without one
+--     turn_called, turn_returned, turn_unknown     a session's turn after its call;  after its end
 --     turn_after, turns_past      a session's turn after an event;  all turns
---     FitsTurn             an event may stand in this part
---     IsCut                so do all events, each in its part
---     turns_after          to which parts the sessions' open calls belong after the events
+--     is_chosen            a session's open call stands in the chosen part
+--     FitsRow, FitsTurn    a statement on a row, an event may stand in this part
+--     first_turns          all turns before all events
+--     IsCut                each event may stand in its part
+--     turns_after          all turns after the events
 --     picked               the events of one part, in their order
---     count_in             how many they are
+--     count_in             how many events stand in one part
 --     IsApart              no branch has anything of the chosen rows, or an owner among those that have none
 --     HasNoBranch          there is no branch
 use Rattle.std.specs.Prelude.{◌≡◌, ℕ, suc, Bool, true, false, Some, List, [], ◌∷◌, slice_get, slice_set, replicate}
@@ -36,7 +41,7 @@ IsFreeRequest named free session (Given (Put key value)) = (free session ≡ tru
 IsFreeRequest named free session (Given (Del key)) = (free session ≡ true) × (named key ≡ true)
 IsFreeRequest named free session request = ⊥
 
--- a request that names no chosen row, and by which none of those sessions starts a branch
+-- a request that names no chosen row, and is no XA START of a session that has no branch
 abbrev pub IsOtherRequest : (List ℕ → Bool) → (ℕ → Bool) → ℕ → Request → Type 0
 IsOtherRequest named free session (Given (Get key)) = named key ≡ false
 IsOtherRequest named free session (Given (Put key value)) = named key ≡ false
@@ -65,7 +70,7 @@ session_of (Return session seen) = session
 session_of (Lost session) = session
 session_of (Unknown session) = session
 
--- the session has no branch
+-- a session with this turn has no branch
 abbrev pub has_none : Turn → Bool
 has_none Nobody = true
 has_none Chosen = true
@@ -74,7 +79,7 @@ has_none Within = false
 has_none Rest = false
 has_none Ending = false
 
--- the sessions that have none, by their numbers
+-- whether the session of this number has no branch, by its turn
 abbrev pub free_in : List Turn → ℕ → Bool
 free_in turns session = option_map_or has_none (slice_get turns session) false
 
@@ -83,7 +88,7 @@ abbrev pub is_start : Request → Bool
 is_start (Given (Start xid)) = true
 is_start request = false
 
--- once it is accepted, its session has no branch
+-- once the request is accepted, its session has no branch
 abbrev pub is_ending : Request → Bool
 is_ending (Given (Prepare xid)) = true
 is_ending (Given (Commit xid one_phase)) = true
@@ -91,25 +96,26 @@ is_ending (Given (Rollback xid)) = true
 is_ending (Given Disconnect) = true
 is_ending request = false
 
--- a session has called, in the other part
+-- a session's turn after a call in the other part
 abbrev pub turn_called : Turn → Request → Turn
 turn_called Nobody request = cond (is_start request) Rest Other
 turn_called turn request = cond (is_ending request) Ending Rest
 
--- its call has returned
+-- a session's turn after its call has returned this: a session that may have a branch has none only after an OK to an
+-- ending request
 abbrev pub turn_returned : Turn → Seen → Turn
 turn_returned Chosen seen = Nobody
 turn_returned Other seen = Nobody
 turn_returned Ending SeenOk = Nobody
 turn_returned turn seen = Within
 
--- or nobody knows what it returned
+-- a session's turn after its call is over with an answer that isn't known
 abbrev pub turn_unknown : Turn → Turn
 turn_unknown Chosen = Nobody
 turn_unknown Other = Nobody
 turn_unknown turn = Within
 
--- to which part the open call of its session belongs after an event of the chosen part, or of the other
+-- a session's turn after its event: true stands for the chosen part
 abbrev pub turn_after : Turn → Event → Bool → Turn
 turn_after turn (Call session request) true = Chosen
 turn_after turn (Call session request) false = turn_called turn request
@@ -126,12 +132,15 @@ is_chosen Within = false
 is_chosen Rest = false
 is_chosen Ending = false
 
--- a statement on this row may stand in the chosen part, or in the other
+-- a statement on this row may stand in this part; true stands for the chosen one. There the row is chosen, and the
+-- session has no branch and no open call. In the other part the row isn't chosen, and no chosen call of the session
+-- is open
 abbrev pub FitsRow : (List ℕ → Bool) → Turn → List ℕ → Bool → Type 0
 FitsRow named turn key true = (turn ≡ Nobody) × (named key ≡ true)
 FitsRow named turn key false = (is_chosen turn ≡ false) × (named key ≡ false)
 
--- the event may stand in the chosen part, or in the other
+-- the event may stand in this part; true stands for the chosen one. A call fits as its row does (`FitsRow`), and one
+-- without a row only in the other part; the end of a call where the call stands; a lost client only in the other part
 abbrev pub FitsTurn : (List ℕ → Bool) → Turn → Event → Bool → Type 0
 FitsTurn named turn (Call session request) true = (turn ≡ Nobody) × IsOnRows named request
 FitsTurn named turn (Call session request) false = (is_chosen turn ≡ false) × IsOffRows named request
@@ -140,7 +149,7 @@ FitsTurn named turn (Lost session) false = is_chosen turn ≡ false
 FitsTurn named turn (Return session seen) side = is_chosen turn ≡ side
 FitsTurn named turn (Unknown session) side = is_chosen turn ≡ side
 
--- the turn of a session that is there
+-- the turn of a session; Nobody if the list has no place for it
 abbrev pub turn_in : List Turn → ℕ → Turn
 turn_in turns session = unwrap_or (slice_get turns session) Nobody
 
@@ -149,11 +158,11 @@ abbrev pub turns_past : List Turn → Bool → Event → List Turn
 turns_past turns side event =
     slice_set turns (session_of event) (turn_after (turn_in turns (session_of event)) event side)
 
--- before all events
+-- the turns before all events: no session has an open call or a branch
 unfoldable pub first_turns : List Turn
 first_turns = replicate 17 Nobody
 
--- each event may stand in its part; true stands for the chosen one
+-- each event may stand in its part, after those before it; true stands for the chosen one
 abbrev pub IsCut : (List ℕ → Bool) → List Turn → List Bool → List Event → Type 0
 IsCut named turns [] [] = Unit {0}
 IsCut named turns (side ∷ sides) (event ∷ events) =
@@ -161,12 +170,12 @@ IsCut named turns (side ∷ sides) (event ∷ events) =
     × IsCut named (turns_past turns side event) sides events
 IsCut named turns sides events = ⊥
 
--- to which parts the sessions' open calls belong after the events
+-- the turns after the events
 abbrev pub turns_after : List Turn → List Bool → List Event → List Turn
 turns_after turns (side ∷ sides) (event ∷ events) = turns_after (turns_past turns side event) sides events
 turns_after turns sides events = turns
 
--- the events of one part
+-- the events of one part, in their order; true stands for the chosen one
 abbrev pub picked : Bool → List Bool → List Event → List Event
 picked true (true ∷ sides) (event ∷ events) = event ∷ picked true sides events
 picked true (false ∷ sides) (event ∷ events) = picked true sides events
@@ -174,7 +183,7 @@ picked false (true ∷ sides) (event ∷ events) = picked false sides events
 picked false (false ∷ sides) (event ∷ events) = event ∷ picked false sides events
 picked wanted sides events = []
 
--- how many they are
+-- how many events stand in one part
 abbrev pub count_in : Bool → List Bool → ℕ
 count_in wanted [] = 0
 count_in true (true ∷ sides) = suc (count_in true sides)
@@ -182,18 +191,18 @@ count_in true (false ∷ sides) = count_in true sides
 count_in false (true ∷ sides) = count_in false sides
 count_in false (false ∷ sides) = suc (count_in false sides)
 
--- the branch has nothing of the chosen rows, and its owner is none of the sessions that have none
+-- the branch writes and locks no chosen row, and no session that has no branch (`free`) owns it
 pub record IsApartBranch (named : List ℕ → Bool) (free : ℕ → Bool) (branch : Branch) : Type 0 where
   pub owner : (session : ℕ) → free session ≡ true → branch.owner ≢ Some session
   pub writes : (key : List ℕ) → named key ≡ true → map.get branch.writes key ≡ None
   pub locks : (key : List ℕ) → named key ≡ true → map.get branch.locks key ≡ None
 
--- if there is a branch, that is so of it
+-- if there is a branch, it has nothing of the chosen rows, and no owner that has no branch
 abbrev pub IsApartAt : (List ℕ → Bool) → (ℕ → Bool) → Option Branch → Type 0
 IsApartAt named free None = Unit {0}
 IsApartAt named free (Some branch) = IsApartBranch named free branch
 
--- that is so of every branch
+-- every branch has nothing of the chosen rows, and no owner that has no branch
 abbrev pub IsApart : (List ℕ → Bool) → (ℕ → Bool) → State → Type 0
 IsApart named free state = (xid : Xid) → IsApartAt named free (map.get state.branches xid)
 

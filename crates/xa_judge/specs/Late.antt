@@ -2,12 +2,14 @@
 -- Every rule here is the project's own: docs/HISTORIES.md#verdicts.
 --     called_for       what a session has called for, if that has taken no effect yet
 --     after_settling   the configuration after that takes effect
---     call_is_answered  the session's call was answered
+--     call_is_answered  the session's call was answered, and hasn't returned yet
 --     has_unheard      the session's client is gone with an open call that may still take effect
 --     is_over          acts don't count any more, since the session that is to return was answered
 --     IsNextTo         an act that counts leads from one configuration to another
 --     IsReachedFrom    acts that count lead to a configuration from one that is kept
+--     IsAnyUnheard     in one that is kept a session's client is gone with an open call
 --     Widens           acts may have to take effect before an event
+--     returning_at     the session that is to return at an event
 --     IsCounted        what acts lead to before such an event
 --     IsReady, IsKeptAfter     what stands directly before an event, and after it
 --     IsKept           what is kept before the event at a place
@@ -36,16 +38,16 @@ settled_by (Some request) config session =
       clients = slice_set config.clients session (Answered (answer_to config.state session request));
     }
 
--- the configuration after what the session has called for takes effect
+-- the configuration after what the session has called for takes effect; the same one if it has called for nothing
 unfoldable pub after_settling : Config → ℕ → Config
 after_settling config session = settled_by (called_for (slice_get config.clients session)) config session
 
--- the client has an answer that it hasn't returned yet
+-- the session has an answer, and its call hasn't returned yet
 abbrev pub answered_so : Option ClientState → Bool
 answered_so (Some (Answered answer)) = true
 answered_so other = false
 
--- the session's call was answered
+-- the session's call was answered, and hasn't returned yet
 abbrev pub call_is_answered : Config → ℕ → Bool
 call_is_answered config session = answered_so (slice_get config.clients session)
 
@@ -91,19 +93,21 @@ Widens kept (Return session seen) = Unit {0}
 Widens kept (Lost session) = ⊥
 Widens kept (Unknown session) = Unit {0}
 
--- the session that is to return
+-- the session that is to return; None at an event that is no return
 abbrev pub returning_at : Event → Option ℕ
 returning_at (Call session request) = None
 returning_at (Return session seen) = Some session
 returning_at (Lost session) = None
 returning_at (Unknown session) = None
 
--- acts may have to take effect before the event, and those that count lead to this
+-- acts may have to take effect before the event, and those that count lead to this from what is kept
 pub record IsCounted (kept : Config → Type 0) (event : Event) (config : Config) : Type 0 where
   pub widens : Widens kept event
   pub reached : IsReachedFrom kept (returning_at event) config
 
--- the configuration stands directly before the event; before a return, what its session called for takes effect last
+-- the configuration stands directly before the event: one that is kept, before a call or a lost client; what acts
+-- that count lead to (`IsCounted`), before a call or an unknown answer. Before a return acts come first, and what its
+-- session called for takes effect last
 abbrev pub IsReady : (Config → Type 0) → Event → Config → Type 0
 IsReady kept (Call session request) config = kept config ⊎ IsCounted kept (Call session request) config
 IsReady kept (Return session seen) config =
@@ -115,7 +119,7 @@ IsReady kept (Unknown session) config = IsCounted kept (Unknown session) config
 abbrev pub IsKeptAfter : (Config → Type 0) → Event → Config → Type 0
 IsKeptAfter kept event config = (one : Config) × IsReady kept event one × (observed one event ≡ Some config)
 
--- the configuration is kept before the event at the place
+-- the configuration is kept before the event at the place: before the first one only the opening configuration
 abbrev pub IsKept : State → List Event → ℕ → Config → Type 0
 IsKept base events zero config = config ≡ opening_config base
 IsKept base events (suc place) config =

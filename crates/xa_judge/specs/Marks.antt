@@ -1,8 +1,8 @@
 -- The number by which configurations are told apart: if two numbers differ, so do their configurations.
 -- Every rule here is the project's own.
 --     with_word              a number after one more word
---     with_text .. with_row  a number after one more thing of that kind
---     with_server            a number after a server
+--     with_text .. with_key  a number after one more thing of that kind
+--     with_server            a number after a server's branches, and the committed values of some rows
 --     mark                   a configuration's number; the keys are those of the rows that were written
 use Rattle.std.specs.Prelude.{ℕ, ◌+◌, ◌*◌, ◌/◌, ◌%◌, ◌^◌, Option, Some, None, List, length, fold, bit_xor}
 use Rattle.xa_xid.specs.declared.xid.Xid.{Xid}
@@ -38,32 +38,32 @@ with_word number word =
 abbrev pub with_text : ℕ → List ℕ → ℕ
 with_text number bytes = fold with_word (with_word number (length bytes)) bytes
 
--- the number of a configuration's parts so far, followed by an identifier
+-- the number so far, followed by an identifier
 abbrev pub with_xid : ℕ → Xid → ℕ
 with_xid number xid = with_text (with_text (with_word number xid.format_id) xid.gtrid.items) xid.bqual.items
 
--- the number so far, followed by 0 for no value, or with 1 and the value's bytes
+-- the number so far, followed by 0 for no value, or by 1, the value's length and its bytes
 abbrev pub with_value : ℕ → Option Text → ℕ
 with_value number None = with_word number 0
 with_value number (Some text) = with_text (with_word number 1) text.items
 
--- the number so far, followed by identifiers
+-- the number so far, followed by how many identifiers there are, and each of them
 abbrev pub with_xids : ℕ → List Xid → ℕ
 with_xids number xids = fold with_xid (with_word number (length xids)) xids
 
--- the state of a branch that a refusal names, as one word
+-- the number so far, followed by the state of a branch that a refusal names, as one word
 abbrev pub with_state : ℕ → BranchState → ℕ
 with_state number NonExisting = with_word number 0
 with_state number StateActive = with_word number 1
 with_state number StateIdle = with_word number 2
 with_state number StatePrepared = with_word number 3
 
--- the number so far, followed by a refusal
+-- the number so far, followed by a refusal's number, and the state of a branch if it names one
 abbrev pub with_error : ℕ → XaError → ℕ
 with_error number (Rmfail state) = with_state (with_word number (number_of (Rmfail state))) state
 with_error number error = with_word number (number_of error)
 
--- the number so far, followed by an answer
+-- the number so far, followed by the kind of an answer as one word, and by what it has
 abbrev pub with_answer : ℕ → Answer → ℕ
 with_answer number NotRead = with_word number 0
 with_answer number (Replied Accepted) = with_word number 1
@@ -80,18 +80,18 @@ with_client number (Gone None) = with_word number 3
 with_client number (Gone (Some request)) = with_word number 4
 with_client number Left = with_word number 5
 
--- a branch's phase, as one word
+-- the number so far, followed by a branch's phase, as one word
 abbrev pub with_phase : ℕ → Phase → ℕ
 with_phase number Active = with_word number 0
 with_phase number PhaseIdle = with_word number 1
 with_phase number Prepared = with_word number 2
 
--- a branch's owner, as one word: 0 is nobody
+-- the number so far, followed by a branch's owner, as one word: 0 is nobody
 abbrev pub with_owner : ℕ → Option ℕ → ℕ
 with_owner number None = with_word number 0
 with_owner number (Some session) = with_word number session
 
--- how a branch holds a row, as one word, and the value that it puts
+-- the number so far, followed by how a branch holds a row, as one word, and the value that it puts
 abbrev pub with_hold : ℕ → Hold → ℕ
 with_hold number Shared = with_word number 0
 with_hold number (Put value) = with_text (with_word number 1) value.items
@@ -114,11 +114,12 @@ with_branch state number branch = with_rows (with_owner
 abbrev pub with_key : State → ℕ → List ℕ → ℕ
 with_key state number key = with_value number (committed_value state key)
 
--- the number so far, followed by a server's branches with their rows, and the committed values of these rows
+-- the number so far, followed by a server's branches with the rows that they hold, and by the committed values of the
+-- rows with these keys
 abbrev pub with_server : List (List ℕ) → ℕ → State → ℕ
 with_server keys number state = fold (with_key state) (fold (with_branch state) number (branches_of state)) keys
 
--- a configuration's number: made of how far its sessions are, of its server's branches with their rows, and
--- of the committed values of these rows
+-- a configuration's number: made of how far its sessions are, of its server's branches with the rows that they hold,
+-- and of the committed values of the rows with these keys
 unfoldable pub mark : List (List ℕ) → Config → ℕ
 mark keys config = with_server keys (fold with_client 0 config.clients) config.state

@@ -3,7 +3,7 @@
 --     Keys, named_in     a set of keys;  a key is in it
 --     ReadsNamed         a request reads only named rows
 --     CallsNamed         an event, if it is a call, reads only named rows
---     IsLoadedTo         the only state to which the events lead, with all sessions idle
+--     IsLoadedTo         the events lead to a state, with all sessions idle, and whatever goes on goes on from it
 --     IsNearLater        later events read only what a near server holds as well
 use Rattle.std.specs.Prelude.{◌≡◌, ℕ, Bool, true, List, ◌++◌}
 use Rattle.std.specs.BTreeSet.{BTreeSet, contains}
@@ -31,7 +31,7 @@ pub record AreNear (named : List ℕ → Bool) (left right : State) : Type 0 whe
   pub branches : left.branches ≡ right.branches
   pub rows : (key : List ℕ) → named key ≡ true → committed_value left key ≡ committed_value right key
 
--- the request reads only named rows
+-- the request reads only named rows: it is no GET, or one of a named row
 abbrev pub ReadsNamed : (List ℕ → Bool) → Request → Type 0
 ReadsNamed named (Given (Get key)) = named key ≡ true
 ReadsNamed named request = Unit {0}
@@ -50,7 +50,8 @@ pub record IsLoadedTo (base : State) (events : List Event) (full : State) : Type
       → LeadsThrough (opening_config base) (events ++ more) all end
       → (later : List Move) × LeadsThrough (opening_config full) more later end
 
--- the later events read only rows that a server holds as the one does to which the first events lead
+-- the first events lead to a state that has the same branches as `near`, and the same committed values of some rows.
+-- The later events read only these rows
 pub record IsNearLater (base : State) (first : List Event) (near : State) (later : List Event) : Type 0 where
   pub keys : Keys
   pub full : State

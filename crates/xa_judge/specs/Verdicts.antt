@@ -1,5 +1,6 @@
 -- When a verdict is right.
---     IsRefuted                  no order explains the events up to and including the one at a place
+--     IsRefuted                  an order explains the events before a place, and none also the one there
+--     IsReachedByMoves           some moves lead through the events to a configuration
 --     IsAnswerAfter, CouldBe     a session can have an answer after events;  the call that returns at a place can
 --     AreAllAnswers              these are the answers that some order gives the call that returns there
 --     AreDifferent               no two configurations of a list are the same

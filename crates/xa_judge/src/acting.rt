@@ -26,7 +26,7 @@ fn leaving(alloc: Global) -> Result<SharedRequest, NoMemory>
     SharedRequest::of(alloc, Request::Statement(Statement::Disconnect))
 }
 
-/// The answer that one of the clients has, if it is the same.
+/// One more owner of a client's answer that is known to be the same as this one; None if no client's is.
 fn same_among(clients: &[ClientState], answer: &Answer) -> Result<Option<SharedAnswer>, NoMemory>
     ensures { IfOk result (λ found. IfSome found (λ same. same ≡ answer.now)) }
 {
@@ -40,7 +40,7 @@ fn same_among(clients: &[ClientState], answer: &Answer) -> Result<Option<SharedA
     Ok(None)
 }
 
-/// The answer, to be shared: one that a client has already, or one of the lists, if that is the same.
+/// The answer, to be shared: one that a client has already, or one of the lists, if that is the same; else a new one.
 fn shared_among(
     clients: &[ClientState],
     lists: &mut SharedLists,
@@ -55,7 +55,8 @@ fn shared_among(
 }
 
 impl Configuration {
-    /// What the session has called for, if that has taken no effect yet.
+    /// What the session has called for, if that has taken no effect yet. None also if its client is gone: nobody hears
+    /// what its call is answered.
     fn called_for(&self, session: SessionNo) -> Result<Option<SharedRequest>, NoMemory>
         ensures value { IfOk result (λ request. request ≡ called_for (slice_get self.now.clients.items session)) }
         ensures session { IsSession session }
@@ -154,8 +155,8 @@ impl Configuration {
         )
     }
 
-    /// Returns the configuration after what the session has called for takes effect, or the same one if it
-    /// has called for nothing.
+    /// Returns the configuration after what the session has called for takes effect; the same one if that took effect
+    /// before, if it has called for nothing, or if its client is gone.
     ///
     /// May return `NoMemory`.
     #[tactic(auto, unfolding(crate::specs::Late::after_settling))]
@@ -176,7 +177,8 @@ impl Configuration {
         }
     }
 
-    /// The configuration after what the session called for takes effect, if it can.
+    /// The configuration after what the session called for takes effect; None if it has no request that is still to
+    /// take effect.
     #[tactic(auto, unfolding(crate::specs::Explained::effect_of, crate::specs::Explained::carried_out))]
     fn carried_out(
         self,
@@ -206,7 +208,8 @@ impl Configuration {
         }
     }
 
-    /// The configuration after the session's `DISCONNECT` takes effect, if it can.
+    /// The configuration after the session's `DISCONNECT` takes effect; None if its client isn't gone, or if it took
+    /// effect before.
     #[tactic(auto, unfolding(crate::specs::Explained::effect_of, crate::specs::Explained::disconnected))]
     fn disconnected(self, session: SessionNo) -> Result<Option<Configuration>, NoMemory>
         ensures config { IfOk result (λ found. option_map config_of found
@@ -220,13 +223,14 @@ impl Configuration {
             Some(ClientState::Idle) => Ok(None),
             Some(ClientState::Called(_)) => Ok(None),
             Some(ClientState::Answered(_)) => Ok(None),
+            // A request that hasn't taken effect yet never does then.
             Some(ClientState::Gone(_)) => Ok(Some(self.left(session)?)),
             Some(ClientState::Left) => Ok(None),
         }
     }
 
-    /// Returns the configuration after the session's act takes effect, if it can. If the answer is a list
-    /// that `lists` has, it is shared.
+    /// Returns the configuration after the session's act takes effect; None if it can't. An answer that a session has
+    /// here already, or a list that `lists` has, is shared; a new list goes into `lists`.
     ///
     /// May return `NoMemory`.
     pub fn effected_among(
@@ -246,7 +250,8 @@ impl Configuration {
         }
     }
 
-    /// Returns the configuration after the session's act takes effect, if it can.
+    /// Returns the configuration after the session's act takes effect; None if it can't. The answer is shared only if
+    /// it is the same as one that a session has here already.
     ///
     /// May return `NoMemory`.
     pub fn once_effected(
@@ -275,12 +280,14 @@ impl Configuration {
             Some(ClientState::Called(_)) => matches!(act, Act::Statement),
             Some(ClientState::Answered(_)) => false,
             Some(ClientState::Gone(None)) => matches!(act, Act::Disconnect),
+            // Its request may take effect, or its `DISCONNECT` in place of it.
             Some(ClientState::Gone(Some(_))) => true,
             Some(ClientState::Left) => false,
         }
     }
 
-    /// Returns a copy of the configuration in which the session's act has taken effect, if it can.
+    /// Returns a copy of the configuration in which the session's act has taken effect; None if it can't. The answer
+    /// is shared as in `effected_among`.
     ///
     /// May return `NoMemory`.
     pub fn effected(
@@ -301,7 +308,8 @@ impl Configuration {
         self.copy()?.effected_among(session, act, lists)
     }
 
-    /// The server after the session's act, kept over the same one, if the act can take effect.
+    /// The server after the session's act, kept as this configuration's server is, with one request more; None if the
+    /// act can't take effect.
     #[tactic(auto, unfolding(crate::specs::Explained::effect_of, crate::specs::Explained::carried_out, crate::specs::Explained::disconnected))]
     fn server_after(&self, session: SessionNo, act: Act) -> Result<Option<KeptServer>, NoMemory>
         ensures { IfOk result (λ found. found ≡ option_map (λ config. config.state)
@@ -327,8 +335,8 @@ impl Configuration {
         }
     }
 
-    /// Returns the same configuration with a server that is kept over the server of `before`, from which the
-    /// session's act leads here.
+    /// Returns the same configuration, with its server kept as that of `before` is, with one request more: the
+    /// session's act leads here from `before`.
     ///
     /// May return `NoMemory`.
     pub fn over(
@@ -342,6 +350,7 @@ impl Configuration {
         ensures { IfOk result (λ new. new ≡ self) }
     {
         match before.server_after(session, act)? {
+            // Not so: the act can take effect there.
             None => Ok(self),
             Some(server) => {
                 let Configuration {

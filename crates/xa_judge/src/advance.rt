@@ -18,13 +18,14 @@ use xa_xid::{NoMemory, SessionNo};
 pub enum Advance {
     /// These configurations, at least one.
     Known(Vec<Configuration>),
-    /// No configuration. The call could have been answered with these.
+    /// The event can be seen in no configuration. If it is a return, the call could have been answered with these.
     Impossible(Vec<SharedAnswer>),
     /// More configurations than are allowed.
     TooMany,
 }
 
-/// What is left of these configurations after the event is seen.
+/// What is left of these configurations after the event is seen. If nothing is left, `answers` are given back: at a
+/// return those that its session has in these configurations, and else none.
 fn seen(
     alloc: Global,
     ready: Vec<Configuration>,
@@ -42,8 +43,8 @@ fn seen(
     }
 }
 
-/// What a return leads to. Before it, the request of its session takes effect, and before that requests of
-/// others.
+/// What a return leads to. Before it, the request of its session takes effect, unless it has, and before that acts of
+/// others. It is `TooMany` only if those are found to lead to more than `limit` different configurations.
 fn return_seen(
     alloc: Global,
     mut known: Vec<Configuration>,
@@ -65,8 +66,9 @@ fn return_seen(
     Ok(next)
 }
 
-/// What an event leads to that acts of its session have to precede, since they can't take effect after it.
-/// Before the event, all that acts lead to is kept.
+/// What an event other than a return leads to, if acts of its session can't take effect after it any more. So all
+/// that acts lead to is kept before the event. It is `TooMany` only if that is found to be more than `limit` different
+/// configurations.
 fn closed_seen(
     alloc: Global,
     mut known: Vec<Configuration>,
@@ -100,7 +102,8 @@ pub fn none_unheard(known: &[Configuration], session: SessionNo) -> bool
     true
 }
 
-/// What a call leads to. A session whose client is gone seldom has two calls.
+/// What a call leads to. Acts have to come before it only if its session's client is gone with an earlier call that
+/// may still take effect. That is rare. `limit` counts only then, as in `closed_seen`.
 fn call_seen(
     alloc: Global,
     known: Vec<Configuration>,
@@ -119,7 +122,8 @@ fn call_seen(
     }
 }
 
-/// Returns what one more event leads to from these configurations.
+/// Returns what one more event leads to from these configurations; `TooMany` only if acts that may have to come before
+/// it are found to lead to more than `limit` different ones.
 ///
 /// May return `NoMemory`.
 pub fn see_event(
@@ -139,7 +143,9 @@ pub fn see_event(
     match event {
         Event::Call(session, _) => call_seen(alloc, known, index, *session, event, limit),
         Event::Return(session, _) => return_seen(alloc, known, index, *session, event, limit),
+        // What the session has called for may take effect after it too.
         Event::Lost(_) => seen(alloc, known, index, Vec::new(alloc), event),
+        // What the session has called for took effect before it or never will.
         Event::Unknown(_) => closed_seen(alloc, known, index, event, limit),
     }
 }

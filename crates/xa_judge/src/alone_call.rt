@@ -18,7 +18,7 @@ pub struct AloneCall<'a> {
     pub later: &'a [Event],
 }
 
-/// Returns the call with which the events begin, if it returns before anything else happens.
+/// Returns the call with which the events begin, if it returns before anything else happens; else None.
 pub fn alone(events: &[Event]) -> Option<AloneCall<'_>>
     ensures { IfSome result
         (λ call. events.now ≡ Event.Call call.session call.request.now ∷ Event.Return call.session call.seen.now

@@ -17,7 +17,7 @@ use std::alloc::Global;
 use std::mem;
 use xa_xid::{NoMemory, SessionNo};
 
-/// How many configurations are looked at before a return for each one that is kept: one effect in front of a
+/// How many configurations are looked at before an event for each one that is kept: one effect in front of a
 /// call often isn't enough.
 const SIGHT: usize = 8;
 
@@ -42,7 +42,7 @@ pub struct Beam<'a> {
     alloc: Global,
 }
 
-/// The configuration after the effect, if that fits.
+/// The configuration after the effect; None if it doesn't fit.
 fn after(
     foresight: &Foresight,
     lists: &mut SharedLists,
@@ -56,8 +56,8 @@ fn after(
 }
 
 impl<'a> Beam<'a> {
-    /// Begins with these configurations, before all events. At most `width` are kept, and at most `left`
-    /// effects are tried.
+    /// Begins with these configurations, before all events. At most `width` are kept, and about `left` effects
+    /// may be tried.
     ///
     /// May return `NoMemory`.
     pub fn new(
@@ -81,7 +81,8 @@ impl<'a> Beam<'a> {
         })
     }
 
-    /// The configuration after every quiet effect: such an effect never comes too early.
+    /// The configuration after every effect that fits and doesn't change the server (`Fit::Quiet`): such an effect
+    /// never comes too early. None if one can't take effect, which `fit` excludes.
     fn quieted(&mut self, one: Configuration) -> Result<Option<Configuration>, NoMemory> {
         let mut here = one;
         for effect in self.effects.iter() {
@@ -96,7 +97,7 @@ impl<'a> Beam<'a> {
         Ok(Some(here))
     }
 
-    /// Adds a configuration, if there is one, after its quiet effects, unless it is there.
+    /// Adds a configuration, if there is one, after its quiet effects, unless one of the list is known to be the same.
     fn add(&mut self, found: Option<Configuration>) -> Result<(), NoMemory> {
         let Some(one) = found else {
             return Ok(());
@@ -107,7 +108,8 @@ impl<'a> Beam<'a> {
         }
     }
 
-    /// The configuration after all effects of other sessions that fit, and then this one.
+    /// The configuration after all effects of other sessions that fit, and then the effect `own`; None if that doesn't
+    /// fit then. The others come in the order of `effects`, each if it fits after those before it.
     fn after_all(
         &mut self,
         one: &Configuration,
@@ -119,6 +121,7 @@ impl<'a> Beam<'a> {
             if effect.session != own.session && self.foresight.fit(&here, effect)? != Fit::Not {
                 let lists = &mut self.index.lists;
                 here = match here.effected_among(effect.session, effect.act, lists)? {
+                    // Not so: an effect that fits can take effect.
                     None => return Ok(None),
                     Some(next) => next,
                 };
@@ -130,8 +133,8 @@ impl<'a> Beam<'a> {
         here.effected_among(own.session, own.act, &mut self.index.lists)
     }
 
-    /// Adds what the effect leads to from the configuration: without other effects, and after all others that
-    /// fit.
+    /// Adds what the effect leads to from the configuration: without other effects, and after all others that fit.
+    /// Both count as tried.
     fn add_both(&mut self, one: &Configuration, own: &Effect) -> Result<(), NoMemory> {
         self.left = self.left.saturating_sub(2);
         let alone = after(&self.foresight, &mut self.index.lists, one, own)?;
@@ -159,6 +162,7 @@ impl<'a> Beam<'a> {
         if let Some(one) = self.known.get(index)
             && one.is_answered(session)
         {
+            // No more has to come before the session's event there.
             return Ok(());
         }
         for at in 0..self.effects.len() {
@@ -169,7 +173,7 @@ impl<'a> Beam<'a> {
         Ok(())
     }
 
-    /// Whether more configurations may be looked at.
+    /// Whether more configurations may be looked at: effects are left to be tried, and the list and memory have room.
     fn looks_on(&self) -> bool {
         let count = self.known.len();
         self.left > 0
@@ -177,7 +181,8 @@ impl<'a> Beam<'a> {
             && has_room(count, self.index.records())
     }
 
-    /// Adds what effects that fit lead to, fewest effects first.
+    /// Adds what effects that fit lead to from each configuration in the order of the list, also from those that are
+    /// added, as long as `looks_on` allows more. One in which the session is answered leads to no others.
     fn look_on(&mut self, session: SessionNo) -> Result<(), NoMemory> {
         for index in 0..self.width.saturating_mul(SIGHT) {
             // The list grows while it is gone through: what an effect leads to may lead on by another.
@@ -190,7 +195,7 @@ impl<'a> Beam<'a> {
     }
 
     /// Adds what can come before an event of the session. From each configuration the session's own request
-    /// comes first without other effects, then after all that fit.
+    /// comes first without other effects, then after all that fit. After that `look_on` adds more.
     fn prepare(&mut self, session: SessionNo) -> Result<(), NoMemory> {
         let own = Effect::of(session);
         let before = mem::replace(&mut self.known, Vec::new(self.alloc));
@@ -201,9 +206,11 @@ impl<'a> Beam<'a> {
                 self.add_both(&one, &own)?;
                 open.push(one)?;
             } else {
+                // Here the request took effect before, or there is none.
                 self.known.push(one)?;
             }
         }
+        // Those that wait for the request come last. The event can't be seen in them, but effects lead on from them.
         for one in open {
             self.known.push(one)?;
         }
@@ -216,10 +223,11 @@ impl<'a> Beam<'a> {
         self.known.iter().any(|one| one.has_unheard(session))
     }
 
-    /// The session whose request has to take effect before the event, if there is one.
+    /// The session whose open request can't take effect after the event any more; None if there is none.
     fn aim(&self, event: &Event) -> Option<SessionNo> {
         match event {
             Event::Return(session, _) => Some(*session),
+            // The call took effect before this event, or never will.
             Event::Unknown(session) => Some(*session),
             Event::Call(session, _) => {
                 if self.is_unheard(*session) {
@@ -232,7 +240,7 @@ impl<'a> Beam<'a> {
         }
     }
 
-    /// Keeps the best of these configurations.
+    /// Keeps the best of these configurations, at most `width`, each after its quiet effects and once.
     fn keep(&mut self, known: Vec<Configuration>) -> Result<(), NoMemory> {
         self.index.clear();
         for one in known {
@@ -245,7 +253,7 @@ impl<'a> Beam<'a> {
 
     /// Goes over the event at this place: first lets take effect what must come before it, then drops the
     /// configurations in which it can't happen, and keeps the best of the others. If none is left, the search has
-    /// failed, which doesn't mean that there is no order.
+    /// failed, which doesn't mean that there is no order. Does nothing if there is no event at this place.
     ///
     /// May return `NoMemory`.
     pub fn see(&mut self, place: usize) -> Result<(), NoMemory> {
@@ -259,11 +267,13 @@ impl<'a> Beam<'a> {
         // `observe_all` takes them from the last one on, and those with fewer effects are to come first.
         ready.reverse();
         let seen = observe_all(self.alloc, ready, &mut self.index, event)?;
+        // Before `keep`, which goes by what open calls return: if the event is a call, that counts too.
         self.foresight.follow(place);
         self.keep(seen)
     }
 
-    /// Tells that the event at this place is seen next. `before` others come before all of the events.
+    /// Tells `progress` that the event at this place of `events`, those of the search, is seen next. `before` others
+    /// come before all of these.
     pub fn tell<P: Progress>(&self, before: usize, events: &[Event], place: usize, progress: &mut P)
         requires within { place < length events.now }
         requires fits { before + length events.now < 2 ^ 64 }

@@ -22,7 +22,7 @@ fn stuck_counts(
     Ok(counts)
 }
 
-/// The greatest count among the `width` least ones.
+/// The greatest count among the `width` least ones; `COUNTS` if there are fewer than `width`.
 fn greatest_kept(counts: &[usize], width: usize) -> usize {
     let mut sum: usize = 0;
     for count in 0..COUNTS {
@@ -39,7 +39,8 @@ fn greatest_kept(counts: &[usize], width: usize) -> usize {
     COUNTS
 }
 
-/// Returns the `width` configurations in which the fewest calls are stuck; of equal ones the earlier ones.
+/// Returns the `width` configurations in which the fewest calls are stuck, of equal ones the earlier ones; all, if
+/// there are no more. If some are dropped, those kept with the most stuck calls come last, else the order stays.
 ///
 /// May return `NoMemory`.
 pub fn best_of(
@@ -57,6 +58,7 @@ pub fn best_of(
     let mut spare = Vec::new(alloc);
     let mut index: usize = 0;
     for one in known {
+        // There is a count for each configuration, so the default isn't taken.
         let count = counts.get(index).copied().unwrap_or(COUNTS);
         index = index.saturating_add(1);
         if count < greatest {

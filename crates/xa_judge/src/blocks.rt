@@ -16,7 +16,7 @@ pub struct Blocks {
     alloc: Global,
 }
 
-/// The block with these codes, if there is one.
+/// The block with these codes; None if there is none.
 fn block_of(kept: &[Block], codes: &[u8]) -> Result<Option<Block>, NoMemory>
     ensures { IfOk result (λ found. IfSome found (λ block. block ≡ codes.now)) }
 {

@@ -43,12 +43,14 @@ impl BranchRecords {
         self.sum
     }
 
-    /// Tells whether no branch exists and no call is open.
+    /// Tells whether by the estimate no branch exists, and no call is open. A call that a lost client left open counts
+    /// as open.
     pub fn is_still(&self) -> bool {
         self.sum == 0 && self.called.iter().all(|called| called.is_none())
     }
 
-    /// Takes note of an event.
+    /// Takes note of an event. A call that returns counts as carried out, unless it lists branches or is refused; one
+    /// with an unknown answer counts too. The loss of a client changes nothing: its call stays open.
     ///
     /// May return `NoMemory`.
     pub fn see(&mut self, event: &Event) -> Result<(), NoMemory> {
@@ -56,6 +58,7 @@ impl BranchRecords {
             Event::Call(session, request) => self.call(*session, Some(request.try_clone()?)),
             Event::Return(session, seen) => match seen.seen() {
                 Seen::Ok | Seen::Value(_) => self.carried_out(*session),
+                // A list of branches and a refusal change no record.
                 Seen::Rows(_) | Seen::Error(_) => self.call(*session, None),
             },
             Event::Unknown(session) => self.carried_out(*session),
@@ -63,7 +66,7 @@ impl BranchRecords {
         }
     }
 
-    /// The session has this open call, or none.
+    /// Notes that the session has this open call, or none.
     fn call(&mut self, session: SessionNo, request: Option<SharedRequest>) -> Result<(), NoMemory> {
         // The places are made at the first call, so that `new` needs no memory.
         for _ in self.called.len()..SESSIONS {
@@ -76,7 +79,7 @@ impl BranchRecords {
         Ok(())
     }
 
-    /// The session has this branch, or none.
+    /// Notes that the session has this branch, or none.
     fn own(&mut self, session: SessionNo, branch: Option<Xid>) {
         if let Some(place) = self.owned.get_mut(session.get() as usize) {
             *place = branch;
@@ -85,6 +88,7 @@ impl BranchRecords {
 
     /// Adds a record of a branch.
     fn add(&mut self, xid: &Xid) -> Result<(), NoMemory> {
+        // A branch without an entry has no record yet.
         let count = self.counts.get(xid).copied().unwrap_or(0);
         self.counts.insert(xid.copy(), count.saturating_add(1))?;
         self.sum = self.sum.saturating_add(1);
@@ -106,7 +110,7 @@ impl BranchRecords {
         }
     }
 
-    /// The session's work ends, and this branch with it.
+    /// Removes the records of this branch, if there is one, and leaves the session without a branch.
     fn end(&mut self, session: SessionNo, branch: Option<Xid>) {
         if let Some(xid) = branch {
             self.remove(&xid);
@@ -114,13 +118,14 @@ impl BranchRecords {
         self.own(session, None);
     }
 
-    /// The session has carried out the statement, or may have.
+    /// Notes that the session's statement was carried out, or may have been.
     fn act(&mut self, session: SessionNo, statement: &Statement) -> Result<(), NoMemory> {
         match statement {
             Statement::Start(xid) => {
                 self.add(xid)?;
                 self.own(session, Some(xid.copy()));
             }
+            // The branch and its records stay, without an owner.
             Statement::Prepare(_) => self.own(session, None),
             Statement::Commit { xid, one_phase: _ } => self.end(session, Some(xid.copy())),
             Statement::Rollback(xid) => self.end(session, Some(xid.copy())),
@@ -138,7 +143,7 @@ impl BranchRecords {
         Ok(())
     }
 
-    /// What the session has called for was carried out, or may have been.
+    /// Notes that what the session has called for was carried out, or may have been. The call isn't open any more.
     fn carried_out(&mut self, session: SessionNo) -> Result<(), NoMemory> {
         let called = match self.called.get_mut(session.get() as usize) {
             None => None,

@@ -2,6 +2,7 @@
 //!
 //! A session that has no branch reads and writes a row at once, and a row for which only such sessions call is a
 //! register of its own. A record is explained exactly if the statements on each such row are, and so is the rest.
+//! The `GET`, `PUT` and `DEL` of such rows are the free statements.
 ghost use Rattle.std.specs.Prelude.{◌≡◌, true, false, not, take, IfOk, IfSome};
 ghost use Rattle.xa_judge.specs.Explained.{Explained};
 ghost use Rattle.xa_judge.specs.Keys.{first_turns, HasNoBranch, IsCut, picked};
@@ -40,7 +41,7 @@ fn set_of(alloc: Global, keys: &[Key]) -> Result<BTreeSet<Key>, NoMemory> {
     Ok(set)
 }
 
-/// The verdict LEGAL, if the merged moves of the parts lead through the record.
+/// The verdict LEGAL, if the merged moves of the parts lead through the record; else None.
 fn legal_together(
     alloc: Global,
     base: &Server,
@@ -59,8 +60,9 @@ fn legal_together(
     }
 }
 
-/// The verdict ILLEGAL at the place of a refuted event of one part, if the other part is explained up to there:
-/// at least its first `explained` events are.
+/// The verdict ILLEGAL at the event that has the place `index` in the part `wanted`, where that part is refuted; `true`
+/// is the chosen part. An order explains the first `explained` events of the other part. None if more events of that
+/// part come before the refuted one, or if there is no event at `index`.
 fn illegal_in(
     base: &Server,
     keys: &BTreeSet<Key>,
@@ -78,6 +80,7 @@ fn illegal_in(
     requires other { Explained base.now (take explained (picked (not wanted) sides.now events.now)) }
     ensures { IfSome result (IsVerdict base.now events.now limit) }
 {
+    // Only the contract names these.
     let _base = base;
     let _keys = keys;
     let _events = events;
@@ -92,7 +95,8 @@ fn illegal_in(
     }
 }
 
-/// The verdict on a record by the verdicts on its parts, if they give one.
+/// The verdict on a record by the verdicts on its parts: `chosen` is on the events whose side is `true`, `rest` on the
+/// others. None if one of them is UNDECIDED, or if no verdict follows from both.
 fn together(
     alloc: Global,
     base: &Server,
@@ -115,6 +119,7 @@ fn together(
                 let all = merge(alloc, sides, moves.as_slice(), others.as_slice())?;
                 legal_together(alloc, base, events, all, limit)
             }
+            // The chosen part is explained as a whole. It has no more events than there are sides.
             Verdict::Illegal(index, answers) => Ok(illegal_in(
                 base,
                 keys,
@@ -129,6 +134,7 @@ fn together(
             Verdict::Undecided(_) => Ok(None),
         },
         Verdict::Illegal(index, answers) => match rest {
+            // The rest is explained as a whole, and has no more events than there are sides.
             Verdict::Legal(_) => Ok(illegal_in(
                 base,
                 keys,
@@ -141,6 +147,8 @@ fn together(
                 limit,
             )),
             Verdict::Illegal(other, others) => {
+                // Each part is explained before its refuted event. So the refutation that comes first in the record
+                // counts.
                 let first = illegal_in(
                     base, keys, sides, events, true, index, answers, other, limit,
                 );
@@ -157,7 +165,8 @@ fn together(
     }
 }
 
-/// The verdict on the statements on these rows, row by row.
+/// The verdict on events that are free statements on these rows: with few configurations, or else by halves of the
+/// rows, each judged so, down to single rows (`judge_part`). None if no verdict is found so.
 fn judge_rows(
     alloc: Global,
     base: &Server,
@@ -201,7 +210,7 @@ fn judge_rows(
 }
 
 /// Returns the verdict on a record whose free statements are judged row by row; or None, if that gives no
-/// verdict.
+/// verdict. `limit` bounds the configurations that are kept of each part, as in `judge_part`.
 ///
 /// May return `NoMemory`.
 pub fn judge_by_keys(
@@ -215,6 +224,7 @@ pub fn judge_by_keys(
     ensures { IfOk result (λ found. IfSome found (IsVerdict base.now events.now limit)) }
 {
     let keys = free_keys(alloc, events)?;
+    // Without such rows nothing can be cut off, and a branch in the base may hold some of them.
     if keys.is_empty() || !has_no_branch(alloc, base)? {
         return Ok(None);
     }

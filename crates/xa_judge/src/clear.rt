@@ -1,4 +1,4 @@
-//! Tells which statements have nothing to do with a step of another session's branch.
+//! Tells which statements have nothing to do with a step of another session's branch, or are answered only after it.
 ghost use Rattle.std.specs.Prelude.{◌≡◌, ◌≢◌, ◌<◌, ◌+◌, ◌∷◌, true, false, Some, None, List, ℕ, slice_get, length, drop};
 ghost use Rattle.std.specs.List.{list_any};
 ghost use Rattle.std.specs.Ordering.{eq_by_cmp};
@@ -21,7 +21,7 @@ fn is_same_session(session: SessionNo, other: SessionNo) -> bool
     session == other
 }
 
-/// Whether these are two identifiers.
+/// Whether the identifiers differ.
 fn is_another(xid: &Xid, other: &Xid) -> bool
     ensures { result ≡ true → same_xid xid.now other.now ≡ false }
 {
@@ -47,7 +47,7 @@ fn avoids(statement: &Statement, xid: &Xid) -> bool
     }
 }
 
-/// Whether these are two rows.
+/// Whether the keys are those of different rows.
 fn is_another_row(key: &Key, other: &Key) -> bool
     ensures { result ≡ true → eq_by_cmp bytes_cmp key.now other.now ≡ false }
 {
@@ -74,7 +74,7 @@ fn avoids_row(statement: &Statement, key: &Key) -> bool
     }
 }
 
-/// Whether the statement doesn't name the row at this place.
+/// Whether the statement doesn't name the row at this place; true also if `rows` has no such place.
 fn avoids_row_at(statement: &Statement, rows: &[Key], place: usize) -> bool
     ensures { result ≡ true → (row other : List ℕ) → slice_get rows.now place ≡ Some row
         → key_of statement.now ≡ Some other → eq_by_cmp bytes_cmp other row ≡ false }
@@ -106,6 +106,7 @@ fn is_unlisted(statement: &Statement) -> bool
         Statement::Prepare(_) => false,
         // In one phase a branch ends that was never prepared.
         Statement::Commit { one_phase, .. } => *one_phase,
+        // The branch may be PREPARED.
         Statement::Rollback(_) => false,
         Statement::Start(_) => true,
         Statement::End(_) => true,
@@ -137,7 +138,9 @@ fn lists_none(statement: &Statement) -> bool
     }
 }
 
-/// Whether the statement of another session has nothing to do with the step of this branch.
+/// Whether the statement `two` of another session has nothing to do with the step `one` of this branch on these rows:
+/// it names neither the branch nor one of the rows, and lists PREPARED branches only if the step leaves that list as it
+/// is.
 fn is_clear(one: &Statement, two: &Statement, xid: &Xid, rows: &[Key]) -> bool
     ensures { result ≡ true → IsClearOf one.now two.now xid.now rows.now }
 {
@@ -154,7 +157,8 @@ fn is_listed(xid: &Xid, listed: &[Xid]) -> bool
     }
 }
 
-/// Whether a list of PREPARED branches shows the step.
+/// Whether a list of PREPARED branches shows that the step was taken: it has the branch after `XA PREPARE`, and
+/// hasn't it after an `XA COMMIT` in two phases.
 fn is_listed_after(one: &Statement, xid: &Xid, listed: &[Xid]) -> bool
     ensures { result ≡ true → IsListedAfter one.now xid.now listed.now }
 {
@@ -166,7 +170,7 @@ fn is_listed_after(one: &Statement, xid: &Xid, listed: &[Xid]) -> bool
     }
 }
 
-/// Whether the other statement ends the branch that the step prepares.
+/// Whether the step prepares the branch, and the other statement ends it while it is PREPARED.
 fn ends_prepared(one: &Statement, two: &Statement, xid: &Xid) -> bool
     ensures { result ≡ true → EndsPrepared one.now two.now xid.now }
 {
@@ -183,10 +187,12 @@ fn ends_prepared(one: &Statement, two: &Statement, xid: &Xid) -> bool
     }
 }
 
-/// Whether no other session's statement is answered so before the step.
+/// Whether the statement `two` of another session is known not to be answered what `seen` shows before the step `one`
+/// of this branch.
 fn is_held_back(one: &Statement, two: &Statement, xid: &Xid, rows: &[Key], seen: &Seen) -> bool
     ensures { result ≡ true → IsHeldBack one.now (RequestSeen.Statement two.now) xid.now rows.now seen.now }
 {
+    // Only the contract needs the rows.
     let _rows = rows;
     match seen {
         Seen::Rows(listed) => match two {
@@ -199,8 +205,8 @@ fn is_held_back(one: &Statement, two: &Statement, xid: &Xid, rows: &[Key], seen:
     }
 }
 
-/// Whether the event is the return of the session of this number, and shows what isn't answered before the step; None,
-/// if it is another session's.
+/// Whether the event is a return to the session of this number, and shows an answer that its statement `two` is known
+/// not to get before the step `one` of this branch; None if the event is another session's.
 fn returns_after(
     event: &Event,
     number: usize,
@@ -226,8 +232,8 @@ fn returns_after(
     }
 }
 
-/// Whether the next event of the session of this number, from this place on, is a return that shows what isn't answered
-/// before the step.
+/// Whether the next event of the session of this number, at the place `from` or later, is a return that shows an answer
+/// which its statement `two` is known not to get before the step `one` of this branch.
 fn comes_after(
     events: &[Event],
     from: usize,
@@ -249,8 +255,9 @@ fn comes_after(
     false
 }
 
-/// Tells whether the request of the session of this number, which is open before this place, has nothing to do with the
-/// step, or comes after it.
+/// Tells whether the request of the session of this number, which is open before the place `from`, is known to have
+/// nothing to do with the step `one` of another session's branch `xid`, or to be answered only after it. `rows` has the
+/// rows that the step is about. False may mean that it isn't known.
 pub fn is_aside(
     events: &[Event],
     from: usize,
@@ -267,12 +274,14 @@ pub fn is_aside(
         Request::Statement(two) => {
             is_clear(one, two, xid, rows) || comes_after(events, from, number, one, two, xid, rows)
         }
+        // A text that isn't a statement changes nothing, and is always answered 1064.
         Request::Unread => true,
     }
 }
 
-/// Whether the event at this place is the return of the session's step; None, if it is another one that leaves the step
-/// aside.
+/// Whether the event at this place is the return of the session's step `one`. None if the next event tells: this one is
+/// another session's, and if it is a call, `is_aside` holds of it. False if that doesn't hold, or if the event is the
+/// session's own, but no return.
 fn is_return(
     events: &[Event],
     place: usize,
@@ -322,8 +331,9 @@ fn is_return(
     }
 }
 
-/// Tells whether all that is called for from this place on leaves the session's step of this branch aside, until that
-/// returns. If no event shows its return, that is up to the end.
+/// Tells whether each call at the place `from` or later, until the session's step `one` of its branch `xid` returns, is
+/// known to have nothing to do with the step or to be answered only after it (`is_aside`). If the session has no later
+/// event, that is up to the end. False may mean that it isn't known; false also if its next event isn't that return.
 pub fn are_calls_aside(
     events: &[Event],
     from: usize,

@@ -14,8 +14,8 @@ pub enum ClientState {
     Called(SharedRequest),
     /// Its request has taken effect, with this answer, and the call hasn't returned yet.
     Answered(SharedAnswer),
-    /// Its client is gone. The request, if there is one, may still take effect, and after that its
-    /// `DISCONNECT`.
+    /// Its client is gone. The request, if there is one, may still take effect, and its `DISCONNECT` after that or in
+    /// place of it.
     Gone(Option<SharedRequest>),
     /// Its client is gone, and its `DISCONNECT` has taken effect.
     Left,

@@ -17,8 +17,8 @@ use crate::shared_lists::SharedLists;
 use std::alloc::Global;
 use xa_xid::{NoMemory, SessionNo};
 
-/// Whether the list has more than `limit` configurations of which no two are the same. They are counted only
-/// if the list is longer than `uncounted`, which then becomes twice its length.
+/// Whether the list is found to have more than `limit` configurations of which no two are the same. They are counted
+/// only if the list is longer than `uncounted`, which then becomes twice its length.
 fn is_too_wide(
     known: &[Configuration],
     index: &FingerprintIndex,
@@ -36,8 +36,8 @@ fn is_too_wide(
 }
 
 /// Adds all configurations to which acts lead, except acts of the session `returning`, and none after that
-/// session was answered. Returns true; or false if the list has more than `limit` configurations of which no
-/// two are the same.
+/// session was answered. If `returning` is None, acts of all sessions count. Returns true; or false, before all are
+/// added, if the list is found to have more than `limit` configurations of which no two are the same.
 ///
 /// May return `NoMemory`.
 pub fn close(
@@ -54,8 +54,10 @@ pub fn close(
         → IsReachedFrom (Has known.old.items) returning.now config) }
 {
     index.clear();
+    // A list that isn't longer than the limit can't have too many.
     let mut uncounted = limit;
     let mut place = 0;
+    // `expand` adds at the end, so what it adds is expanded later too.
     while place < known.len() {
         if is_too_wide(known.as_slice(), index, limit, &mut uncounted)? {
             return Ok(false);
@@ -66,7 +68,8 @@ pub fn close(
     Ok(true)
 }
 
-/// Returns the configurations after what the session has called for takes effect.
+/// Returns the configurations after what the session has called for takes effect. Those stay as they are in which that
+/// took effect before, it has called for nothing, or its client is gone. They are taken from the last one on.
 ///
 /// May return `NoMemory`.
 pub fn settle_all(
@@ -88,7 +91,8 @@ pub fn settle_all(
     Ok(list)
 }
 
-/// Adds the configuration after the event, if it can be seen there.
+/// Adds the configuration to which the event leads from this one, if it can be seen there, and unless one of the list
+/// is known to be the same.
 fn add_seen(
     list: &mut Vec<Configuration>,
     index: &mut FingerprintIndex,
@@ -106,7 +110,8 @@ fn add_seen(
     }
 }
 
-/// Returns the configurations after the event, from those in which it can be seen.
+/// Returns the configurations after the event, from those in which it can be seen; of those that are known to be the
+/// same one is kept. They are taken from the last one on.
 ///
 /// May return `NoMemory`.
 pub fn observe_all(
@@ -125,9 +130,11 @@ pub fn observe_all(
     let count = known.len();
     let mut list = Vec::new(alloc);
     while let Some(one) = known.pop() {
+        // How each keeps its server depends on how many there are.
         let one = fit(one, count, index.records())?;
         add_seen(&mut list, index, one, event)?;
     }
+    // If one configuration is left, the rows written so far may be forgotten.
     index.settle(list.len());
     Ok(list)
 }
@@ -154,7 +161,8 @@ fn add_answer(
     }
 }
 
-/// Returns the answers that the session has in these configurations.
+/// Returns the answers that the session has in these configurations: one for each in which it has one, so the same
+/// answer may come more than once.
 ///
 /// May return `NoMemory`.
 pub fn answers_in(

@@ -135,7 +135,7 @@ impl Configuration {
         self.clients.get(session.get() as usize)
     }
 
-    /// Returns the configuration after this move, in which the session is in this state.
+    /// Returns the configuration after this move, in which the session is in this state. Its server is left as it is.
     ///
     /// May return `NoMemory`.
     pub fn moved(
@@ -153,7 +153,7 @@ impl Configuration {
         Ok(self)
     }
 
-    /// Tells whether the session's call was answered.
+    /// Tells whether the session's call was answered, and hasn't returned yet.
     pub fn is_answered(&self, session: SessionNo) -> bool
         ensures { result ≡ call_is_answered (config_of self.now) session }
     {
@@ -167,7 +167,7 @@ impl Configuration {
         }
     }
 
-    /// Tells whether `returning` names a session whose call was answered.
+    /// Tells whether `returning` names a session whose call was answered, and hasn't returned yet.
     pub fn is_over(&self, returning: &Option<SessionNo>) -> bool
         ensures { result ≡ is_over returning.now (config_of self.now) }
     {

@@ -30,7 +30,7 @@ fn is_same_work(left: &[Done], right: &[Done]) -> bool
     }
 }
 
-/// The block with these requests, if there is one.
+/// The block that is known to have these requests; None if there is none.
 fn block_of(kept: &[DoneBlock], requests: &[Done]) -> Result<Option<DoneBlock>, NoMemory>
     ensures { IfOk result (λ found. IfSome found (λ block. block ≡ requests.now)) }
 {

@@ -28,6 +28,7 @@ impl Effect {
 /// May return `NoMemory`.
 pub fn all_effects(alloc: Global) -> Result<Vec<Effect>, NoMemory> {
     let mut all = Vec::new(alloc);
+    // The numbers of sessions are those from 1 to 16.
     for number in 1..17 {
         if let Some(session) = SessionNo::of(number) {
             all.push(Effect::of(session))?;

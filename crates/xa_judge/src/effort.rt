@@ -46,7 +46,7 @@ impl Effort {
         kept <= self.limit && looked_at(index) <= self.left && holds(kept, index.records())
     }
 
-    /// Counts what was looked up in the index so far.
+    /// Takes what was looked up in the index off what may still be done, and has the index count from nought.
     pub fn spend(&mut self, index: &mut FingerprintIndex) {
         self.left = self.left.saturating_sub(looked_at(index));
         index.forget_lookups();

@@ -32,8 +32,8 @@ pub enum Event {
     Call(SessionNo, SharedRequest),
     /// The session's call returns this.
     Return(SessionNo, SharedSeen),
-    /// The session's client is gone. Its open call may still take effect, and then its `DISCONNECT`, or
-    /// never.
+    /// The session's client is gone. Its open call may still take effect, and its `DISCONNECT` after that or in place
+    /// of it; each of them may also never do so.
     Lost(SessionNo),
     /// The session's call is over, with an answer that isn't known. It took effect before this event or never
     /// will.
@@ -101,6 +101,7 @@ impl Seen {
     {
         match answer {
             Answer::Reply(reply) => self.shows_reply(reply),
+            // A text that isn't a statement is answered 1064.
             Answer::Unread => match self {
                 Seen::Ok => false,
                 Seen::Value(_) => false,

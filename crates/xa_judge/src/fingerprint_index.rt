@@ -28,7 +28,7 @@ pub struct FingerprintIndex {
     last: BTreeMap<u64, usize>,
     /// For each place the one before it that has its fingerprint, if there is one.
     before: Vec<Option<usize>>,
-    /// The fingerprint of the configuration that was looked up last.
+    /// The fingerprint of the configuration that was looked up last; None again after `note` or `clear`.
     sought: Option<u64>,
     /// Rows that events called to write. Each other row has the same value in all configurations, as long as
     /// there are no more rows than are listed.
@@ -95,22 +95,24 @@ impl FingerprintIndex {
         self.branches.see(event)
     }
 
-    /// Takes note that an event calls to write this row. Rows that no server has room for aren't counted any
-    /// more.
+    /// Takes note that an event calls to write this row. Once more rows are counted than any server has room for, no
+    /// new one is counted.
     fn see_written(&mut self, key: &Key) -> Result<(), NoMemory> {
         let fingerprint = mark_of_key(key);
         let is_full = self.rows.len() > MOST_RECORDS && !self.rows.contains_key(&fingerprint);
+        // A row that was listed since rows were forgotten last is listed still.
         let is_listed = !is_full
             && self.rows.insert(fingerprint, self.forgotten)? == Some(self.forgotten);
-        // Each row is listed once. Past the greatest number rows are left out: more fingerprints are equal then.
+        // A row is listed once, unless there are too many to be counted. Past the greatest number rows are left out:
+        // more fingerprints are equal then.
         if !is_listed && self.written.len() < MOST_WRITTEN {
             self.written.push(key.copy())?;
         }
         Ok(())
     }
 
-    /// Forgets the written rows if only one configuration is left, no call is open and no branch exists. From
-    /// there on all configurations begin with the values of that one.
+    /// Forgets the written rows if only one configuration is left of the list, which has `count`, and by the events
+    /// no call is open and no branch exists. From there on all configurations begin with the values of that one.
     pub fn settle(&mut self, count: usize) {
         if count == 1 && self.branches.is_still() {
             self.written.clear();
@@ -118,7 +120,8 @@ impl FingerprintIndex {
         }
     }
 
-    /// Returns how many records of rows and branches a server has, estimated from the events.
+    /// Returns how many records of rows and branches a server has, estimated from the events: those that the base had
+    /// before them aren't counted.
     pub fn records(&self) -> usize {
         self.rows.len().saturating_add(self.branches.sum())
     }
@@ -162,14 +165,15 @@ impl FingerprintIndex {
         Ok(())
     }
 
-    /// The next place has this fingerprint.
+    /// Takes up the next place, which has this fingerprint.
     fn push(&mut self, fingerprint: u64) -> Result<(), NoMemory> {
         let before = self.last.insert(fingerprint, self.before.len())?;
         self.before.push(before)?;
         Ok(())
     }
 
-    /// Takes up the last of `count` places, if it is that of the configuration that was looked up last.
+    /// Takes up the last of the list's `count` places, at which the caller has just put the configuration that it
+    /// looked up. Does nothing if it looked up none, as in a short list: `catch_up` takes up such places later.
     ///
     /// May return `NoMemory`.
     pub fn note(&mut self, count: usize) -> Result<(), NoMemory> {
@@ -177,6 +181,7 @@ impl FingerprintIndex {
             None => Ok(()),
             Some(fingerprint) => {
                 self.sought = None;
+                // Only the last place is missing, so the fingerprint is that place's.
                 if self.before.len().saturating_add(1) == count {
                     self.push(fingerprint)?;
                 }

@@ -41,6 +41,7 @@ impl Fingerprint {
     fn with(self, word: u64) -> Fingerprint
         ensures { result.number ≡ with_word self.number word }
     {
+        // With the 1, the word 0 changes the number 0 too. The shift has the low bits depend on the high ones.
         let product = (self.number ^ word)
             .wrapping_add(1)
             .wrapping_mul(MULTIPLIER);
@@ -49,7 +50,7 @@ impl Fingerprint {
         }
     }
 
-    /// Adds the bytes of a text.
+    /// Adds the length of a text, which tells where it ends, and then its bytes.
     fn with_text(self, text: &[u8]) -> Fingerprint
         ensures { result.number ≡ with_text self.number text.now }
     {
@@ -192,6 +193,7 @@ impl Fingerprint {
         ensures { result.number ≡ with_owner self.number owner.now }
     {
         match owner {
+            // No session has the number 0.
             None => self.with(0),
             Some(session) => self.with(session.get()),
         }

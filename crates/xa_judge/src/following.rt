@@ -11,10 +11,10 @@ use std::alloc::Global;
 use xa_server::Server;
 use xa_xid::{NoMemory, SessionNo};
 
-/// The configuration after some moves.
+/// How far some moves have led through events.
 #[derive(Drop)]
 pub struct Following {
-    /// The configuration.
+    /// The configuration after the moves. Its path is empty: the moves are known.
     pub one: Configuration,
     /// How many events have been seen.
     pub seen: usize,
@@ -34,7 +34,8 @@ impl Following {
         })
     }
 
-    /// Returns what follows after the next event, if it can be seen.
+    /// Returns how far the moves have led once the next event is seen; None if there is none, or it can't be seen
+    /// here.
     ///
     /// May return `NoMemory`.
     pub fn after_event(self, events: &[Event]) -> Result<Option<Following>, NoMemory>
@@ -54,7 +55,7 @@ impl Following {
         }
     }
 
-    /// Returns what follows after an effect, if it can come about.
+    /// Returns how far the moves have led after the session's act takes effect; None if it can't.
     ///
     /// May return `NoMemory`.
     pub fn after_effect(self, session: SessionNo, act: Act) -> Result<Option<Following>, NoMemory>
@@ -71,7 +72,7 @@ impl Following {
         }
     }
 
-    /// What follows after a move, if it can come about.
+    /// How far the moves have led after one more; None if it can't come about.
     fn after(self, events: &[Event], by: Move) -> Result<Option<Following>, NoMemory>
         ensures { IfOk result
             (λ found. (later : List Move) (end : Config) → LeadsOn events.now (Some self) (by ∷ later) end
@@ -84,7 +85,7 @@ impl Following {
     }
 }
 
-/// Returns the configuration after the moves, if they lead through all of the events.
+/// Returns the configuration after the moves, with an empty path, if they lead through all of the events; else None.
 ///
 /// May return `NoMemory`.
 pub fn followed(

@@ -23,7 +23,8 @@ use crate::shared_lists::SharedLists;
 use std::alloc::Global;
 use xa_xid::{NoMemory, SessionNo};
 
-/// The configuration after the call of the session of this number has taken effect, if it can at once.
+/// The configuration after the call of the session of this number has taken effect, if it can at once: it is known what
+/// it returns, it is answered that now, and it changes nothing (`settled_one`). Else the same one.
 fn settled_at(
     one: Configuration,
     events: &[Event],
@@ -46,7 +47,7 @@ fn settled_at(
     }
 }
 
-/// The configuration after all calls have taken effect that can at once.
+/// The configuration after all calls have taken effect that can at once (`settled_at`).
 fn settled(
     one: Configuration,
     events: &[Event],
@@ -57,13 +58,14 @@ fn settled(
         (λ new. ReplacesFor (hints_of events.now places.now) (config_of one) (config_of new)) }
 {
     let mut here = one;
+    // The numbers of sessions are those from 1 to 16.
     for number in 1..17 {
         here = settled_at(here, events, places, number, lists)?;
     }
     Ok(here)
 }
 
-/// Whether the call for the request, which returns this, is known to be answered so if it takes effect now.
+/// Whether the session's request, if it takes effect now, is answered what `seen` shows.
 fn fits_now(
     one: &Configuration,
     session: SessionNo,
@@ -76,8 +78,8 @@ fn fits_now(
     Ok(seen.shows(&answer))
 }
 
-/// Whether the session's act counts: of a call whose return is known only one that gives it that answer does, and of
-/// one that isn't heard of any more only one that changes something.
+/// Whether acts of the session have to be tried. False only if its open call would be answered otherwise than it is
+/// known to return, or if the call isn't heard of any more and is known to change nothing now.
 fn is_allowed(
     one: &Configuration,
     events: &[Event],
@@ -89,6 +91,8 @@ fn is_allowed(
         → ⊥) }
 {
     match one.client(session) {
+        // Only the act of a client that waits for its answer is ruled out. Others are tried, which does no harm if none
+        // can take effect.
         None => Ok(true),
         Some(ClientState::Idle) => Ok(true),
         Some(ClientState::Called(request)) => match hint_at(events, places, session) {
@@ -107,7 +111,8 @@ fn is_allowed(
     }
 }
 
-/// Adds what an act of the session leads to from the configuration at this place.
+/// Adds what the session's act leads to from the configuration at this place, if it can take effect. Calls that can
+/// take effect at once do so after it (`settled`). Nothing is added if one of the list is then known to be the same.
 fn add_effect(
     known: &mut Vec<Configuration>,
     index: &mut FingerprintIndex,
@@ -136,7 +141,7 @@ fn add_effect(
     }
 }
 
-/// Adds what allowed acts of the session lead to from the configuration at this place.
+/// Adds what acts of the session lead to from the configuration at this place, if `is_allowed` holds of them.
 fn add_allowed(
     known: &mut Vec<Configuration>,
     index: &mut FingerprintIndex,
@@ -180,6 +185,7 @@ fn add_all(
     ensures all { OnOk result ((one : Found) → slice_get known.old.items place ≡ Some one
         → IsExpandedFor (hints_of events.now places.now) 17 (config_of one) known.new.items) }
 {
+    // The numbers of sessions are those from 1 to 16.
     for number in 1..17 {
         add_number(known, index, place, events, places, number)?;
     }
@@ -232,8 +238,9 @@ fn add_number(
     }
 }
 
-/// Adds all configurations to which allowed acts lead, and none after the session `returning` was answered. Returns
-/// true; or false if that is too much.
+/// Adds all configurations to which acts lead that are allowed by `places`, what is known of open calls (`is_allowed`),
+/// and none after the session `returning`, if there is one, was answered. Returns true; or false, before all are added,
+/// if that is more than `effort` allows.
 ///
 /// May return `NoMemory`.
 pub fn close(
@@ -250,6 +257,7 @@ pub fn close(
 {
     index.clear();
     let mut place = 0;
+    // `expand` adds at the end, so what it adds is expanded later too.
     while place < known.len() {
         if !effort.allows(known.len(), index) {
             return Ok(false);
@@ -260,7 +268,8 @@ pub fn close(
     Ok(true)
 }
 
-/// Adds the configuration after the event, if it can be seen there.
+/// Adds the configuration to which the event leads from this one, if it can be seen there. Calls that can take effect
+/// at once do so after it (`settled`). Nothing is added if one of the list is then known to be the same.
 fn add_seen(
     list: &mut Vec<Configuration>,
     index: &mut FingerprintIndex,
@@ -283,7 +292,8 @@ fn add_seen(
     }
 }
 
-/// Returns the configurations after the event, from those in which it can be seen.
+/// Returns the configurations after the event, from those in which it can be seen; of those that are known to be the
+/// same one is kept. `places` has what is known of open calls after it. They are taken from the last one on.
 ///
 /// May return `NoMemory`.
 pub fn see_all(
@@ -301,9 +311,11 @@ pub fn see_all(
     let count = known.len();
     let mut list = Vec::new(alloc);
     while let Some(one) = known.pop() {
+        // How each keeps its server depends on how many there are.
         let one = fit(one, count, index.records())?;
         add_seen(&mut list, index, one, event, events, places)?;
     }
+    // If one configuration is left, the rows written so far may be forgotten.
     index.settle(list.len());
     Ok(list)
 }

@@ -33,8 +33,9 @@ use std::alloc::Global;
 use xa_server::Server;
 use xa_xid::{NoMemory, SessionNo};
 
-/// Goes on from what is kept before the event at the place `from` to before the one at the place `until`. Of the call
-/// at the place `asked` it isn't known what it returns. No more is done than `effort` allows.
+/// Goes on from what is kept before the event at the place `from` to before the one at the place `until`, and returns
+/// what is kept there, or after which event nothing is left, or that it gave up. Of the call at the place `asked` it
+/// isn't known what it returns. No more is done than `effort` allows, from which what is done is taken off.
 ///
 /// May return `NoMemory`.
 pub fn sweep_on(
@@ -60,6 +61,7 @@ pub fn sweep_on(
     } = front;
     for place in from..until {
         let event = &events[place];
+        // What was known had orders left out. So from an event that doesn't fit it nothing follows.
         if !fits(events, places.as_slice(), place, event) {
             return Ok(Swept::Unknown);
         }
@@ -75,10 +77,12 @@ pub fn sweep_on(
         effort.spend(&mut index);
         if known.is_empty() {
             let count = events.len();
+            // A call may be open on both sides of the event, or end or begin with it: all their returns count.
             let last = last_place(before, place, count).max(last_place(after, place, count));
             return Ok(Swept::Nothing(place, last));
         }
         places = later;
+        // Only after `stepped`, which takes no step of a call that is noted so: this call may be one.
         note_unheard(events, &mut places, place, event, asked);
         share(alloc, place, &mut trunk, &mut known)?;
     }
@@ -98,6 +102,7 @@ pub fn opened(alloc: Global, base: &Server) -> Result<Frontier, NoMemory>
         → LeadsThrough (opening_config base.now) events moves end
         → GoesOnLike (hints_of events front.places.items) (Has front.known.items) events end) }
 {
+    // A law, which does nothing: what is kept stands for states that keep it.
     base.keeps_lock_law();
     Ok(Frontier {
         known: opening(alloc, base)?,
@@ -107,8 +112,7 @@ pub fn opened(alloc: Global, base: &Server) -> Result<Frontier, NoMemory>
     })
 }
 
-/// Goes through the events. Of the call at the place `asked` it isn't known what it returns. No more is done than
-/// `effort` allows.
+/// Goes through all events, as `sweep_on` does.
 fn sweep(
     alloc: Global,
     base: &Server,
@@ -125,8 +129,9 @@ fn sweep(
     Ok(swept)
 }
 
-/// The same, with all configurations to which allowed acts lead before the session is answered, if these are no more
-/// than `limit`, and it isn't known what open calls return.
+/// What is kept after the events, with all configurations to which allowed acts lead before the session is answered.
+/// None if that is more than `effort` allows, or if it is known what an open call returns, or how the session's call
+/// ends.
 fn closed_front(
     front: Frontier,
     events: &[Event],
@@ -147,6 +152,8 @@ fn closed_front(
     let mut all = known;
     let at = places.as_slice();
     let is_closed = close(&mut all, &mut index, events, at, &Some(session), effort)?;
+    // If it is known what a call returns, orders that answer it otherwise are left out. If the session's call isn't
+    // heard of any more, it is tried only where it changes something.
     if !is_closed || !are_unknown(events, at) || !is_blank(events, at, session) {
         return Ok(None);
     }
@@ -158,7 +165,8 @@ fn closed_front(
     }))
 }
 
-/// What is kept of all configurations in which the session can have an answer after the events.
+/// What is kept of all configurations in which the session can have an answer after the events. What its last call
+/// returns isn't known here. None if that isn't found, or nothing is left.
 fn front_after(
     alloc: Global,
     base: &Server,
@@ -180,7 +188,7 @@ fn front_after(
     }
 }
 
-/// Whether one of the answers is the same.
+/// Whether one of the answers is known to be the same as this one.
 fn is_among(answers: &[SharedAnswer], answer: &SharedAnswer) -> bool
     ensures { result ≡ true → Contains answers.now answer.now }
 {
@@ -217,7 +225,9 @@ fn distinct(alloc: Global, answers: &[SharedAnswer]) -> Result<Vec<SharedAnswer>
     Ok(once)
 }
 
-/// The verdict ILLEGAL at a return to the session, if it shows none of the answers that can be given.
+/// The verdict ILLEGAL at this place, at which a return shows `seen` to the session, if it shows none of the answers
+/// that can be given there. None if it shows one, if not all of them are found, or if one isn't proved to be given.
+/// What is done is bounded by `effort`; only the contract names `limit`.
 fn illegal_at(
     alloc: Global,
     base: &Server,
@@ -232,6 +242,7 @@ fn illegal_at(
     requires returns { slice_get events.now place ≡ Some (Event.Return session seen.now) }
     ensures { IfOk result (λ found. IfSome found (IsVerdict base.now events.now limit)) }
 {
+    // Which answers can be given depends on the events before the return alone.
     let (first, _) = events.split_at(place);
     match front_after(alloc, base, first, session, effort)? {
         None => Ok(None),
@@ -245,7 +256,7 @@ fn illegal_at(
     }
 }
 
-/// The verdict ILLEGAL at the event at this place, if it is a return, and that is found.
+/// The verdict ILLEGAL at the event at this place; None if it is no return, or isn't found to be refuted.
 fn illegal_on(
     alloc: Global,
     base: &Server,
@@ -273,7 +284,7 @@ fn illegal_on(
     }
 }
 
-/// The verdict LEGAL, if the moves to the first of the kept configurations lead through the events.
+/// The verdict LEGAL, if the moves to the first of the kept configurations lead through the events; else None.
 fn legal_by(
     alloc: Global,
     base: &Server,
@@ -285,6 +296,7 @@ fn legal_by(
 {
     // Only the contract names the limit: LEGAL doesn't depend on it.
     let _limit = limit;
+    // Never so after `sweep_on`. `path_of` requires one.
     if front.known.is_empty() {
         return Ok(None);
     }
@@ -296,7 +308,7 @@ fn legal_by(
     }
 }
 
-/// The verdict ILLEGAL at one of the events from `least` to `most`, if that is found.
+/// The verdict ILLEGAL at one of the events from `least` to `most`; None if that isn't found.
 fn illegal_within(
     alloc: Global,
     base: &Server,
@@ -307,7 +319,8 @@ fn illegal_within(
 ) -> Result<Option<Verdict>, NoMemory>
     ensures { IfOk result (λ found. IfSome found (IsVerdict base.now events.now limit)) }
 {
-    // Each time the events are gone through may take as much as the first time, which came to its end.
+    // The first pass through the events came to its end. All passes that look for the place may together do as much as
+    // it might, and so may the pass that finds the answers there.
     let mut effort = Effort::new(limit, events.len());
     match first_refuted(alloc, base, events, least, most, &mut effort)? {
         None => Ok(None),
@@ -318,8 +331,8 @@ fn illegal_within(
     }
 }
 
-/// Returns the verdict on the events, if it is found with no more than `limit` configurations, which are kept where
-/// later returns are known.
+/// Returns the verdict on the events, if it is found with no more than `limit` configurations at a time, which are kept
+/// where later returns are known, and with no more work and memory than `Effort` allows; else None.
 ///
 /// May return `NoMemory`.
 pub fn judge_ahead(
@@ -333,6 +346,7 @@ pub fn judge_ahead(
     ensures { IfOk result (λ found. IfSome found (IsVerdict base.now events.now limit)) }
 {
     let mut effort = Effort::new(limit, events.len());
+    // There is no call at this place, so what is known of every call counts.
     match sweep(alloc, base, events, events.len(), &mut effort)? {
         Swept::Unknown => Ok(None),
         Swept::Kept(front) => legal_by(alloc, base, events, front, limit),

@@ -15,7 +15,7 @@ use crate::open_call::OpenCall;
 use std::alloc::Global;
 use xa_xid::{NoMemory, SessionNo};
 
-/// The session that the event returns to.
+/// The session that the event returns to; None if it isn't a return.
 fn returning_of(event: &Event) -> Option<SessionNo>
     ensures { result ≡ returning_in event.now }
 {
@@ -27,7 +27,9 @@ fn returning_of(event: &Event) -> Option<SessionNo>
     }
 }
 
-/// The configurations after an event that allowed acts may precede; `later` has the places of returns after it.
+/// The configurations after an event before which acts may have to take effect: all acts that what is known of open
+/// calls allows are tried first. `places` has what is known of these before the event, `later` after it. None if that
+/// is more than `effort` allows.
 fn see_closed(
     alloc: Global,
     mut known: Vec<Configuration>,
@@ -53,7 +55,8 @@ fn see_closed(
     Ok(Some(list))
 }
 
-/// The configurations after an event that no act has to precede.
+/// The configurations after an event that no act has to precede; never None. `later` has what is known of open calls
+/// after it.
 fn see_open(
     alloc: Global,
     known: Vec<Configuration>,
@@ -70,12 +73,14 @@ fn see_open(
     ensures { IfOk result (λ found. IfSome found (λ list. IsAdvanceFor (hints_of events.now places.now)
         (hints_of events.now later.now) event.now known.items list.items)) }
 {
+    // Only the contract names them.
     let _places = places;
     let list = see_all(alloc, known, index, event, events, later)?;
     Ok(Some(list))
 }
 
-/// The configurations after a call, unless a client is gone with an open call.
+/// The configurations after a call; None if in one of them the session's client is gone with an open call, so acts
+/// would have to come before this one.
 fn see_call(
     alloc: Global,
     known: Vec<Configuration>,
@@ -99,8 +104,9 @@ fn see_call(
     see_open(alloc, known, index, event, events, places, later)
 }
 
-/// Returns the configurations after an event; `later` has the places of returns after it. Or None, if that is too much,
-/// or a client is gone with an open call.
+/// Returns the configurations after `event`, one of `events`; `places` has what is known of open calls before it,
+/// `later` after it. Or None, if that is more than `effort` allows, or if a session calls whose client is gone with an
+/// open call.
 ///
 /// May return `NoMemory`.
 pub fn see_one(

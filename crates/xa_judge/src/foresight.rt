@@ -32,9 +32,11 @@ pub struct Foresight<'a> {
     returns: Vec<Option<&'a Seen>>,
 }
 
-/// What the session's open call returns, from this place on, if that is known.
+/// What the session's open call returns; None if the session has no event at the place `from` or later, or its first
+/// one there isn't a return.
 fn answer_ahead<'a>(events: &'a [Event], from: usize, session: SessionNo) -> Option<&'a Seen> {
     for place in from..events.len() {
+        // There is an event at each of these places.
         let event = events.get(place)?;
         // The first event of the session from here on is the one that ends its open call, whatever it is.
         if session_of(event) == session {
@@ -47,13 +49,14 @@ fn answer_ahead<'a>(events: &'a [Event], from: usize, session: SessionNo) -> Opt
     None
 }
 
-/// Whether the request is known to change nothing.
+/// Whether the request is known to change nothing; false also if the server would have to be made to tell that.
 fn is_quiet(server: &KeptServer, session: SessionNo, request: &Request) -> Result<bool, NoMemory> {
     match request {
         Request::Unread => Ok(true),
         Request::Statement(statement) => match server.own() {
             None => Ok(false),
             Some(own) => {
+                // A statement that wouldn't be logged changes nothing.
                 let (_reply, enters) = own.reply(session, statement)?;
                 Ok(!enters)
             }
@@ -61,7 +64,7 @@ fn is_quiet(server: &KeptServer, session: SessionNo, request: &Request) -> Resul
     }
 }
 
-/// How what the session has called for fits, if its call returns this.
+/// How it fits if the session's request takes effect now, and its call returns `seen`.
 fn request_fit(
     server: &KeptServer,
     session: SessionNo,
@@ -91,7 +94,8 @@ impl<'a> Foresight<'a> {
         Ok(Foresight { events, returns })
     }
 
-    /// Goes on to after the event at this place.
+    /// Takes note of the event at this place: after a call, of what it returns. Other events change nothing, since
+    /// `fit` asks only for calls that are open.
     pub fn follow(&mut self, place: usize) {
         if let Some(Event::Call(session, _)) = self.events.get(place)
             && let Some(entry) = self.returns.get_mut(session.get() as usize)
@@ -108,10 +112,12 @@ impl<'a> Foresight<'a> {
             return Ok(Fit::Not);
         }
         let Some(ClientState::Called(request)) = one.client(effect.session) else {
+            // Nobody hears what a lost client's act is answered, so nothing can refute it.
             return Ok(Fit::Loud);
         };
         match self.returns.get(effect.session.get() as usize) {
             Some(Some(seen)) => request_fit(&one.server, effect.session, request.request(), seen),
+            // It isn't known what the call returns.
             _ => Ok(Fit::Loud),
         }
     }

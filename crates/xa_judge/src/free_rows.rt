@@ -11,17 +11,21 @@ use xa_xid::{Key, NoMemory, SessionNo};
 
 /// The row that the session's last call before this place names, if it names one.
 fn key_before(events: &[Event], place: usize, session: SessionNo) -> Option<&Key> {
+    // The place is that of an event, but nothing promises that, and `split_at` requires it.
     let (first, _) = events.split_at(place.min(events.len()));
+    // If the session hasn't called, `last_call` is a place after these events.
     match first.get(last_call(first, session)) {
         None => None,
         Some(call) => key_called(call),
     }
 }
 
-/// The row whose call a lost client leaves open: such a call may take effect at any time from then on.
+/// The row whose call a lost client leaves open, if the event at this place is such a loss; `turn` is its session's
+/// before it. The call may take effect at any time from then on. None if there is none, or the row isn't free anyway.
 fn key_left(events: &[Event], place: usize, turn: Turn) -> Option<&Key> {
     match events.get(place) {
         Some(Event::Lost(session)) => {
+            // With another turn no call is open, or the open call names no row that is free.
             if matches!(turn, Turn::Other) {
                 key_before(events, place, *session)
             } else {
@@ -32,16 +36,19 @@ fn key_left(events: &[Event], place: usize, turn: Turn) -> Option<&Key> {
     }
 }
 
-/// Returns the keys that only sessions without a branch call for, ascending.
+/// Returns the keys of the rows that only sessions without a branch call for, and of which no lost client leaves a call
+/// open; ascending.
 ///
 /// May return `NoMemory`.
 pub fn free_keys(alloc: Global, events: &[Event]) -> Result<Vec<Key>, NoMemory> {
     let mut turns = nobody(alloc)?;
+    // The rows that are called for, and those of them that aren't free.
     let mut called = BTreeSet::new(alloc);
     let mut bound = BTreeSet::new(alloc);
     for place in 0..events.len() {
         let event = &events[place];
         let number = session_of(event).get() as usize;
+        // There is a turn for each session's number, so it isn't missing.
         let Some(turn) = turns.get(number) else {
             return Ok(Vec::new(alloc));
         };
@@ -55,6 +62,7 @@ pub fn free_keys(alloc: Global, events: &[Event]) -> Result<Vec<Key>, NoMemory> 
         if let Some(key) = key_left(events, place, turn) {
             bound.insert(key.copy())?;
         }
+        // No row is chosen yet, so every event counts as one of the rest.
         turns[number] = turn_past(turn, event, false);
     }
     let mut keys = Vec::new(alloc);

@@ -5,7 +5,7 @@ use crate::fingerprint_index::FingerprintIndex;
 use crate::moves::Move;
 use crate::open_call::OpenCall;
 
-/// What is kept of all configurations to which events lead.
+/// What is kept of all configurations to which events lead, before the next event.
 #[derive(Drop)]
 pub struct Frontier {
     /// The configurations.

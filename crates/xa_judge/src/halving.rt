@@ -11,9 +11,10 @@ use std::alloc::Global;
 use xa_server::Server;
 use xa_xid::NoMemory;
 
-/// The place of the first call up to this place that returns later.
+/// The place of the first call before this place that is known to return after it; this place, if there is none.
 fn first_open(events: &[Event], place: usize) -> usize {
     for early in 0..place {
+        // No call is at the place `events.len()`, so the return of each counts.
         if let Some(later) = next_return(events, early, events.len())
             && later > place
         {
@@ -23,7 +24,7 @@ fn first_open(events: &[Event], place: usize) -> usize {
     place
 }
 
-/// A copy of what is kept before the event at the place `from`.
+/// A copy of what is kept before the event at the place `from`, with an index that has seen the events before it.
 fn copy_of(
     alloc: Global,
     front: &Frontier,
@@ -31,9 +32,11 @@ fn copy_of(
     from: usize,
 ) -> Result<Frontier, NoMemory> {
     let mut index = FingerprintIndex::new(alloc);
+    // `from` is never more, but nothing promises that.
     for place in 0..from.min(events.len()) {
         index.go_on(&events[place])?;
     }
+    // Rows that were forgotten at earlier events may stay listed here. That costs time, and changes nothing else.
     index.settle(front.known.len());
     let mut known = Vec::new(alloc);
     for one in front.known.iter() {
@@ -47,7 +50,9 @@ fn copy_of(
     })
 }
 
-/// The place that `first_refuted` looks for, by halving, from what is kept before the event at the place `from`.
+/// The place that `first_refuted` looks for, by halving those from `least` to `most`, from what is kept before the
+/// event at the place `from`; None if a pass through the events was given up. That the place isn't after `most` is
+/// taken for granted.
 fn halved(
     alloc: Global,
     front: &Frontier,
@@ -65,8 +70,11 @@ fn halved(
             break;
         }
         let middle = low + (high - low) / 2;
+        // As if the record ended with the event at `middle`: no later return is known. `middle` is the place of an
+        // event, but nothing promises that, and `split_at` requires it.
         let (upto, _) = events.split_at((middle + 1).min(events.len()));
         let count = upto.len();
+        // Never so, as `from` is at most `least`. `sweep_on` has to be sure of it.
         if from > count {
             break;
         }
@@ -74,6 +82,7 @@ fn halved(
         match sweep_on(alloc, start, upto, from, count, count, effort)? {
             Swept::Unknown => return Ok(None),
             Swept::Nothing(place, _) => {
+                // Before `place` something was left, and knowing less leaves no less.
                 low = low.max(place);
                 high = middle;
             }
@@ -84,10 +93,11 @@ fn halved(
 }
 
 /// Returns the place of the first event after which nothing is left, if no more is known than the events up to there
-/// tell: it is one of those from `least` to `most`.
+/// tell: it is one of those from `least` to `most`. None if a pass through the events was given up, as when `effort`
+/// allows no more, or if nothing is left before those places.
 ///
-/// What is known of calls that return by then is the same up to any of these places. So events before the first other
-/// call are gone through once.
+/// A call that returns by `least` is known to return there, whichever of these places is tried. So the events before
+/// the first call that doesn't are gone through only once.
 /// May return `NoMemory`.
 pub fn first_refuted(
     alloc: Global,
@@ -98,6 +108,7 @@ pub fn first_refuted(
     effort: &mut Effort,
 ) -> Result<Option<usize>, NoMemory> {
     let from = first_open(events, least);
+    // Never so, as `least` is the place of an event. `sweep_on` requires it.
     if from > events.len() {
         return Ok(None);
     }

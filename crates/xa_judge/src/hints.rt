@@ -14,7 +14,7 @@ use crate::open_call::OpenCall;
 use std::alloc::Global;
 use xa_xid::{NoMemory, SessionNo};
 
-/// Whose event it is.
+/// Returns the session whose event it is.
 pub fn session_of(event: &Event) -> SessionNo
     ensures { result ≡ session_in event.now }
 {
@@ -26,7 +26,7 @@ pub fn session_of(event: &Event) -> SessionNo
     }
 }
 
-/// The place of the session's last call.
+/// Returns the place of the session's last call; the number of events, if it has none.
 pub fn last_call(events: &[Event], session: SessionNo) -> usize {
     let mut last = events.len();
     for place in 0..events.len() {
@@ -39,7 +39,10 @@ pub fn last_call(events: &[Event], session: SessionNo) -> usize {
     last
 }
 
-/// No call is open.
+/// Returns what is known while no call is open: an entry for each session's number, and entry 0, which no session
+/// has.
+///
+/// May return `NoMemory`.
 pub fn no_places(alloc: Global) -> Result<Vec<OpenCall>, NoMemory>
     ensures { IfOk result (λ places. length places.items ≡ 17) }
 {
@@ -63,7 +66,7 @@ fn is_no_return(events: &[Event], entry: &OpenCall) -> bool
     }
 }
 
-/// Whether that is so of the call that is known at this place.
+/// Whether it isn't known what the open call of the session of this number returns.
 fn is_no_return_at(events: &[Event], places: &[OpenCall], number: usize) -> bool
     ensures { result ≡ true → (entry : _) → slice_get places.now number ≡ Some entry
         → (hint_in events.now entry).seen ≡ None }
@@ -86,10 +89,12 @@ pub fn are_unknown(events: &[Event], places: &[OpenCall]) -> bool
     true
 }
 
-/// Tells whether nothing is known of the session's open call.
+/// Tells whether nothing is known of how the session's open call ends: neither where it returns, nor that it isn't
+/// heard of any more.
 pub fn is_blank(events: &[Event], places: &[OpenCall], session: SessionNo) -> bool
     ensures { result ≡ true → (fact_of (hints_of events.now places.now) session).never ≡ false }
 {
+    // Only the contract needs the events.
     let _events = events;
     match places.get(session.get() as usize) {
         None => true,
@@ -97,7 +102,7 @@ pub fn is_blank(events: &[Event], places: &[OpenCall], session: SessionNo) -> bo
     }
 }
 
-/// Tells whether it isn't known that the session's open call isn't heard of any more.
+/// Tells whether the session's open call may still be heard of: it isn't known that no event shows its answer.
 pub fn may_be_heard(events: &[Event], places: &[OpenCall], session: SessionNo) -> bool
     ensures { result ≡ true → (fact_of (hints_of events.now places.now) session).never ≡ false }
 {
@@ -110,7 +115,7 @@ pub fn may_be_heard(events: &[Event], places: &[OpenCall], session: SessionNo) -
     }
 }
 
-/// Tells whether the session's open call isn't heard of any more.
+/// Tells whether it is known that the session's open call isn't heard of any more: no event shows its answer.
 pub fn is_never_heard(events: &[Event], places: &[OpenCall], session: SessionNo) -> bool
     ensures { result ≡ true → (fact_of (hints_of events.now places.now) session).never ≡ true }
 {
@@ -123,7 +128,7 @@ pub fn is_never_heard(events: &[Event], places: &[OpenCall], session: SessionNo)
     }
 }
 
-/// What the return at this place shows.
+/// What the return at this place shows; None if there is no return.
 fn seen_at(events: &[Event], place: usize) -> Option<&Seen>
     ensures { option_copied result ≡ seen_in (slice_get events.now place) }
 {
@@ -173,12 +178,15 @@ fn is_known_at(places: &[OpenCall], place: usize, session: SessionNo) -> bool
     }
 }
 
-/// Whether the event at this place doesn't end a call otherwise than is known.
+/// Tells whether the event at this place fits what is known of its session's call. A return stands where it is known,
+/// or nothing is known; the client is lost only if nothing is known; an answer stays unknown only if no return is
+/// known.
 pub fn fits(events: &[Event], places: &[OpenCall], place: usize, event: &Event) -> bool
     requires { slice_get events.now place ≡ Some event.now }
     ensures { result ≡ true → FitsHints (hints_of events.now places.now) event.now }
 {
     match event {
+        // What may be known of its session is of an earlier call.
         Event::Call(_, _) => true,
         Event::Return(session, _) => {
             is_known_at(places, place, *session)
@@ -191,7 +199,8 @@ pub fn fits(events: &[Event], places: &[OpenCall], place: usize, event: &Event) 
     }
 }
 
-/// The place of the next event of the session whose call stands at this place.
+/// The place of the next event of the session whose call stands at this place; None if there is none, or no call
+/// stands there.
 fn next_own(events: &[Event], place: usize) -> Option<usize> {
     let Some(Event::Call(session, _)) = events.get(place) else {
         return None;
@@ -206,8 +215,8 @@ fn next_own(events: &[Event], place: usize) -> Option<usize> {
     None
 }
 
-/// Returns where the call at this place returns, if an event shows what it is answered. Of the call at the place
-/// `asked` that isn't known.
+/// Returns where the call at this place returns; None if no event shows what it is answered. None also if the place
+/// is `asked`, since all answers of that call are looked for.
 pub fn next_return(events: &[Event], place: usize, asked: usize) -> Option<usize> {
     if place == asked {
         return None;
@@ -219,7 +228,7 @@ pub fn next_return(events: &[Event], place: usize, asked: usize) -> Option<usize
     }
 }
 
-/// Whether no event shows what the call at this place is answered, and its client isn't lost.
+/// Whether no event shows what the call at this place is answered, and its client isn't lost while it is open.
 fn is_unheard(events: &[Event], place: usize) -> bool {
     match next_own(events, place) {
         None => true,
@@ -227,7 +236,7 @@ fn is_unheard(events: &[Event], place: usize) -> bool {
     }
 }
 
-/// Notes what is known of the open call of the session of this number.
+/// Notes what is known of the open call of the session of this number; does nothing if `places` has no such entry.
 pub fn put_open(places: &mut Vec<OpenCall>, number: usize, entry: OpenCall)
     ensures { places.new.items ≡ slice_set places.old.items number entry }
 {
@@ -292,7 +301,8 @@ pub fn later_places(
     Ok(later)
 }
 
-/// Returns the last of the places that is one of `count` events; `least`, if none comes after it.
+/// Returns the last place below `count` at which one of these open calls is known to return, but at least `least`.
+/// Only returns up to there can refute what was kept.
 pub fn last_place(places: &[OpenCall], least: usize, count: usize) -> usize {
     let mut last = least;
     for place in places {
@@ -306,7 +316,8 @@ pub fn last_place(places: &[OpenCall], least: usize, count: usize) -> usize {
     last
 }
 
-/// What is known of the session's open call, of which nothing was known, if it isn't heard of any more.
+/// The entry of the session of this number, noting now that its open call isn't heard of any more; None if there is
+/// no entry, or if it is known how the call ends.
 fn never_heard(events: &[Event], places: &[OpenCall], number: usize) -> Option<OpenCall>
     ensures { IfSome result (λ entry. (old : _) × (slice_get places.now number ≡ Some old) × (old.returns ≡ None)
         × (entry.call ≡ old.call)) }
@@ -315,6 +326,7 @@ fn never_heard(events: &[Event], places: &[OpenCall], number: usize) -> Option<O
         None => None,
         Some(open) => match open.returns {
             Some(_) => None,
+            // A place after all events notes that.
             None => Some(OpenCall {
                 call: open.call,
                 returns: Some(events.len()),
@@ -323,8 +335,8 @@ fn never_heard(events: &[Event], places: &[OpenCall], number: usize) -> Option<O
     }
 }
 
-/// Notes that the call at this place isn't heard of any more, if so it is. Of the call at the place `asked` that isn't
-/// known.
+/// Notes that the call at this place isn't heard of any more, if no later event shows its answer and its client isn't
+/// lost while it is open. Of the call at the place `asked` nothing is noted.
 pub fn note_unheard(
     events: &[Event],
     places: &mut Vec<OpenCall>,
@@ -339,6 +351,7 @@ pub fn note_unheard(
     let Event::Call(session, _) = event else {
         return;
     };
+    // Of the call at `asked` all answers are looked for, also one that changes nothing.
     if place == asked || !is_unheard(events, place) {
         return;
     }

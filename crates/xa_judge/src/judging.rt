@@ -48,7 +48,8 @@ const WAYS_OF_LONG: [Way; 8] = [
     Way::BehindAll,
 ];
 
-/// The verdict that is found this way, if one is.
+/// The verdict that this way finds; None if it finds none. A way that doesn't tell how far it is has its verdict told
+/// afterwards (`tell_verdict`).
 fn judge_by<P: Progress>(
     alloc: Global,
     way: Way,
@@ -92,7 +93,7 @@ fn judge_by<P: Progress>(
     }
 }
 
-/// The verdict that the first of the ways finds that finds one.
+/// The verdict of the first of the ways that finds one; None if none does.
 fn judge_in_order<P: Progress>(
     alloc: Global,
     ways: &[Way],
@@ -112,7 +113,7 @@ fn judge_in_order<P: Progress>(
     Ok(None)
 }
 
-/// Whether many events come before calls overlap.
+/// Whether at least `LONG` events come before calls overlap, and some come after these.
 fn is_long(events: &[Event]) -> bool {
     let alone = count_alone(events);
     LONG <= alone && alone < events.len()
@@ -156,10 +157,12 @@ pub fn judge_telling<P: Progress>(
 ///
 /// If more than `limit` different configurations have to be kept before an event, the verdict is `Undecided`,
 /// unless one order was found, or the verdict was found by judging statements outside of branches row by row,
-/// or by configurations that later returns allow. If eight aren't enough, or 512 or more events come before
-/// calls overlap, a short search for one order and the second are tried, and then the third. After these come
-/// 255 configurations, and a search that tries more, before all configurations are kept. Identifiers that a
-/// call returns have to be in ascending order.
+/// or by configurations that later returns allow. A record is judged first with at most eight configurations, then
+/// row by row, then by a short search for one order, and then by what later returns allow. After these come
+/// 255 configurations, and a search that tries more, before all configurations are kept. If 512 or more events
+/// come before calls overlap, and others follow, the short search and the rows come first instead, and then what
+/// follows these events is judged by itself, as it is again with up to `limit` configurations before all are kept.
+/// Identifiers that a call returns have to be in ascending order.
 /// Errors: `NoMemory` if an allocation failed.
 /// Takes memory for the configurations: in a list of up to 255 each has a copy of the server's records, as
 /// long as 128 MiB hold these by an estimate; others share those of one server. Those that later returns allow

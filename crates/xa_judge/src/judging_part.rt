@@ -16,7 +16,8 @@ use xa_xid::NoMemory;
 /// sessions that always call do with one row.
 const MIDDLE: usize = 255;
 
-/// Returns the verdict on one part of a record, if one is found with no more than `limit` configurations.
+/// Returns the verdict on one part of a record, if one is found; else None. `limit` bounds the configurations that are
+/// kept; the searches for one order have bounds of their own (`SearchSize`).
 ///
 /// May return `NoMemory`.
 pub fn judge_part(
@@ -42,5 +43,6 @@ pub fn judge_part(
     if let Some(verdict) = judge_by_search(alloc, base, events, limit, whole, &mut Silent)? {
         return Ok(Some(verdict));
     }
+    // At last as many configurations as are allowed, since no cheaper way gave a verdict.
     judge_kept(alloc, base, events, limit, limit, &mut Silent)
 }

@@ -25,8 +25,11 @@ const MUCH: usize = 128;
 /// ones are in blocks, which several share too. A contract sees the server's state.
 #[derive(Drop)]
 pub struct KeptServer {
+    /// The other server, before the requests.
     base: Arc<Server>,
+    /// The older requests.
     before: Vec<DoneBlock>,
+    /// The requests after them.
     since: Vec<Done>,
     alloc: Global,
 }
@@ -43,7 +46,7 @@ impl Model for KeptServer {
     ghost view = { λ kept. state_since (state_past kept.base.value kept.before.items) kept.since.items };
 }
 
-/// Has a server carry out requests that another server in the same state carried out.
+/// Has a server carry out these requests, in order.
 fn carry_out_all(server: &mut Server, since: &[Done]) -> Result<(), NoMemory>
     ensures { OnOk result (server.new ≡ state_since server.old since.now) }
 {
@@ -54,7 +57,7 @@ fn carry_out_all(server: &mut Server, since: &[Done]) -> Result<(), NoMemory>
     Ok(())
 }
 
-/// Has a server carry out the requests of the blocks.
+/// Has a server carry out the requests of these blocks, in order.
 fn carry_out_blocks(server: &mut Server, before: &[DoneBlock]) -> Result<(), NoMemory>
     ensures { OnOk result (server.new ≡ state_past server.old before.now) }
 {
@@ -93,7 +96,7 @@ impl KeptServer {
         self.alloc
     }
 
-    /// A copy that is kept over the same server.
+    /// A copy that is kept as this one is: the shared server isn't copied.
     fn copy(&self) -> Result<KeptServer, NoMemory>
         ensures { IfOk result (λ copy. copy ≡ self.now) }
     {
@@ -120,7 +123,7 @@ impl KeptServer {
         Ok(())
     }
 
-    /// Returns the server if it is kept as itself.
+    /// Returns the server if it is kept as itself: without requests that are still to be carried out. Else None.
     pub fn own(&self) -> Option<&Server>
         ensures { IfSome result (λ server. server.now ≡ self.now) }
     {
@@ -215,7 +218,7 @@ impl KeptServer {
         }
     }
 
-    /// Returns the server after the session's request, kept over the same one.
+    /// Returns the server after the session's request, kept as this one is, with one request more.
     ///
     /// May return `NoMemory`.
     pub fn after(&self, session: SessionNo, request: &SharedRequest) -> Result<KeptServer, NoMemory>
@@ -230,7 +233,7 @@ impl KeptServer {
         Ok(new)
     }
 
-    /// The server after the session's request, kept over the same one, and the answer.
+    /// The server after the session's request, kept as this one is, with one request more; and the answer.
     fn answered(
         &self,
         session: SessionNo,
@@ -255,6 +258,7 @@ impl KeptServer {
         ensures server { IfOk result (λ pair. pair.0 ≡ next_state self session request.now) }
         ensures answer { IfOk result (λ pair. pair.1 ≡ answer_to self session request.now) }
     {
+        // It isn't kept as itself: the request is kept behind the others.
         if !self.before.is_empty() || !self.since.is_empty() {
             return self.answered(session, request);
         }
@@ -269,6 +273,7 @@ impl KeptServer {
                 let answer = request.request().carry_out(&mut server, session)?;
                 Ok((KeptServer::of(alloc, server)?, answer))
             }
+            // Others share the server, so it mustn't change.
             Err(base) => KeptServer {
                 base,
                 before,

@@ -33,7 +33,7 @@ pub fn opening(alloc: Global, base: &Server) -> Result<Vec<Configuration>, NoMem
     Ok(known)
 }
 
-/// Whether a configuration of the list is known to be the same.
+/// Whether a configuration of the list is known to be the same as this one.
 fn is_among(known: &[Configuration], one: &Configuration) -> Result<bool, NoMemory>
     ensures { IfOk result (λ found. found ≡ true → Has known.now (config_of one.now)) }
 {
@@ -45,7 +45,7 @@ fn is_among(known: &[Configuration], one: &Configuration) -> Result<bool, NoMemo
     Ok(false)
 }
 
-/// Whether the list has this place, and the configuration there is known to be the same.
+/// Whether the list has this place, and the configuration there is known to be the same as this one.
 fn is_at(known: &[Configuration], place: usize, one: &Configuration) -> Result<bool, NoMemory>
     ensures { IfOk result (λ found. found ≡ true → Has known.now (config_of one.now)) }
 {
@@ -58,7 +58,7 @@ fn is_at(known: &[Configuration], place: usize, one: &Configuration) -> Result<b
     }
 }
 
-/// Whether one of the places with the configuration's fingerprint has one that is known to be the same.
+/// Whether at one of the places with this configuration's fingerprint stands one that is known to be the same.
 fn is_marked(
     known: &[Configuration],
     index: &mut FingerprintIndex,
@@ -67,6 +67,7 @@ fn is_marked(
     ensures { IfOk result (λ found. found ≡ true → Has known.now (config_of one.now)) }
 {
     let mut next = index.last_of(one)?;
+    // A fingerprint has no more places than the list.
     for _ in 0..known.len() {
         match next {
             None => return Ok(false),
@@ -81,7 +82,8 @@ fn is_marked(
     Ok(false)
 }
 
-/// Whether a configuration of the list is known to be the same.
+/// Whether a configuration of the list is known to be the same. In a long list only those with its fingerprint are
+/// looked at.
 fn is_known(
     known: &[Configuration],
     index: &mut FingerprintIndex,
@@ -92,6 +94,7 @@ fn is_known(
     if known.len() < LONG {
         return is_among(known, one);
     }
+    // The index lacks the places that were added while the list was short.
     index.catch_up(known)?;
     is_marked(known, index, one)
 }
@@ -113,8 +116,9 @@ pub fn add(
     index.note(known.len())
 }
 
-/// Returns the same configuration, kept as a list of `count` configurations keeps it whose servers have
-/// `records` records.
+/// Returns the same configuration. It gets a server of its own if memory has room for `count` such servers with
+/// `records` records each by the estimate, and `count` is less than `WIDE` or its server takes long to make again
+/// (`did_much`). Else its server stays as it is kept.
 ///
 /// May return `NoMemory`.
 pub fn fit(one: Configuration, count: usize, records: usize) -> Result<Configuration, NoMemory>
@@ -130,7 +134,8 @@ pub fn fit(one: Configuration, count: usize, records: usize) -> Result<Configura
     }
 }
 
-/// The configuration to which the session's act leads from the one at this place, kept as this list keeps it.
+/// The configuration `next`, to which the session's act leads from the one at this place, with its server kept as
+/// this list keeps it.
 fn fitting(
     known: &[Configuration],
     records: usize,
@@ -147,6 +152,7 @@ fn fitting(
     if known.len() < WIDE && has_room(known.len(), records) {
         return Ok(next);
     }
+    // Else its server is kept as that of the configuration that it comes from, with one request more.
     next.over(&known[place], session, act)
 }
 
@@ -172,7 +178,8 @@ fn add_next(
     index.note(known.len())
 }
 
-/// Adds what the session's act leads to from the configuration at this place.
+/// Adds what the session's act leads to from the configuration at this place, if it can take effect there, and unless
+/// one of the list is known to be the same.
 fn add_effect(
     known: &mut Vec<Configuration>,
     index: &mut FingerprintIndex,
@@ -268,6 +275,7 @@ fn add_others(
         return Ok(());
     }
     match SessionNo::of(number) {
+        // The number of a session is from 1 to 16.
         None => Ok(()),
         Some(session) => {
             add_effects(known, index, place, session)?;
@@ -293,6 +301,7 @@ fn add_all(
         → is_over returning.now (config_of one) ≡ false
         → AddsOnly returning.now (config_of one) known.old.items known.new.items) }
 {
+    // These are the numbers of all sessions.
     for number in 1..17 {
         add_others(known, index, place, number, returning)?;
     }
@@ -316,6 +325,7 @@ pub fn expand(
     ensures only { OnOk result ((one : Found) → slice_get known.old.items place ≡ Some one
         → AddsOnly returning.now (config_of one) known.old.items known.new.items) }
 {
+    // Acts after that answer can as well come after the return.
     if known[place].is_over(returning) {
         return Ok(());
     }

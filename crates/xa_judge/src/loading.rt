@@ -22,7 +22,7 @@ fn key_of(statement: &Statement) -> Option<&Key> {
     }
 }
 
-/// Returns the row that the event calls for, if it calls for one.
+/// Returns the row that the event's call reads or writes; None if the event is no call, or its call names no row.
 pub fn key_called(event: &Event) -> Option<&Key> {
     match event {
         Event::Call(_, request) => match request.request() {
@@ -36,6 +36,7 @@ pub fn key_called(event: &Event) -> Option<&Key> {
 /// Whether a call is at this place, and its return directly after it.
 fn is_alone(events: &[Event], place: usize) -> bool {
     match events.get(place) {
+        // This doesn't saturate: there is an event at `place`.
         Some(Event::Call(session, _)) => match events.get(place.saturating_add(1)) {
             Some(Event::Return(other, _)) => *session == *other,
             _ => false,
@@ -44,7 +45,9 @@ fn is_alone(events: &[Event], place: usize) -> bool {
     }
 }
 
-/// Returns how many events there are before calls overlap. Until then each call returns before the next one.
+/// Returns how many events there are before calls overlap: the record begins with so many that are pairs of a call and
+/// its return, directly after it. The count is even. It ends also where a client is lost, an answer stays unknown, or a
+/// call is the last event.
 pub fn count_alone(events: &[Event]) -> usize {
     for pair in 0..events.len() / 2 {
         let place = pair.saturating_mul(2);
@@ -52,6 +55,7 @@ pub fn count_alone(events: &[Event]) -> usize {
             return place;
         }
     }
+    // The last one of an odd number has no partner.
     events.len() / 2 * 2
 }
 
@@ -66,8 +70,9 @@ fn rows_called(alloc: Global, events: &[Event]) -> Result<BTreeSet<u64>, NoMemor
     Ok(rows)
 }
 
-/// Returns the server after the first events, in which calls don't overlap, but without the rows that no
-/// later event calls for.
+/// Returns a copy of the base, with all of its rows, that has carried out calls of the first events, which don't
+/// overlap: those that name no row, or one that a later event calls for. Rows are compared by their fingerprints, so a
+/// call of another row with an equal one is carried out too.
 ///
 /// May return `NoMemory`.
 pub fn server_for(
@@ -93,7 +98,7 @@ pub fn server_for(
     Ok(server)
 }
 
-/// Returns the moves through events in which calls don't overlap.
+/// Returns the moves through events in which calls don't overlap: each call takes effect directly after it is seen.
 ///
 /// May return `NoMemory`.
 pub fn moves_alone(alloc: Global, first: &[Event]) -> Result<Vec<Move>, NoMemory> {

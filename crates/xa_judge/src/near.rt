@@ -1,8 +1,9 @@
-//! Judges what comes after calls that don't overlap, on a server without the rows that this part doesn't
-//! name.
+//! Judges what comes after calls that don't overlap, on a server that lacks what those write outside branches to rows
+//! that this part doesn't name.
 //!
 //! A test bench often fills its tables first, one call after another. The answers to its other calls don't
-//! depend on rows that none of them names, and a server without these rows is soon copied.
+//! depend on rows that none of them names, and a server into which these weren't written is soon copied. The base's
+//! own rows all stay.
 ghost use Rattle.std.specs.Prelude.{◌≡◌, ◌+◌, ◌<◌, ◌^◌, ◌++◌, ℕ, true, false, length, IfOk, IfSome, OnOk};
 ghost use Rattle.std.specs.List.{All};
 ghost use Rattle.xa_server.specs.State.{State, association_of};
@@ -39,7 +40,7 @@ fn keys_called(alloc: Global, events: &[Event]) -> Result<BTreeSet<Key>, NoMemor
     Ok(keys)
 }
 
-/// Whether the request reads only rows with these keys.
+/// Whether the request reads only rows with these keys: true for all but a `GET` of another row, as only `GET` reads.
 fn reads_named(keys: &BTreeSet<Key>, request: &Request) -> bool
     ensures { result ≡ true → ReadsNamed (named_in keys.now) request.now }
 {
@@ -61,7 +62,7 @@ fn calls_named(keys: &BTreeSet<Key>, event: &Event) -> bool
     }
 }
 
-/// Whether that is so of all events.
+/// Whether each of the events that is a call reads only rows with these keys.
 fn all_named(keys: &BTreeSet<Key>, events: &[Event]) -> bool
     ensures { result ≡ true → All (CallsNamed (named_in keys.now)) events.now }
 {
@@ -88,6 +89,7 @@ fn tells_free(reply: &Reply) -> bool
 fn is_free(server: &Server, session: SessionNo) -> Result<bool, NoMemory>
     ensures { IfOk result (λ free. free ≡ true → association_of server.now session ≡ Association.Free) }
 {
+    // XA END is refused as `tells_free` says, whatever it names, only if the session has nothing open.
     let xid = Xid {
         format_id: 0,
         gtrid: Bytes::new(),
@@ -99,7 +101,8 @@ fn is_free(server: &Server, session: SessionNo) -> Result<bool, NoMemory>
     Ok(free)
 }
 
-/// Whether the key is none of these, and the session has nothing open.
+/// Whether a session's write of the row with this key is apart: the key is none of `keys`, and the session is known
+/// to have nothing open.
 fn is_apart(
     server: &Server,
     keys: &BTreeSet<Key>,
@@ -115,7 +118,8 @@ fn is_apart(
     is_free(server, session)
 }
 
-/// Whether the session's statement only writes a row with another key than these, outside a branch.
+/// Whether the session's statement is a `PUT` or `DEL` of a row with another key than these, known to be outside a
+/// branch. Then a server near this one is near it after the statement too, without carrying it out.
 fn is_left_out(
     server: &Server,
     keys: &BTreeSet<Key>,
@@ -138,7 +142,8 @@ fn is_left_out(
     }
 }
 
-/// Has the near server carry out the session's statement, or leaves it out if that is possible.
+/// Has the near server carry out the session's statement, or leaves it out if `is_left_out` allows that. `full` isn't
+/// changed.
 #[tactic(auto, using(crate::proofs::NearStates::near_after))]
 fn carry_out_near(
     full: &Server,
@@ -153,11 +158,13 @@ fn carry_out_near(
     if is_left_out(full, keys, session, statement)? {
         return Ok(());
     }
+    // Only the state is wanted: the answer is the full server's.
     let _reply = near.apply(session, statement)?;
     Ok(())
 }
 
-/// Does the same with the session's request.
+/// Has the near server carry out the session's request, or leaves it out as `carry_out_near` does. A text that isn't
+/// a statement does nothing.
 fn follow(
     full: &Server,
     near: &mut Server,
@@ -174,8 +181,8 @@ fn follow(
     }
 }
 
-/// Has the server carry out the call, and the near server what it needs of it. Answers whether what was seen
-/// shows the answer.
+/// Has the full server carry out the call, and the near server too, unless it can be left out there. Returns whether
+/// what the call's client saw shows the full server's answer.
 fn shows_alone(
     full: &mut Server,
     near: &mut Server,
@@ -189,14 +196,17 @@ fn shows_alone(
     ensures near { OnOk result (AreNear (named_in keys.now) full.old near.old
         → AreNear (named_in keys.now) full.new near.new) }
 {
+    // Only the contract needs it: the number of a session is from 1 to 16.
     let _number = call.session.get();
+    // The near server goes first: what can be left out is told by the full server before the call.
     follow(full, near, keys, call.session, call.request)?;
     let answer = call.request.carry_out(full, call.session)?;
     Ok(call.seen.shows(&answer))
 }
 
-/// A server near the one after the first events, without the rows with other keys; or None if a call overlaps
-/// another one, or wasn't answered so.
+/// Carries the first events out on two copies of the base. The second leaves out what `is_left_out` allows: writes,
+/// outside a branch, of rows with other keys. Returns the second; None if an event isn't one of a call and its return
+/// directly after it, or if what a client saw doesn't show the first copy's answer.
 fn loaded(base: &Server, first: &[Event], keys: &BTreeSet<Key>) -> Result<Option<Server>, NoMemory>
     ensures { IfOk result (λ found. IfSome found
         (λ near. (full : State) × IsLoadedTo base.now first.now full × AreNear (named_in keys.now) full near)) }
@@ -217,8 +227,8 @@ fn loaded(base: &Server, first: &[Event], keys: &BTreeSet<Key>) -> Result<Option
     Ok(Some(near))
 }
 
-/// The verdict LEGAL, if the moves for the later events lead on from those for the first events, in which
-/// calls don't overlap.
+/// The verdict LEGAL, if `later`, the moves for the events after the first ones, lead on from those for the first ones,
+/// in which calls don't overlap; else None.
 fn legal_behind(
     alloc: Global,
     base: &Server,
@@ -242,7 +252,8 @@ fn legal_behind(
     }
 }
 
-/// The verdict on all events, by one on the later events and a server near the one to which the first events lead.
+/// The verdict on all events, by `found`, the one on the later events and a server near the one to which the first
+/// events lead. None if that is UNDECIDED, or if its moves don't lead on from those for the first events.
 fn verdict_behind(
     alloc: Global,
     base: &Server,
@@ -261,12 +272,14 @@ fn verdict_behind(
     ensures seen { IfOk result (λ whole. IfSome whole
         (λ verdict. seen_for events.now verdict ≡ length first.now + seen_for later.now found)) }
 {
+    // Only the contract names them.
     let (_near, _later) = (near, later);
     match found {
         Verdict::Legal(moves) => {
             let whole = legal_behind(alloc, base, events, first, moves.as_slice(), limit)?;
             Ok(whole)
         }
+        // Its place is counted from the first of the later events.
         Verdict::Illegal(place, answers) => {
             Ok(Some(Verdict::Illegal(first.len() + place, answers)))
         }
@@ -274,7 +287,9 @@ fn verdict_behind(
     }
 }
 
-/// The verdict by at most `width` configurations of the later events, if these are enough.
+/// The verdict on all events, by judging those in `later` on the server `near` with at most `width` configurations, and
+/// at most `limit`; None if these aren't enough, or if the moves that they give don't lead on from those for the
+/// `first` events.
 fn judge_later_kept<P: Progress>(
     alloc: Global,
     base: &Server,
@@ -297,7 +312,9 @@ fn judge_later_kept<P: Progress>(
     Ok(whole)
 }
 
-/// The verdict by the configurations of the later events that later returns allow, if these give one.
+/// The verdict on all events, by judging those in `later` on the server `near` with at most `limit` configurations, of
+/// which only those are kept that the returns of open calls allow (`judge_ahead`); None if that gives no verdict on
+/// them, or if its moves don't lead on from those for the `first` events.
 fn judge_later_ahead(
     alloc: Global,
     base: &Server,
@@ -318,8 +335,9 @@ fn judge_later_ahead(
     }
 }
 
-/// The verdict by the later events, if they give one with the configurations that later returns allow, or with at most
-/// `width`.
+/// The verdict on all events, by judging those in `later` on `near`, a server near the one to which the `first` ones
+/// lead: with the configurations that the returns of open calls allow (`judge_ahead`), at most `limit`; or else with
+/// all configurations, at most `width` and at most `limit`. None if neither gives one.
 fn judge_later<P: Progress>(
     alloc: Global,
     base: &Server,
@@ -338,6 +356,8 @@ fn judge_later<P: Progress>(
     ensures told { IfOk result (λ found. IsToldOf P.judged_gives events.now found progress.old progress.new) }
 {
     let ahead = judge_later_ahead(alloc, base, events, first, near, later, limit)?;
+    // That doesn't tell how far it is, so `progress` is told now, if there is a verdict. `judge_later_kept` tells it
+    // itself.
     match tell_verdict(base, events, ahead, limit, progress) {
         Some(verdict) => Ok(Some(verdict)),
         None => judge_later_kept(
@@ -346,9 +366,10 @@ fn judge_later<P: Progress>(
     }
 }
 
-/// Returns the verdict by what comes after calls that don't overlap, on a server without the rows that this
-/// part doesn't name; or None if that gives no verdict with the configurations that later returns allow, or with
-/// at most `width`.
+/// Returns the verdict by what comes after calls that don't overlap, on a server that lacks what those write outside
+/// branches to rows that this part doesn't name; or None if that gives no verdict, neither with the configurations that
+/// the returns of open calls allow, at most `limit`, nor with all configurations, at most `width` and at most `limit`.
+/// None also if one of the first calls returned something else than the server answers.
 ///
 /// May return `NoMemory`.
 pub fn judge_behind<P: Progress>(
@@ -364,8 +385,10 @@ pub fn judge_behind<P: Progress>(
     ensures verdict { IfOk result (λ found. IfSome found (IsVerdict base.now events.now limit)) }
     ensures told { IfOk result (λ found. IsToldOf P.judged_gives events.now found progress.old progress.new) }
 {
+    // `count_alone` is never more, but promises nothing, and `split_at` requires it.
     let (first, later) = events.split_at(count_alone(events).min(events.len()));
     let keys = keys_called(alloc, later)?;
+    // All are, since `keys` has every row that a later call names. The proof rests on looking at each.
     if !all_named(&keys, later) {
         return Ok(None);
     }

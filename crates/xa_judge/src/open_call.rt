@@ -5,6 +5,6 @@
 pub struct OpenCall {
     /// The place of the call, if there is an open one.
     pub call: Option<usize>,
-    /// The place where it returns, if that is known; one after all events, if it isn't heard of any more.
+    /// The place where it returns, if that is known; a place after all events, if it isn't heard of any more.
     pub returns: Option<usize>,
 }

@@ -1,4 +1,5 @@
-//! What a step of a session's own branch is, and whether other sessions' calls leave it aside.
+//! What a step of a session's own branch is, and whether other sessions' open calls have nothing to do with it or are
+//! answered only after it.
 ghost use Rattle.std.specs.Prelude.{◌≡◌, ◌≢◌, true, false, Some, None, List, ℕ, slice_get, length, drop, IfOk, OnOk};
 ghost use Rattle.xa_server.specs.State.{association_of};
 ghost use Rattle.xa_server.specs.Overview.{keys_about};
@@ -47,13 +48,13 @@ fn is_accepted(server: &KeptServer, session: SessionNo, request: &Request) -> Re
 fn has_active(server: &KeptServer, session: SessionNo, xid: &Xid) -> Result<bool, NoMemory>
     ensures { IfOk result (λ yes. yes ≡ true → association_of server.now session ≡ Active xid.now) }
 {
-    // XA END is accepted exactly of the branch that the session has open.
+    // XA END is accepted exactly of the session's ACTIVE branch. An IDLE one is open too, and its XA END is refused.
     let request = Request::Statement(Statement::End(xid.copy()));
     let yes = is_accepted(server, session, &request)?;
     Ok(yes)
 }
 
-/// Whether the statement for this request, which names the branch or not, is accepted.
+/// Whether `named`, the branch that the request names, is the branch `xid`, and the request would be answered OK.
 fn accepts_named(
     server: &KeptServer,
     session: SessionNo,
@@ -85,7 +86,9 @@ fn has_row(server: &KeptServer, session: SessionNo, key: &Key, xid: &Xid) -> Res
     Ok(yes)
 }
 
-/// Whether the statement is a step of the session's own branch, if it is about these rows.
+/// Whether the session's statement, which is its request, is a step of this branch: it names the branch and would be
+/// answered OK, or it names a row that no other branch holds, and the session has the branch ACTIVE. `rows` has the
+/// rows that it is about.
 fn is_step(
     server: &KeptServer,
     session: SessionNo,
@@ -98,6 +101,7 @@ fn is_step(
     requires about { rows.now ≡ keys_about server.now session statement.now }
     ensures { IfOk result (λ yes. yes ≡ true → IsOwnStep server.now session statement.now xid.now rows.now) }
 {
+    // Only the contract needs the rows.
     let _rows = rows;
     match statement {
         Statement::Start(named) => {
@@ -132,11 +136,14 @@ fn is_step(
             let yes = has_row(server, session, key, xid)?;
             Ok(yes)
         }
+        // Others are no steps of a branch: `XA RECOVER`, `DISCONNECT`, and what isn't supported.
         _ => Ok(false),
     }
 }
 
-/// Whether what is known of the open call of the session of this number leaves the step aside.
+/// Whether the open call of the session of this number, of which `entry` is known, is known to have nothing to do with
+/// the step `one` of `session`'s branch `xid`, or to be answered only after it. Its return is sought among the events
+/// at `from` and later. True also for the step's own call, and if the entry doesn't say what was called for.
 fn is_open_aside(
     events: &[Event],
     from: usize,
@@ -168,7 +175,8 @@ fn is_open_aside(
     }
 }
 
-/// Whether that is so of what is known at this place.
+/// Whether the open call of the session of this number, if `places` has an entry for it, is as `is_open_aside` says;
+/// true if there is no entry.
 fn is_place_aside(
     events: &[Event],
     from: usize,
@@ -189,7 +197,9 @@ fn is_place_aside(
     }
 }
 
-/// Tells whether all that other sessions have called for leaves the step aside.
+/// Tells whether each call that other sessions have open, as far as `places` knows it, is known to have nothing to do
+/// with the step `one` of `session`'s branch `xid`, which changes values only of `rows`, or to be answered only after
+/// it. The calls' returns are sought among the events at `from` and later. False may mean that it isn't known.
 pub fn are_open_aside(
     events: &[Event],
     from: usize,
@@ -210,7 +220,9 @@ pub fn are_open_aside(
     true
 }
 
-/// Tells whether the session has called for this, and that is a step of its own branch now, about these rows.
+/// Tells whether in the configuration `one` the session has called for this statement, which is its request, and that
+/// is known to be a step of its branch `xid` now: it is accepted, and changes only this branch and values only of
+/// `rows`, the rows that it is about. False may mean that it isn't known.
 ///
 /// May return `NoMemory`.
 pub fn takes_step(

@@ -46,20 +46,23 @@ pub fn is_nobody(turn: Turn) -> bool
     }
 }
 
-/// The part of a statement on a row, if it may stand in one.
+/// The part of a statement on a row: `true` for the chosen one, `false` for the rest. `keys` has the chosen rows, and
+/// `turn` is the session's before it calls. None if the statement may stand in neither.
 fn part_of_row(keys: &BTreeSet<Key>, turn: Turn, key: &Key) -> Option<bool>
     ensures { IfSome result (λ side. FitsRow (named_in keys.now) turn key.now side) }
 {
     if keys.contains(key) {
+        // Only a session that has no open call and no branch may call for a chosen row.
         if is_nobody(turn) { Some(true) } else { None }
     } else if is_chosen(turn) {
+        // Its open call has to end in the chosen part first.
         None
     } else {
         Some(false)
     }
 }
 
-/// The part of a call, if it may stand in one.
+/// The part of a call: `true` for the chosen one, `false` for the rest. None if it may stand in neither.
 fn part_of_call(
     keys: &BTreeSet<Key>,
     turn: Turn,
@@ -68,21 +71,26 @@ fn part_of_call(
 ) -> Option<bool>
     ensures { IfSome result (λ side. FitsTurn (named_in keys.now) turn (Event.Call session request.now) side) }
 {
+    // Only the contract needs the session.
     let _session = session;
     match request {
         Request::Statement(Statement::Get(key)) => part_of_row(keys, turn, key),
         Request::Statement(Statement::Put(key, _)) => part_of_row(keys, turn, key),
         Request::Statement(Statement::Del(key)) => part_of_row(keys, turn, key),
+        // It names no row, so it is of the rest. An open call in the chosen part would have to end there first.
         _ => { if is_chosen(turn) { None } else { Some(false) } }
     }
 }
 
-/// The part of an event, if it may stand in one.
+/// The part of an event: `true` for the chosen one, `false` for the rest. `turn` is its session's before it. None if it
+/// may stand in neither: a call as `part_of_call` says, and the loss of a client with an open call in the chosen part,
+/// as that call may take effect at any time later.
 fn part_of(keys: &BTreeSet<Key>, turn: Turn, event: &Event) -> Option<bool>
     ensures { IfSome result (λ side. FitsTurn (named_in keys.now) turn event.now side) }
 {
     match event {
         Event::Call(session, request) => part_of_call(keys, turn, *session, request.request()),
+        // What ends a call stands where the call does.
         Event::Return(_, _) => Some(is_chosen(turn)),
         Event::Lost(_) => { if is_chosen(turn) { None } else { Some(false) } }
         Event::Unknown(_) => Some(is_chosen(turn)),
@@ -96,7 +104,7 @@ fn is_start(request: &Request) -> bool
     matches!(request, Request::Statement(Statement::Start(_)))
 }
 
-/// Whether its session has no branch once the request is accepted.
+/// Whether the session of the request has no branch once the request is accepted.
 fn is_ending(request: &Request) -> bool
     ensures { result ≡ is_ending_of request.now }
 {
@@ -120,10 +128,13 @@ fn turn_within(request: &Request) -> Turn
     }
 }
 
-/// The turn of a session that has called in the other part.
+/// The turn of a session after a call that belongs to the rest; `turn` is the one before it. A session without a branch
+/// may have one only after an `XA START`.
 fn turn_called(turn: Turn, request: &Request) -> Turn
     ensures { result ≡ called_turn turn request.now }
 {
+    // With a call still open (`Chosen`, `Other`, `Rest`, `Ending`) this one can't be seen. It counts as one of a
+    // session that may have a branch.
     match turn {
         Turn::Nobody => {
             if is_start(request) {
@@ -140,7 +151,8 @@ fn turn_called(turn: Turn, request: &Request) -> Turn
     }
 }
 
-/// The turn of a session whose call has returned.
+/// The turn of a session whose call has returned this. It has no branch after a call that leaves it without one
+/// (`Chosen`, `Other`), and after an `OK` to an ending request; else it may have one.
 fn turn_returned(turn: Turn, seen: &Seen) -> Turn
     ensures { result ≡ returned_turn turn seen.now }
 {
@@ -161,7 +173,8 @@ fn turn_returned(turn: Turn, seen: &Seen) -> Turn
     }
 }
 
-/// The turn of a session whose call returned nobody knows what.
+/// The turn of a session whose call is over with an answer that isn't known: without a branch after a call that leaves
+/// it without one (`Chosen`, `Other`); else it may have one, as an ending request may have been refused.
 fn turn_unheard(turn: Turn) -> Turn
     ensures { result ≡ turn_unknown turn }
 {
@@ -175,7 +188,7 @@ fn turn_unheard(turn: Turn) -> Turn
     }
 }
 
-/// Returns to which part the open call of the event's session belongs after it.
+/// Returns the turn of the event's session after it. `side` is `true` if the event stands in the chosen part.
 pub fn turn_past(turn: Turn, event: &Event, side: bool) -> Turn
     ensures { result ≡ turn_after turn event.now side }
 {
@@ -193,7 +206,8 @@ pub fn turn_past(turn: Turn, event: &Event, side: bool) -> Turn
     }
 }
 
-/// Returns turns of sessions that have no open call and no branch.
+/// Returns the turns before all events, one for each session's number and place 0: no session has an open call or a
+/// branch.
 ///
 /// May return `NoMemory`.
 #[tactic(auto, unfolding(crate::specs::Keys::first_turns))]
@@ -207,8 +221,8 @@ pub fn nobody(alloc: Global) -> Result<Vec<Turn>, NoMemory>
     Ok(turns)
 }
 
-/// Returns the part of each event: `true` for statements on rows with these keys, by sessions that have no branch
-/// then. Or None, if the record can't be cut so.
+/// Returns the part of each event: `true` for calls for rows with these keys, by sessions that have no branch then, and
+/// for the events that end these calls. Or None, if the record can't be cut so: an event may stand in neither part.
 ///
 /// May return `NoMemory`.
 pub fn sides_of(
@@ -223,6 +237,7 @@ pub fn sides_of(
     let mut sides = Vec::new(alloc);
     for event in events {
         let place = session_of(event).get() as usize;
+        // There is a turn for each session's number, so it isn't missing.
         let Some(turn) = turns.get(place) else {
             return Ok(None);
         };
@@ -235,7 +250,7 @@ pub fn sides_of(
     Ok(Some(sides))
 }
 
-/// Returns one more owner of what the event has.
+/// Returns the same event, as one more owner of its request or of what was seen.
 ///
 /// May return `NoMemory`.
 pub fn copy_of(event: &Event) -> Result<Event, NoMemory>
@@ -249,7 +264,8 @@ pub fn copy_of(event: &Event) -> Result<Event, NoMemory>
     }
 }
 
-/// Returns the events of one part.
+/// Returns the events of one part, in their order; `wanted` is `true` for the chosen one. `sides` has the part of each
+/// event.
 ///
 /// May return `NoMemory`.
 pub fn pick(
@@ -261,6 +277,7 @@ pub fn pick(
     ensures { IfOk result (λ part. part.items ≡ picked wanted sides.now events.now) }
 {
     let mut part = Vec::new(alloc);
+    // There are as many sides as events, but no contract says so. What only one list has is left out.
     for place in 0..sides.len().min(events.len()) {
         if sides[place] == wanted {
             part.push(copy_of(&events[place])?)?;
@@ -269,7 +286,8 @@ pub fn pick(
     Ok(part)
 }
 
-/// Returns how many events of one part come before this place.
+/// Returns how many events of one part come before this place: all of that part, if the place is past the end. `wanted`
+/// is `true` for the chosen one.
 pub fn count_before(sides: &[bool], wanted: bool, place: usize) -> usize
     ensures count { result ≡ count_in wanted (take place sides.now) }
     ensures few { result ≤ length sides.now }
@@ -283,7 +301,8 @@ pub fn count_before(sides: &[bool], wanted: bool, place: usize) -> usize
     count
 }
 
-/// Returns the place in the record of an event of one part, by its place there.
+/// Returns the place in the record of the event that has the place `index`, counted from 0, in one part; None if that
+/// has no more than `index` events. `wanted` is `true` for the chosen one.
 pub fn place_in(sides: &[bool], wanted: bool, index: usize) -> Option<usize>
     ensures at { IfSome result (λ place. slice_get sides.now place ≡ Some wanted) }
     ensures count { IfSome result (λ place. count_in wanted (take place sides.now) ≡ index) }
@@ -300,19 +319,22 @@ pub fn place_in(sides: &[bool], wanted: bool, index: usize) -> Option<usize>
     None
 }
 
-/// The moves of one part up to its next event, and this; the rest of them stays.
+/// Adds to `all` the moves of one part from the place `from` on, up to its next event and with it, or all if no event
+/// follows. Returns the place after what was added, from which the rest is to be taken.
 fn take_step(moves: &[Move], from: usize, all: &mut Vec<Move>) -> Result<usize, NoMemory> {
     for place in from..moves.len() {
         let by = moves[place];
         all.push(by)?;
         if by == Move::Event {
+            // This doesn't saturate: there is a move at `place`.
             return Ok(place.saturating_add(1));
         }
     }
     Ok(moves.len())
 }
 
-/// Returns moves through the record, by moves through its parts.
+/// Returns moves that may lead through the record, by moves through its parts; its caller has to check them. Acts come
+/// directly before the next event of their part, and those after its last event at the end.
 ///
 /// May return `NoMemory`.
 pub fn merge(
@@ -331,6 +353,7 @@ pub fn merge(
             in_rest = take_step(rest, in_rest, &mut all)?;
         }
     }
+    // Only acts are left, so the places after them aren't needed.
     let _chosen = take_step(chosen, in_chosen, &mut all)?;
     let _rest = take_step(rest, in_rest, &mut all)?;
     Ok(all)

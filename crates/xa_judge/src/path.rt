@@ -57,13 +57,14 @@ fn code_of(by: Move) -> u8
     }
 }
 
-/// The move of a code.
+/// The move of a code: from 1 to 16 a session's statement, from 17 to 32 its `DISCONNECT`, and else an event.
 #[tactic(auto, unfolding(crate::specs::Path::move_of))]
 fn move_at(code: u8) -> Move
     ensures { result ≡ move_of code }
 {
     match SessionNo::of(code as u64) {
         Some(session) => Move::Effect(session, Act::Statement),
+        // Of the smaller codes only 0 comes here. It stays 0, which is no session's number.
         None => match SessionNo::of(code.saturating_sub(DISCONNECT) as u64) {
             Some(session) => Move::Effect(session, Act::Disconnect),
             None => Move::Event,

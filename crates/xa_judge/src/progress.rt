@@ -9,8 +9,8 @@ use crate::so_far::SoFar;
 
 /// Takes note of how far judging is.
 pub trait Progress {
-    /// What taking note of this makes of a value. Who needs to know that its notes are right says more here
-    /// than that it may be anything.
+    /// How taking note changes a value: from the first one, by what is told, to the last one. If nothing is said
+    /// here, it may become anything; whoever has to know that the notes are right says more.
     ghost judged_gives: { Self → SoFar → Self → Type 0 } = { λ _ _ _. Unit {0} };
 
     /// Takes note of how far judging is.
@@ -32,8 +32,8 @@ impl Progress for Silent {
     fn judged(&mut self, _so_far: SoFar) {}
 }
 
-/// Tells that the event at this place is judged next, with these configurations. `before` others come before
-/// all of the events.
+/// Tells that the event at this place is judged next, with as many configurations as `known` has. `before` others,
+/// which count as judged, come before all of the events.
 pub fn tell<P: Progress>(
     progress: &mut P,
     before: usize,
@@ -61,8 +61,8 @@ fn tell_numbers<P: Progress>(progress: &mut P, done: usize, all: usize, configur
     progress.judged(SoFar::of(done as u64, all as u64, configurations as u64));
 }
 
-/// Tells of the first `count` events, one after another, with one configuration before each. That is for events
-/// that were judged in parts: a part doesn't tell how far the whole is.
+/// Tells of the first `count` events, one after another, with one configuration before each. That is for a verdict
+/// that was found without telling how far judging was.
 pub fn tell_first<P: Progress>(progress: &mut P, events: &[Event], count: usize)
     requires within { count ≤ length events.now }
     ensures { AreReports P.judged_gives IsSize 0 (length events.now) progress.old count progress.new }

@@ -43,7 +43,8 @@ fn is_outside(server: &KeptServer, session: SessionNo) -> Result<bool, NoMemory>
     Ok(says_none(&answer))
 }
 
-/// Whether the request changes nothing, now and at any time before the session does something else.
+/// Whether the request lists branches, or is known to read or leave while its session has no branch open: then it
+/// changes nothing, now and at any time before the session does something else.
 fn is_quiet(server: &KeptServer, session: SessionNo, request: &Request) -> Result<bool, NoMemory>
     ensures { IfOk result (λ quiet. quiet ≡ true → IsQuiet server.now session request.now) }
 {
@@ -55,7 +56,8 @@ fn is_quiet(server: &KeptServer, session: SessionNo, request: &Request) -> Resul
     }
 }
 
-/// Whether that is so whenever the call's return shows its answer.
+/// Whether the request is known to change nothing whenever the call's return, `seen`, shows its answer: the return
+/// shows a refusal, or `is_quiet` holds.
 fn is_quiet_for(
     server: &KeptServer,
     session: SessionNo,
@@ -72,7 +74,8 @@ fn is_quiet_for(
     }
 }
 
-/// Whether what the session called for is quiet, and its answer is what the call returns.
+/// Whether the request, which the session has called for, is known to change nothing (`is_quiet_for`), and would now be
+/// answered what the call returns, `seen`.
 fn can_settle_request(
     one: &Configuration,
     session: SessionNo,
@@ -90,7 +93,8 @@ fn can_settle_request(
     Ok(quiet)
 }
 
-/// Whether the session's call can take effect at once.
+/// Whether the session's call, which returns `seen`, is open and can take effect at once: it is known to change
+/// nothing, and would now be answered what it returns.
 fn can_settle(one: &Configuration, session: SessionNo, seen: &Seen) -> Result<bool, NoMemory>
     ensures { IfOk result (λ can. can ≡ true → CanSettle (config_of one.now) session seen.now) }
 {
@@ -104,7 +108,8 @@ fn can_settle(one: &Configuration, session: SessionNo, seen: &Seen) -> Result<bo
     }
 }
 
-/// Returns the configuration after the session's call, which returns this, has taken effect, if it can at once.
+/// Returns the configuration after the session's call, which returns `seen`, has taken effect, if it can at once: it is
+/// known to change nothing, and would now be answered what it returns. Else the same one.
 ///
 /// May return `NoMemory`.
 pub fn settled_one(
@@ -122,6 +127,7 @@ pub fn settled_one(
         return Ok(one);
     }
     match one.effected(session, Act::Statement, lists)? {
+        // Not so: its call is open.
         None => Ok(one),
         Some(next) => Ok(next),
     }
@@ -152,7 +158,7 @@ fn is_refused_now(
     Ok(is_refusal(&answer))
 }
 
-/// Whether the request lists branches, or reads or leaves outside of one.
+/// Whether the request lists branches, or reads or leaves while its session has no branch open: it changes nothing.
 fn is_read_outside(
     server: &KeptServer,
     session: SessionNo,

@@ -19,7 +19,7 @@ use std::alloc::Global;
 use xa_server::{Reply, Server};
 use xa_xid::{NoMemory, SessionNo};
 
-/// Whether the session has this answer.
+/// Whether the session is known to have this answer.
 fn has_answer(one: &Configuration, session: SessionNo, answer: &SharedAnswer) -> bool
     ensures { result ≡ true → slice_get one.now.clients.items session ≡ Some (Answered answer.now) }
 {
@@ -33,7 +33,8 @@ fn has_answer(one: &Configuration, session: SessionNo, answer: &SharedAnswer) ->
     }
 }
 
-/// The moves to the first of the kept configurations in which the session has this answer.
+/// The moves to the first of the kept configurations in which the session is known to have this answer; None if there
+/// is none.
 fn kept_way(
     front: &Frontier,
     session: SessionNo,
@@ -49,7 +50,8 @@ fn kept_way(
     Ok(None)
 }
 
-/// Whether an order to a kept configuration is one of the events, and gives the session this answer.
+/// Whether there is a kept configuration in which the session has this answer, and the moves to it lead through the
+/// events and give that answer.
 fn is_given(
     alloc: Global,
     base: &Server,
@@ -69,7 +71,7 @@ fn is_given(
     }
 }
 
-/// Whether such an order is found for each of the answers.
+/// Whether kept moves give the session each of the answers (`is_given`).
 fn are_given(
     alloc: Global,
     base: &Server,
@@ -100,9 +102,10 @@ fn shows_none(seen: &Seen, answers: &[SharedAnswer]) -> bool
     true
 }
 
-/// Returns the verdict ILLEGAL at the return at this place, if it shows none of these answers and each of them is
-/// given by some order of the `first` events, which are those before the place. `answers` has all that can be given.
-/// Orders are looked for among those to the kept configurations `front`.
+/// Returns the verdict ILLEGAL at the return at this place, which shows `seen` to the session, if that is none of these
+/// answers and each of them is given by some order of the `first` events, which are those before the place. `answers`
+/// has all that can be given. Orders are looked for among those to the kept configurations `front`. None if the verdict
+/// isn't found so, also if there are no answers.
 ///
 /// May return `NoMemory`.
 pub fn refuted(
@@ -124,7 +127,9 @@ pub fn refuted(
         → Contains answers.items answer }
     ensures { IfOk result (λ found. IfSome found (IsVerdict base.now events.now limit)) }
 {
+    // Only the contract names them.
     let (_events, _limit) = (events, limit);
+    // Moves that give an answer also show that an order explains the events before the place, so there must be one.
     if answers.is_empty() || !shows_none(seen, answers.as_slice()) {
         return Ok(None);
     }

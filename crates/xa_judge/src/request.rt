@@ -44,6 +44,7 @@ impl Request {
     {
         match self {
             Request::Statement(statement) => {
+                // The other part, whether it would be logged, says nothing of the answer.
                 Ok(Answer::Reply(server.reply(session, statement)?.0))
             }
             Request::Unread => Ok(Answer::Unread),

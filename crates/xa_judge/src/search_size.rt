@@ -13,6 +13,7 @@ impl SearchSize {
     /// Returns how many effects such a search may try through so many events: some for any record, and more for a
     /// longer one.
     pub fn effects(self, events: usize) -> u64 {
+        // The first number is for any record, the second for each event.
         let (any, each) = match self {
             SearchSize::Short => (30_000, 8),
             SearchSize::Whole => (500_000, 64),

@@ -18,8 +18,9 @@ use xa_xid::NoMemory;
 /// is tried: few are fast, and mostly enough.
 const WIDTHS: [usize; 3] = [8, 32, 256];
 
-/// Moves that may lead through all of the events, if the search finds some with this width and this many
-/// effects, which are taken off. `before` other events come before them.
+/// Moves that may lead through all of the events, if a search finds some that keeps at most `width` configurations at
+/// a time; else None. It gives up after about `left` effects, and takes those that it tried off `left`. `before` other
+/// events come before these; they only count for `progress`.
 fn moves_within<P: Progress>(
     alloc: Global,
     base: &Server,
@@ -47,14 +48,15 @@ fn moves_within<P: Progress>(
         }
         share(alloc, place, &mut trunk, &mut beam.known)?;
     }
+    // It isn't: it had one at first, and was looked at after each event. But `path_of` requires one.
     if beam.known.is_empty() {
         return Ok(None);
     }
     Ok(Some(path_of(trunk, beam.known.as_slice())?))
 }
 
-/// Moves that may lead through all of the events, if a search of this size finds some with any width. `before`
-/// other events come before them.
+/// Moves that may lead through all of the events, if a search of this size finds some with one of the `WIDTHS`, tried
+/// in turn; else None. `before` other events come before these; they only count for `progress`.
 fn moves_behind<P: Progress>(
     alloc: Global,
     base: &Server,
@@ -69,6 +71,7 @@ fn moves_behind<P: Progress>(
         (λ _. IsToldUpTo P.judged_gives (before + length events.now) (before + length events.now) progress.old
         progress.new)) }
 {
+    // So many effects may be tried with all widths together. Once none is left, the other widths give up at once.
     let mut left = size.effects(events.len());
     for width in WIDTHS {
         match moves_within(alloc, base, before, events, width, &mut left, progress)? {
@@ -80,11 +83,12 @@ fn moves_behind<P: Progress>(
 }
 
 /// Returns moves that may lead through all of the events, if a search of this size finds some. Its caller has to
-/// check them.
+/// check them. None says nothing about the events.
 ///
 /// The search looks at no order in which a call is answered otherwise than it returns. It keeps the
-/// configurations with the fewest stuck calls; first few, then more. It begins where calls overlap, on a
-/// server with only the rows that are named from there on.
+/// configurations with the fewest stuck calls, whose answers, given now, wouldn't be what they return; first few
+/// configurations, then more. It begins where calls overlap, on a server that hasn't carried out the calls before
+/// that which name rows that no later call names.
 /// May return `NoMemory`.
 pub fn moves_through<P: Progress>(
     alloc: Global,
@@ -97,6 +101,7 @@ pub fn moves_through<P: Progress>(
         (ArePasses P.judged_gives (length events.now) progress.old progress.new)
         (λ _. IsToldUpTo P.judged_gives (length events.now) (length events.now) progress.old progress.new)) }
 {
+    // `count_alone` is never more, but promises nothing, and `split_at` requires it.
     let (first, later) = events.split_at(count_alone(events).min(events.len()));
     let near = server_for(alloc, base, first, later)?;
     match moves_behind(alloc, &near, first.len(), later, size, progress)? {

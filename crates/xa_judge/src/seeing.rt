@@ -12,7 +12,8 @@ use crate::shared_request::SharedRequest;
 use xa_xid::{NoMemory, SessionNo};
 
 impl Configuration {
-    /// How far the session is once it calls, if it can.
+    /// How far the session is once it calls; None if it has an open call. A session whose client is gone may call too:
+    /// nobody hears the answer, and after its `DISCONNECT` the call does nothing.
     #[tactic(auto, unfolding(crate::specs::Explained::observed, crate::specs::Explained::called))]
     fn after_call(
         &self,
@@ -36,7 +37,7 @@ impl Configuration {
         }
     }
 
-    /// How far the session is once its call returns this, if it can.
+    /// How far the session is once its call returns this; None if it has no answer, or if its answer isn't shown so.
     #[tactic(auto, unfolding(crate::specs::Explained::observed, crate::specs::Explained::returned))]
     fn after_return(&self, session: SessionNo, seen: &Seen) -> Option<ClientState>
         ensures config { option_map (with_client (config_of self.now) session) result
@@ -59,7 +60,7 @@ impl Configuration {
         }
     }
 
-    /// How far the session is once its client is gone, if that can be.
+    /// How far the session is once its client is gone; None if it was gone before. An open call may still take effect.
     #[tactic(auto, unfolding(crate::specs::Explained::observed, crate::specs::Explained::lost))]
     fn after_loss(&self, session: SessionNo) -> Result<Option<ClientState>, NoMemory>
         ensures config { IfOk result (λ client. option_map (with_client (config_of self.now) session) client
@@ -78,7 +79,8 @@ impl Configuration {
         }
     }
 
-    /// How far the session is once its call is over with an answer that isn't known, if that can be.
+    /// How far the session is once its call is over with an answer that isn't known; None if it has no open call or its
+    /// client is gone. If the call hasn't taken effect, it never will.
     #[tactic(auto, unfolding(crate::specs::Explained::observed, crate::specs::Explained::answered_unknown))]
     fn after_unknown(&self, session: SessionNo) -> Option<ClientState>
         ensures config { option_map (with_client (config_of self.now) session) result
@@ -95,7 +97,8 @@ impl Configuration {
         }
     }
 
-    /// The configuration after an event that leaves the session so, if the event can be seen.
+    /// The configuration after an event that leaves the session in this state; None if there is no state: the event
+    /// can't be seen.
     fn seen_as(
         self,
         session: SessionNo,
@@ -112,7 +115,7 @@ impl Configuration {
         }
     }
 
-    /// Returns the configuration after the event, if it can be seen.
+    /// Returns the configuration after the event; None if it can't be seen here.
     ///
     /// May return `NoMemory`.
     pub fn observed(self, event: &Event) -> Result<Option<Configuration>, NoMemory>

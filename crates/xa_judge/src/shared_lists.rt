@@ -35,7 +35,8 @@ impl SharedLists {
         self.xids.clear();
     }
 
-    /// The identifier, to be shared: the one that is kept, if it is the same.
+    /// The identifier, to be shared: the one that is kept for its fingerprint, if it is the same; else a new one, which
+    /// is kept from now on in place of that.
     fn with_xid(&mut self, xid: &Xid) -> Result<SharedXid, NoMemory>
         ensures { IfOk result (λ shared. shared ≡ xid.now) }
     {
@@ -61,7 +62,8 @@ impl SharedLists {
         Ok(names)
     }
 
-    /// The list of these identifiers, to be shared: the one that is kept, if it is the same.
+    /// The list of these identifiers, to be shared: the one that is kept for its fingerprint, if it is the same; else a
+    /// new one, which is kept from now on in place of that.
     fn with_list(&mut self, xids: &[Xid]) -> Result<SharedAnswer, NoMemory>
         ensures { IfOk result (λ shared. shared ≡ Answer.Reply (Reply.Recovered xids.now)) }
     {

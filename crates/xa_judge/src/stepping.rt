@@ -1,4 +1,5 @@
-//! Steps of a session's branch that no other session has to do with until they return take effect at once.
+//! Steps of a session's branch take effect at once, if until they return each call of another session has nothing to do
+//! with them or is answered only after them.
 ghost use Rattle.std.specs.Prelude.{◌≡◌, false, drop, IfOk};
 ghost use Rattle.xa_judge.specs.Found.{config_of};
 ghost use Rattle.xa_judge.specs.Clear.{IsSteppedFor};
@@ -19,7 +20,9 @@ use crate::shared_lists::SharedLists;
 use std::alloc::Global;
 use xa_xid::{NoMemory, SessionNo, Statement, Xid};
 
-/// The configuration after the step, if the session can take it.
+/// The configuration after the session's statement, which is its request, has taken effect, if it is known to be a step
+/// of this branch now, and each call that other sessions have open, or make until it returns, to have nothing to do
+/// with it or to be answered only after it; else the same one. `from` is the place of the next event.
 fn stepped_one(
     kept: Configuration,
     events: &[Event],
@@ -45,12 +48,14 @@ fn stepped_one(
         return Ok(kept);
     }
     match kept.effected(session, Act::Statement, lists)? {
+        // Not so: `takes_step` saw that the call is open.
         None => Ok(kept),
         Some(next) => Ok(next),
     }
 }
 
-/// The configurations after the step, where the session can take it.
+/// The configurations, each after the step if the session can take it there (`stepped_one`), from the last one on. Of
+/// those that are known to be the same then one is kept.
 fn stepped_all(
     alloc: Global,
     mut known: Vec<Configuration>,
@@ -87,10 +92,11 @@ fn stepped_all(
     Ok(list)
 }
 
-/// How many events before a statement the start of its branch is looked for. A branch that takes longer is rare.
+/// How many events back from the next one the start of a branch is looked for. A branch that takes longer is rare.
 const FAR: usize = 4_096;
 
-/// The branch that the session's statement may be a step of, by what it called for before this place.
+/// The branch that the session's statement may be a step of: the one that it names, or for a statement on a row the one
+/// that the session called last to start before the place `from`. None if there is none, or it isn't found.
 fn branch_of(
     events: &[Event],
     from: usize,
@@ -106,11 +112,13 @@ fn branch_of(
         Statement::Get(_) => last_started(events, from, session),
         Statement::Put(_, _) => last_started(events, from, session),
         Statement::Del(_) => last_started(events, from, session),
+        // Others are no steps of a branch: `XA RECOVER`, `DISCONNECT`, and what isn't supported.
         _ => None,
     }
 }
 
-/// The branch that the session called last to start before this place.
+/// The branch that the session called last to start before the place `from`; None if it called for none among the `FAR`
+/// events before that.
 fn last_started(events: &[Event], from: usize, session: SessionNo) -> Option<Xid> {
     for back in 0..from.min(FAR) {
         if let Some(Event::Call(other, request)) = events.get(from - 1 - back)
@@ -123,8 +131,9 @@ fn last_started(events: &[Event], from: usize, session: SessionNo) -> Option<Xid
     None
 }
 
-/// The configurations after this call of the session has taken effect, where it is a step of the session's branch that
-/// comes first.
+/// The configurations, each after this request of the session has taken effect if there it is a step of the session's
+/// branch that may come first (`stepped_one`). They stay as they are if the request is no statement or its branch isn't
+/// found (`branch_of`), or if it is known that no event shows the request's answer.
 fn stepped_for(
     alloc: Global,
     known: Vec<Configuration>,
@@ -144,6 +153,7 @@ fn stepped_for(
     let Some(xid) = branch_of(events, from, session, statement) else {
         return Ok(known);
     };
+    // A call that isn't heard of any more was tried when it was made, before that was noted.
     if !may_be_heard(events, places, session) {
         return Ok(known);
     }
@@ -163,7 +173,8 @@ fn is_called(known: &[Configuration], session: SessionNo) -> bool {
     false
 }
 
-/// The same for the call of what is known at this number, if there is one.
+/// The configurations, each after the open call of the session of this number has taken effect if there it is a step
+/// that may come first (`stepped_one`). They stay as they are if `places` knows of no open call of that session.
 fn stepped_at(
     alloc: Global,
     known: Vec<Configuration>,
@@ -185,6 +196,7 @@ fn stepped_at(
     let Some(Event::Call(session, call)) = events.get(place) else {
         return Ok(known);
     };
+    // A call that has taken effect in all of them needs no more.
     if !is_called(known.as_slice(), *session) {
         return Ok(known);
     }
@@ -201,8 +213,9 @@ fn stepped_at(
     Ok(list)
 }
 
-/// Returns the configurations after each call before the place `from` has taken effect that is a step of its session's
-/// branch and comes before all that other sessions do until it returns, or else until the end. `places` has what is
+/// Returns the configurations, each after the calls open before the place `from` have taken effect that are there known
+/// to be steps of their sessions' branches which may come first: each call that other sessions have open, or make until
+/// the step returns or else up to the end, has nothing to do with it or is answered only after it. `places` has what is
 /// known of open calls.
 ///
 /// A step that had to wait for another call is tried again after each event.

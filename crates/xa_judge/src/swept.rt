@@ -9,6 +9,7 @@ pub enum Swept {
     Kept(Frontier),
     /// After the event at this place nothing is left. The returns up to the other place refute what was kept.
     Nothing(usize, usize),
-    /// Too many configurations have to be kept, or a client is gone with an open call.
+    /// It was given up: `effort` allows no more, a session calls whose client is gone with an open call, or an event
+    /// doesn't fit what is known.
     Unknown,
 }

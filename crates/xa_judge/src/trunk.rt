@@ -22,6 +22,7 @@ fn shorten(trunk: &mut Vec<Move>, known: &mut Vec<Configuration>) -> Result<(), 
         return Ok(());
     }
     match known.pop() {
+        // Not so: the list has one.
         None => Ok(()),
         Some(only) => {
             only.path.add_to(trunk)?;
@@ -42,7 +43,7 @@ pub fn path_of(mut trunk: Vec<Move>, known: &[Configuration]) -> Result<Vec<Move
     Ok(trunk)
 }
 
-/// Has the configurations share what led to several of them.
+/// Has the configurations share equal blocks of the moves and requests that led to them.
 fn fold_all(alloc: Global, known: &mut Vec<Configuration>) -> Result<(), NoMemory>
     ensures { OnOk result (known.new.items ≡ known.old.items) }
 {
@@ -55,7 +56,8 @@ fn fold_all(alloc: Global, known: &mut Vec<Configuration>) -> Result<(), NoMemor
     Ok(())
 }
 
-/// Has the configurations share what led to them, as far as possible, after the event at this place.
+/// Has the configurations share what led to them, as far as possible, after the event at this place: the path of the
+/// only one goes to the trunk, and every `APART` events equal blocks are shared.
 ///
 /// May return `NoMemory`.
 pub fn share(

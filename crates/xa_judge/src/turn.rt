@@ -13,6 +13,6 @@ pub enum Turn {
     Within,
     /// Its open call belongs to the rest, and it may have a branch.
     Rest,
-    /// The same, and it has no branch once that call is answered `OK`.
+    /// Its open call belongs to the rest. It may have a branch, and has none once the call is answered `OK`.
     Ending,
 }

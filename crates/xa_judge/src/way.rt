@@ -17,6 +17,6 @@ pub enum Way {
     LaterReturns,
     /// What comes after calls that don't overlap, by later returns, or by at most 255 configurations.
     BehindWide,
-    /// The same, by up to as many configurations as are allowed.
+    /// What comes after calls that don't overlap, by later returns, or by as many configurations as are allowed.
     BehindAll,
 }

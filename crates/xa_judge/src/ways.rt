@@ -20,8 +20,9 @@ use xa_xid::NoMemory;
 /// How many configurations are kept at first: most records need no more, and one that does is known soon.
 const NARROW: usize = 8;
 
-/// Judges the events with all configurations in which they can end. `before` other events were judged
-/// already; it only counts for `progress`.
+/// Judges the events by all configurations to which they can lead with acts as late as they can be. If acts that may
+/// have to come before an event are found to lead to more than `limit` different ones, the verdict is UNDECIDED.
+/// `before` other events were judged already; it only counts for `progress`.
 ///
 /// May return `NoMemory`.
 pub fn judge_in_breadth<P: Progress>(
@@ -55,7 +56,7 @@ pub fn judge_in_breadth<P: Progress>(
     Ok(Verdict::Legal(path_of(trunk, known.as_slice())?))
 }
 
-/// Returns the verdict with at most `width` configurations, if these are enough, and `limit` too.
+/// Returns the verdict with at most `width` configurations, and at most `limit`; or None, if these aren't enough.
 ///
 /// May return `NoMemory`.
 pub fn judge_kept<P: Progress>(
@@ -76,7 +77,7 @@ pub fn judge_kept<P: Progress>(
     }
 }
 
-/// Returns the verdict with at most `NARROW` configurations, if these are enough.
+/// Returns the verdict with at most `NARROW` configurations, and at most `limit`; or None, if these aren't enough.
 ///
 /// May return `NoMemory`.
 pub fn judge_narrow<P: Progress>(
@@ -92,7 +93,8 @@ pub fn judge_narrow<P: Progress>(
     judge_kept(alloc, base, events, NARROW, limit, progress)
 }
 
-/// Returns the verdict LEGAL, if a search of this size for one order finds moves that lead through all of the events.
+/// Returns the verdict LEGAL, if a search of this size for one order finds moves that lead through all of the events;
+/// or None, which says nothing about the events.
 ///
 /// May return `NoMemory`.
 pub fn judge_by_search<P: Progress>(
@@ -118,8 +120,8 @@ pub fn judge_by_search<P: Progress>(
     }
 }
 
-/// Returns the verdict, if it is one that says whether an order explains the events. It was found without telling how
-/// far judging was, so that is told here.
+/// Returns what was found, if it is LEGAL or ILLEGAL, else None. It was found without telling how far judging was, so
+/// each event up to what decides is told here.
 pub fn tell_verdict<P: Progress>(
     base: &Server,
     events: &[Event],
@@ -131,6 +133,7 @@ pub fn tell_verdict<P: Progress>(
     ensures verdict { IfSome result (IsVerdict base.now events.now limit) }
     ensures told { IsToldOf P.judged_gives events.now result progress.old progress.new }
 {
+    // Only the contract names them.
     let (_base, _limit) = (base, limit);
     match found {
         None => None,
@@ -139,6 +142,7 @@ pub fn tell_verdict<P: Progress>(
             Some(Verdict::Legal(moves))
         }
         Some(Verdict::Illegal(place, answers)) => {
+            // The event at the place was judged too: it decides.
             tell_first(progress, events, place + 1);
             Some(Verdict::Illegal(place, answers))
         }

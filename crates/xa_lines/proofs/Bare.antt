@@ -7,7 +7,7 @@ use Rattle.xa_xid.specs.Bytes.{unblank}
 use Rattle.xa_lines.specs.Script.{lines_of, is_empty_line, is_comment_line}
 use Rattle.xa_lines.specs.Uncommented.{begins_commented, bare_line, bare_lines}
 
--- no line is left
+-- a text of no bytes has no lines
 lines-none : (text : List ℕ) → (length text == 0) ≡ true → lines_of text ≡ []
 unfolding lines_of
 lines-none [] empty = refl

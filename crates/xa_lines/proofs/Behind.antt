@@ -27,7 +27,7 @@ use Rattle.xa_lines.proofs.Listed.{key_listed}
 use Rattle.xa_lines.specs.Shown.{keys_asked, keys_of_read, listing_after, StandsBehind, IsAnswerShown, IsShown}
 use Rattle.xa_lines.specs.Shown.{comment_text, unshown_text}
 
--- a session's statement, read or not, is answered, or memory is refused for it
+-- what may answer a session's statement, as its text was read, may answer a session's line with that text
 pub given_answer : (old new : State) (session : ℕ) (statement : List ℕ) (read : Result Statement ℕ) (text : List ℕ)
     → read_of statement ≡ read
     → IsStatementAnswer old session read text new → IsAnswerTo old (Given session statement) text new
@@ -38,7 +38,7 @@ given_answer old new session statement read text is (inr refused) =
     let P : Result Statement ℕ → Type 0 = λ r. MayBeRefused old session r in
     inr ((refused.0, subst P (sym is) refused.2), refused.1)
 
--- a reply that is told is the answer
+-- if the reply to a statement is told, and CONVERT XID makes no difference to it, that is the answer to the statement
 pub reply_answers : (state : State) (session : ℕ) (statement : Statement) (reply : Reply) (told : List ℕ)
     → reply ≡ reply_to state session statement
     → ((convert : Bool) → told ≡ answer_text (decimal session) (reply_text convert reply))
@@ -56,7 +56,7 @@ pub text_answered : {A E : Type 0} (items : A → List ℕ) (result : Result A E
 text_answered items (Ok answer) old new session read text may told then same given = inl (given ∙ told, then)
 text_answered items (Err fault) old new session read text may told then same given = inr (given, same, may)
 
--- memory may be refused for a list
+-- memory may be refused for an XA RECOVER
 pub list_refused : (state : State) (session : ℕ) (statement : Statement) → is_recover statement ≡ true
     → MayBeRefused state session (Ok statement)
 list_refused state session statement is = ap (λ b. b || (enters state session statement && makes_record statement)) is
@@ -72,7 +72,7 @@ refused_if-list : (b : Bool) (error : XaError) (reply : Reply) → is_list reply
 refused_if-list true error reply none = refl
 refused_if-list false error reply none = none
 
--- a list answers XA RECOVER alone
+-- the reply by the table is a list for XA RECOVER, and for nothing else
 table-list : (state : State) (association : Association) (statement : Statement)
     → is_list (table state association statement) ≡ is_recover statement
 unfolding table
@@ -117,7 +117,7 @@ table-list state Free Disconnect = refl
 table-list state (Active own) Disconnect = refl
 table-list state (Idle own) Disconnect = refl
 
--- memory may be refused for a reply that is a list
+-- memory may be refused for a statement whose reply is a list
 pub reply_answered : (state : State) (session : ℕ) (statement : Statement) (reply : Reply)
     → reply ≡ reply_to state session statement → is_list reply ≡ true
     → MayBeRefused state session (Ok statement)
@@ -133,7 +133,8 @@ behind : (old : State) (line : Line) (answer text rest : List ℕ) (new : State)
 behind old line answer text rest new is same shown =
     record { answer = answer; is = is; shown = subst (λ more. StandsBehind more answer text) same shown }
 
--- the listing stands behind the answer, or that memory was refused for it
+-- what is shown for a session's line is right if its answer is, and behind that stands the listing of the rows that the
+-- line is about, or that memory was refused for it
 pub given_shown : (old new : State) (session : ℕ) (statement : List ℕ) (read : Result Statement ℕ)
     (answer text : List ℕ) (keys : List (List ℕ))
     → read_of statement ≡ read → keys ≡ keys_of_read old session read
@@ -144,7 +145,8 @@ given_shown old new session statement read answer text keys is keys_are answered
     behind old (Given session statement) answer text (listing new keys) new answered
     (ap (listing new) (keys_are ∙ ap (keys_of_read old session) (sym is))) shown
 
--- no listing stands behind the answer, but that memory was refused for the rows that the line is about
+-- what is shown for a session's line that is about rows is right if its answer is, and behind that stands that memory
+-- was refused
 pub given_unshown : (old new : State) (session : ℕ) (statement : List ℕ) (read : Result Statement ℕ)
     (answer text : List ℕ)
     → read_of statement ≡ read → keys_of_read old session read ≢ []
@@ -166,7 +168,8 @@ pub blank_shown : (state : State) (text : List ℕ) → text ≡ [] → IsAnswer
 unfolding answer_of state_after_line listing_after
 blank_shown state text none = record { answer = text; is = inl (none, refl); shown = inl (sym (append-nil text)) }
 
--- behind the answer to a bad line stands the listing of no rows
+-- what is shown for a bad line is right if its answer is, and behind that stands the listing of branches and no rows,
+-- or that memory was refused for it
 pub bad_shown : (state : State) (answer text : List ℕ) (keys : List (List ℕ)) → keys ≡ []
     → answer ≡ answer_text (codes "-") (syntax_text 0)
     → StandsBehind (listing state keys) answer text → IsAnswerShown state Bad text state
@@ -174,21 +177,21 @@ unfolding answer_of state_after_line listing_after
 bad_shown state answer text keys none is shown =
     behind state Bad answer text (listing state keys) state (inl (is, refl)) (ap (listing state) none) shown
 
--- a comment is written as it is, or not at all if memory is short
+-- a comment is shown right if it is repeated, or that memory is refused for it is said, and nothing changes
 pub comment_shown : (old : State) (line text : List ℕ) (new : State) → true ≡ is_comment_line line
     → (text ≡ comment_text line) ⊎ (text ≡ unshown_text) → new ≡ old
     → IsShown old (Whole line) text new
 unfolding IsShown
 comment_shown old line text new is shown same = rw (sym is) (shown, same)
 
--- a line that is no comment is answered as what it says
+-- a line that is no comment is shown right if it is shown as what it says
 pub line_shown : (old : State) (line text : List ℕ) (new : State) → false ≡ is_comment_line line
     → IsAnswerShown old (line_of line) text new
     → IsShown old (Whole line) text new
 unfolding IsShown
 line_shown old line text new is shown = rw (sym is) shown
 
--- a line that is too long is answered as a bad one
+-- a line that is too long is shown right if it is shown as a bad one
 pub long_shown : (old : State) (text : List ℕ) (new : State) → IsAnswerShown old Bad text new
     → IsShown old TooLong text new
 unfolding IsShown

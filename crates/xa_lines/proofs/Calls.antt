@@ -12,15 +12,17 @@ use Rattle.xa_lines.specs.declared.script_fault.ScriptFault.{ScriptFault}
 use Rattle.xa_lines.specs.declared.script_fault.ScriptFault.TheVariants.{Read, Write, NoMemory}
 
 module _ {S : Type 0} (passes : S → List ℕ → S → Type 0) where
+  -- no calls pass no bytes
   pub carries_none : (stream : S) → Carries passes 0 stream [] stream
   unfolding Carries
   carries_none stream = (refl, refl)
 
+  -- no calls pass bytes that are none
   pub carries_empty : (stream : S) (bytes : List ℕ) → bytes ≡ [] → Carries passes 0 stream bytes stream
   unfolding Carries
   carries_empty stream bytes none = (refl, none)
 
-  -- one call more
+  -- after calls, one more that passes at least one byte: all of them pass the bytes of both
   pub carries_more : (count : ℕ) (old mid new : S) (before piece bytes : List ℕ) → Carries passes count old before mid
       → passes mid piece new
       → 0 < length piece → bytes ≡ before ++ piece → Carries passes (count + 1) old bytes new
@@ -30,7 +32,7 @@ module _ {S : Type 0} (passes : S → List ℕ → S → Type 0) where
       let P : ℕ → Type 0 = λ n. Carries passes n old bytes new in
       subst P next (mid, before, piece, done, now, some, is)
 
-  -- calls after others
+  -- calls, and then others: all of them pass the bytes of both
   pub carries_joined : (first second : ℕ) (old mid new : S) (before after : List ℕ)
       → Carries passes first old before mid → Carries passes second mid after new
       → Carries passes (first + second) old (before ++ after) new
@@ -56,7 +58,7 @@ module _ {S : Type 0} (passes : S → List ℕ → S → Type 0) where
             ∙ sym (append_assoc before now.1 now.2),
       )
 
-  -- a read that gives nothing, after others
+  -- after fewer reads than are allowed, one that gives nothing: all was read
   pub read_to_end : (reads count n : ℕ) (old last new : S) (text piece : List ℕ) → n ≡ 0 → count < reads
       → Carries passes count old text last
       → passes last (take n piece) new → HasReadAll passes reads old text new
@@ -64,7 +66,7 @@ module _ {S : Type 0} (passes : S → List ℕ → S → Type 0) where
       let P : ℕ → Type 0 = λ k. passes last (take k piece) new in
       record { count = count; last = last; within = within; calls = calls; end = subst P none now }
 
-  -- a read that gives something, after others
+  -- after reads, one more that gives at least one byte: all of them give the text and that piece
   pub read_more : (count n : ℕ) (old mid new : S) (text piece : List ℕ) → 0 < n → n ≤ length piece
       → Carries passes count old text mid
       → passes mid (take n piece) new → Carries passes (count + 1) old (text ++ take n piece) new
@@ -72,7 +74,7 @@ module _ {S : Type 0} (passes : S → List ℕ → S → Type 0) where
       let longer : 0 < length (take n piece) = omega (arith, length-take n piece) in
       carries_more count old mid new text (take n piece) (text ++ take n piece) calls now longer refl
 
-  -- a write that takes something, after others
+  -- after the first bytes were written, a write that takes at least one of the rest: so many more were written
   pub written_next : (old mid new : S) (bytes : List ℕ) (written n : ℕ) → HasWritten passes old (take written bytes) mid
       → passes mid (take n (take (length bytes - written) (drop written bytes))) new → 0 < n
       → n ≤ length (take (length bytes - written) (drop written bytes))
@@ -88,22 +90,23 @@ module _ {S : Type 0} (passes : S → List ℕ → S → Type 0) where
             (take (written + n) bytes) before.1 now longer is,
       )
 
+  -- before the first write the whole is left
   pub written_none : (stream : S) (whole : List ℕ) → IsWrittenBut passes stream whole whole stream
   written_none stream whole = record { written = []; calls = (0, carries_none stream); parts = refl }
 
-  -- a part of the bytes
+  -- if the first bytes of a text were written, the others are left
   pub written_front : (old new : S) (bytes : List ℕ) (written : ℕ) → HasWritten passes old (take written bytes) new
       → IsWrittenBut passes old bytes (drop written bytes) new
   written_front old new bytes written calls =
       record { written = take written bytes; calls = calls; parts = sym (take-append-drop written bytes) }
 
-  -- what is still to be written is known in another form
+  -- what is left may be replaced by an equal text
   pub written_so : (old new : S) (whole left same : List ℕ) → left ≡ same → IsWrittenBut passes old whole left new
       → IsWrittenBut passes old whole same new
   written_so old new whole left same e w = let P : List ℕ → Type 0 = λ xs. IsWrittenBut passes old whole xs new in
       subst P e w
 
-  -- the whole of the next answer
+  -- if the next answer was written whole, what is left is what comes behind it
   pub written_then : (old mid new : S) (whole answer more : List ℕ) → IsWrittenBut passes old whole (answer ++ more) mid
       → HasWritten passes mid answer new
       → IsWrittenBut passes old whole more new
@@ -113,7 +116,7 @@ module _ {S : Type 0} (passes : S → List ℕ → S → Type 0) where
     parts = w.parts ∙ sym (append_assoc w.written answer more);
   }
 
-  -- a part of the next answer, and then a fault
+  -- if writing the next answer stopped at a fault, so did writing the whole
   pub stopped_then : (refuses : S → S → Type 0) (old mid new : S) (whole answer more : List ℕ)
       → IsWrittenBut passes old whole (answer ++ more) mid
       → StopsWriting passes refuses mid answer new → StopsWriting passes refuses old whole new
@@ -128,13 +131,14 @@ module _ {S : Type 0} (passes : S → List ℕ → S → Type 0) where
         refused = stops.refused;
       }
 
+  -- if nothing is left, all was written
   pub written_all : (old new : S) (whole left : List ℕ) → IsWrittenBut passes old whole left new → left ≡ []
       → HasWritten passes old whole new
   written_all old new whole left w none =
       let e : w.written ≡ whole = sym (w.parts ∙ ap (λ xs. w.written ++ xs) none ∙ append-nil w.written) in
       let P : List ℕ → Type 0 = λ xs. HasWritten passes old xs new in subst P e w.calls
 
--- reading stops where memory was refused
+-- after reads of no more bytes than are allowed, a fault NoMemory is one for which reading may stop
 pub stops_for_memory : {A S : Type 0} (gives : S → List ℕ → S → Type 0) (fails : S → S → Type 0) (reads most : ℕ)
     (old new : S) (result : Result A ScriptFault)
     (fault : ScriptFault) (text : List ℕ) → result ≡ Err fault → fault ≡ NoMemory → length text ≤ most
@@ -145,7 +149,7 @@ stops_for_memory {A} gives fails reads most old new result fault text is memory 
     let Q : ScriptFault → Type 0 = λ told. StopsReading gives fails reads most told old new in
     subst P (sym is) (subst Q (sym memory) (text, short, read))
 
--- reading stops at a read that failed
+-- after a read that failed, a fault Read is one for which reading may stop
 pub stops_for_fault : {A S : Type 0} (gives : S → List ℕ → S → Type 0) (fails : S → S → Type 0) (reads most : ℕ)
     (old new : S) (result : Result A ScriptFault)
     (passed fault : ScriptFault) → result ≡ Err passed → passed ≡ fault → fault ≡ Read
@@ -156,7 +160,7 @@ stops_for_fault {A} gives fails reads most old new result passed fault is same o
     let Q : ScriptFault → Type 0 = λ told. StopsReading gives fails reads most told old new in
     subst P (sym is) (subst Q (sym (same ∙ of_read)) (inl failed))
 
--- writing stops at a write that failed
+-- of a result that is an Err, what is to hold of an Err is enough
 pub writing_stopped : {A E : Type 0} (P : A → Type 0) (Q : Type 0) (result : Result A E) (fault : E)
     → result ≡ Err fault → Q → MatchResult result P (λ _. Q)
 writing_stopped {A} {E} P Q result fault is stops =
@@ -174,7 +178,7 @@ write_is : (P : ScriptFault → Type 0) (fault : ScriptFault) → fault ≡ Writ
 write_is P fault is holds = subst P (sym is) holds
 
 module _ {W : Type 0} (takes : W → List ℕ → W → Type 0) (refuses : W → W → Type 0) where
-  -- answering stops at a write that failed
+  -- if writing answers stopped at a write that failed, a fault Write that is passed on is why
   pub answers_stopped : {A : Type 0} (result : Result A ScriptFault) (passed fault : ScriptFault) (old new : W)
       (whole : List ℕ) → result ≡ Err passed
       → passed ≡ fault → fault ≡ Write → StopsWriting takes refuses old whole new
@@ -193,6 +197,7 @@ module _ {W : Type 0} (takes : W → List ℕ → W → Type 0) (refuses : W →
     run_stopped (Err fault) script old new before after read stops = inr (script, read, stops)
 
     module _ (reads most : ℕ) (IsText : List ℕ → List ℕ → Type 0) (IsOfText : List ℕ → ScriptFault → Type 0) where
+      -- after Ok: if a script was read, and its text was made, the job is complete once the text is written
       pub completed : {A : Type 0} (result : Result A ScriptFault) (script text : List ℕ) (old new : R)
           (before after : W) → HasReadAll gives reads old script new
           → IsText script text → MatchResult result (λ _. HasWritten takes before text after)
@@ -202,6 +207,7 @@ module _ {W : Type 0} (takes : W → List ℕ → W → Type 0) (refuses : W →
           record { script = script; text = text; read = read; is_text = is; written = written }
       completed (Err fault) script text old new before after read is stops = tt
 
+      -- after Err: if a script was read, and its text was made, the job stopped at a write that failed
       pub stopped_writing : {A : Type 0} (result : Result A ScriptFault) (script text : List ℕ) (old new : R)
           (before after : W)
           → HasReadAll gives reads old script new → IsText script text → IfErr result (λ fault. fault ≡ Write)
@@ -213,6 +219,7 @@ module _ {W : Type 0} (takes : W → List ℕ → W → Type 0) (refuses : W →
       stopped_writing (Err fault) script text old new before after read is of_write stops =
           inr (inr (of_write, record { script = script; text = text; read = read; is_text = is; stops = stops }))
 
+      -- if reading a script stopped with a fault that is passed on, that is why the job stopped
       pub stopped_reading : {A : Type 0} (result : Result A ScriptFault) (passed fault : ScriptFault) (old new : R)
           (before : W) → result ≡ Err passed
           → passed ≡ fault → StopsReading gives fails reads most fault old new
@@ -221,6 +228,7 @@ module _ {W : Type 0} (takes : W → List ℕ → W → Type 0) (refuses : W →
           passed_fault (λ told. Stops gives fails takes refuses reads most IsText IsOfText told old new before before)
           result passed fault is same (inl (stops, refl))
 
+      -- if a script was read, and a fault of what was made of it is passed on, that is why the job stopped
       pub stopped_making : {A : Type 0} (result : Result A ScriptFault) (passed fault : ScriptFault) (script : List ℕ)
           (old new : R) (before : W)
           → result ≡ Err passed → passed ≡ fault → HasReadAll gives reads old script new → IsOfText script fault

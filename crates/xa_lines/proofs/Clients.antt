@@ -1,4 +1,5 @@
--- The same of a client that says what has passed, or doesn't.
+-- The lemmas of `Under`, for a client of which it is known what has passed (`Some`), or isn't (`None`): then nothing is
+-- to be shown. A client can't change from one to the other.
 use Rattle.std.proofs.Common.{◌≡◌, ℕ, ◌==◌, ◌≤◌, ◌+◌, ◌-◌, ◌^◌, true, false, Option, Some, None, Result, Ok, Err, List}
 use Rattle.std.proofs.Common.{[], ◌∷◌, length, take}
 use Rattle.std.proofs.Common.{sym, subst, ◌∙◌, inl, inr, arith}
@@ -12,7 +13,7 @@ use Rattle.xa_lines.specs.declared.script_fault.ScriptFault.{ScriptFault}
 use Rattle.xa_lines.specs.declared.script_fault.ScriptFault.TheVariants.{Read, Write}
 use Rattle.xa_lines.proofs.Under as under
 
--- a text that was given leaves a client that more may be said to
+-- if a text was given without a fault to a client that more may be said to, more may still be said to it
 pub told_on : {A : Type 0} (E : Type 0) (x : A) (old new : Option Exchange) (text : List ℕ)
     → WritesText {E = E} old new (Ok x) text → IfSome old CanBeTold
     → IfSome new CanBeTold
@@ -23,7 +24,7 @@ told_on E x (Some old) (Some new) text written can = let P : Exchange → Type 0
     subst P (sym written) can
 
 module _ {S : Type 0} (Begins : S → Type 0) (Answers : S → Received → List ℕ → S → Type 0) where
-  -- a line is answered, with what became of telling so
+  -- the server answered the line, and this is the result of giving the answer to the client
   abbrev pub Answered : {A E : Type 0} → Option Exchange → Option Exchange → Result A E → Received → S → S → Type 0
   Answered old new result line server after =
       (answer : List ℕ) × Answers server line answer after × WritesText old new result answer
@@ -32,6 +33,8 @@ module _ {S : Type 0} (Begins : S → Type 0) (Answers : S → Received → List
   abbrev pub IsBegunAt : Option Exchange → Type 0
   IsBegunAt o = IfSome o (IsCutOff Begins Answers)
 
+  -- a line feed ended the line, and its answer was given: the conversation is under way without that byte, with no
+  -- byte of the next line
   pub feed_ok : {A E : Type 0} (old new : Option Exchange) (result : Result A E) (byte : ℕ) (line next : Received)
       (server after : S) → byte ≡ 10 → next ≡ Whole []
       → Answered old new result line server after
@@ -48,6 +51,7 @@ module _ {S : Type 0} (Begins : S → Type 0) (Answers : S → Received → List
       (subst P feed u)))
   feed_ok old new (Err e) byte line next server after feed cleared t = tt
 
+  -- a line feed ended the line, and giving its answer failed: the answers are begun, and the conversation is cut off
   pub feed_err : {A E : Type 0} (old new : Option Exchange) (result : Result A E) (byte : ℕ) (line : Received)
       (server after : S) → byte ≡ 10
       → Answered old new result line server after
@@ -62,6 +66,7 @@ module _ {S : Type 0} (Begins : S → Type 0) (Answers : S → Received → List
       (subst P feed u))
   feed_err old new (Ok x) byte line server after feed t = tt
 
+  -- a byte that is no line feed was put to the line: the conversation is under way without that byte waiting
   pub put_ok : (o : Option Exchange) (byte : ℕ) (line next : Received) (server : S) → (byte == 10) ≡ false
       → next ≡ longer line byte
       → (reads : ℕ) (waiting : List ℕ)
@@ -71,6 +76,8 @@ module _ {S : Type 0} (Begins : S → Type 0) (Answers : S → Received → List
   put_ok (Some e) byte line next server other is reads waiting u =
       under.put Begins Answers Open reads e byte waiting line next server other is u
 
+  -- after the client's end the last line, which has no line feed, was answered, and the answer given: all lines are
+  -- answered
   pub last_ok : {A E : Type 0} (old new : Option Exchange) (result : Result A E) (line : Received) (server after : S)
       → is_nothing line ≡ false
       → Answered old new result line server after
@@ -83,6 +90,7 @@ module _ {S : Type 0} (Begins : S → Type 0) (Answers : S → Received → List
       λ reads u. under.end_answered Begins Answers reads old new t.0 line server after some t.2 t.1 u
   last_ok old new (Err e) line server after some t = tt
 
+  -- after the client's end giving the answer to the last line failed: the conversation is cut off
   pub last_err : {A E : Type 0} (old new : Option Exchange) (result : Result A E) (line : Received) (server after : S)
       → is_nothing line ≡ false
       → Answered old new result line server after
@@ -94,6 +102,7 @@ module _ {S : Type 0} (Begins : S → Type 0) (Answers : S → Received → List
       λ reads u. under.end_begun Begins Answers reads old new t.0 t.2.0 line server after some t.2.1 t.1 u
   last_err old new (Ok x) line server after some t = tt
 
+  -- after the client's end nothing of a further line has come: all lines are answered
   pub last_nothing : (o : Option Exchange) (line : Received) (server : S) → is_nothing line ≡ true → (reads : ℕ)
       → UnderWay Begins Answers Ended reads o [] line server → IfSome o (IsAllAnswered Begins Answers)
   last_nothing None line server none reads u = tt
@@ -106,6 +115,7 @@ module _ {S : Type 0} (Begins : S → Type 0) (Answers : S → Received → List
   open_told reads None waiting line server u = tt
   open_told reads (Some e) waiting line server u = inl u.stage_is
 
+  -- more may be said in a conversation whose client has ended
   pub ended_told : (reads : ℕ) (o : Option Exchange) (waiting : List ℕ) (line : Received) (server : S)
       → UnderWay Begins Answers Ended reads o waiting line server
       → IfSome o CanBeTold
@@ -116,16 +126,19 @@ module _ {S : Type 0} (Begins : S → Type 0) (Answers : S → Received → List
   abbrev pub Ready : ℕ → Option Exchange → Received → S → Type 0
   Ready reads o line server = IfSome o (λ exchange. IsReady Begins Answers Open reads exchange line server)
 
+  -- a conversation in which nothing has passed is ready for more
   pub ready_fresh : (o : Option Exchange) (line : Received) (server : S) → IfSome o IsFresh → line ≡ Whole []
       → Begins server → Ready 0 o line server
   ready_fresh None line server fresh nothing begins = tt
   ready_fresh (Some e) line server fresh nothing begins = under.fresh Begins Answers e line server fresh nothing begins
 
+  -- in a conversation that is ready for more, all whole lines are answered, and the client was told so
   pub ready_ok : (reads : ℕ) (o : Option Exchange) (line : Received) (server : S) → Ready reads o line server
       → IfSome o (AwaitsMore Begins Answers)
   ready_ok reads None line server r = tt
   ready_ok reads (Some e) line server r = under.ready_answered Begins Answers reads e line server r
 
+  -- a read failed in a conversation that was ready for more: it is left as a fault Read leaves it
   pub receive_err : {E : Type 0} (reads : ℕ) (old new : Option Exchange) (e : E) (piece : List ℕ) (line : Received)
       (server : S) → Receives old new (Err e) piece
       → Ready reads old line server → IfSome new (AfterServing Begins Answers Read)
@@ -135,6 +148,7 @@ module _ {S : Type 0} (Begins : S → Type 0) (Answers : S → Received → List
   receive_err reads (Some old) (Some new) e piece line server h r = let d =
       under.deaf Begins Answers reads old new line server h r in (d.0, inl d.1)
 
+  -- a read gave nothing: the client has ended, and no byte waits
   pub receive_end : (E : Type 0) (reads : ℕ) (old new : Option Exchange) (n : ℕ) (piece : List ℕ) (line : Received)
       (server : S) → (n == 0) ≡ true
       → Receives {E = E} old new (Ok n) piece → Ready reads old line server
@@ -145,6 +159,7 @@ module _ {S : Type 0} (Begins : S → Type 0) (Answers : S → Received → List
   receive_end E reads (Some old) (Some new) n piece line server none h r =
       under.received_end Begins Answers reads old new n piece line server none h r.1
 
+  -- a read gave bytes: there is one read more, and these bytes wait
   pub receive_some : (E : Type 0) (reads : ℕ) (old new : Option Exchange) (n : ℕ) (piece : List ℕ) (line : Received)
       (server : S) → (n == 0) ≡ false
       → n ≤ length piece → Receives {E = E} old new (Ok n) piece → Ready reads old line server
@@ -155,6 +170,7 @@ module _ {S : Type 0} (Begins : S → Type 0) (Answers : S → Received → List
   receive_some E reads (Some old) (Some new) n piece line server some within h r =
       under.received Begins Answers reads old new n piece line server some within h r.1
 
+  -- all was flushed when no byte waited: the conversation is ready for more
   pub flush_ok : {A : Type 0} (E : Type 0) (reads : ℕ) (old new : Option Exchange) (x : A) (line : Received)
       (server : S) → Flushes {E = E} old new (Ok x)
       → UnderWay Begins Answers Open reads old [] line server → Ready reads new line server
@@ -164,6 +180,7 @@ module _ {S : Type 0} (Begins : S → Type 0) (Answers : S → Received → List
   flush_ok E reads (Some old) (Some new) x line server f u =
       under.flushed Begins Answers Open reads old new line server f u
 
+  -- a flush failed when no byte waited: the conversation is cut off
   pub flush_err : (A : Type 0) {E : Type 0} (reads : ℕ) (old new : Option Exchange) (e : E) (line : Received)
       (server : S) → Flushes {A = A} old new (Err e)
       → UnderWay Begins Answers Open reads old [] line server → IsBegunAt new
@@ -173,6 +190,7 @@ module _ {S : Type 0} (Begins : S → Type 0) (Answers : S → Received → List
   flush_err A reads (Some old) (Some new) e line server f u =
       under.unflushed Begins Answers Open reads old new f.0 line server f.1 u
 
+  -- all lines were answered, and the last flush succeeded: the client is served
   pub served_ok : {A E : Type 0} (old new : Option Exchange) (result : Result A E) → Flushes old new result
       → IfSome old (IsAllAnswered Begins Answers)
       → OnOk result (IfSome new (IsServed Begins Answers))
@@ -182,6 +200,7 @@ module _ {S : Type 0} (Begins : S → Type 0) (Answers : S → Received → List
   served_ok (Some old) (Some new) (Ok x) f all = under.served Begins Answers old new f all
   served_ok old new (Err e) f all = tt
 
+  -- all lines were answered, and the last flush failed: the conversation is left as that fault, Write, leaves it
   pub served_err : {A : Type 0} (old new : Option Exchange) (result : Result A ScriptFault)
       → IfErr result (λ fault. fault ≡ Write) → Flushes old new result
       → IfSome old (IsAllAnswered Begins Answers)
@@ -194,11 +213,13 @@ module _ {S : Type 0} (Begins : S → Type 0) (Answers : S → Received → List
       let P : ScriptFault → Type 0 = λ fault. AfterServing Begins Answers fault new in
       subst P (sym of_write) (under.unserved Begins Answers old new f.0 f.1 all)
 
+  -- a conversation that is cut off is as a fault Write leaves it
   pub write_fault : (o : Option Exchange) (fault : ScriptFault) → fault ≡ Write → IsBegunAt o
       → IfSome o (AfterServing Begins Answers fault)
   write_fault o fault is begun = let P : ScriptFault → Type 0 = λ f. IfSome o (AfterServing Begins Answers f) in
       subst P (sym is) begun
 
+  -- after 2^64-1 reads a conversation that is ready for more is as a fault Read leaves it
   pub spent : (reads : ℕ) (o : Option Exchange) (line : Received) (server : S) → 2 ^ 64 - 1 ≤ reads
       → Ready reads o line server
       → IfSome o (AfterServing Begins Answers Read)
@@ -207,7 +228,7 @@ module _ {S : Type 0} (Begins : S → Type 0) (Answers : S → Received → List
       let a = under.ready_answered Begins Answers reads e line server r in let counted = r.1.counted in
       (a.1, inr (omega arith))
 
-  -- a write fault that is passed on
+  -- a conversation that is cut off is as a fault Write leaves it that is passed on
   pub passed_on : {A : Type 0} (o : Option Exchange) (answer : Result A ScriptFault) (passed fault : ScriptFault)
       → answer ≡ Err passed → passed ≡ fault
       → fault ≡ Write → IsBegunAt o → IfErr answer (λ f. IfSome o (AfterServing Begins Answers f))

@@ -1,11 +1,11 @@
--- How many elements pass a test from the front on, as `position` finds it.
+-- How many elements come before the first that passes a test, as `position` finds it.
 use Rattle.std.proofs.Common.{◌≡◌, ℕ, ◌≤◌, ltb, Bool, not, cond, Option, Some, None, List, length, arith}
 use Rattle.std.specs.List.{position_or_len}
 use Rattle.std.specs.Option.{unwrap_or}
 use Rattle.std.proofs.lemmas.Grind.{common_steps}
 use Rattle.std.proofs.lemmas.List.Sums.{prefix_len-le-length}
 
--- what `position` gives, or else the length
+-- the place that `position` gives, or else the length, is the number of elements before the first that passes the test
 pub from_position : (test : ℕ → Bool) (xs : List ℕ) (r : Option ℕ)
     → r ≡ cond (ltb (position_or_len test xs) (length xs)) (Some (position_or_len test xs)) None
     → unwrap_or r (length xs) ≡ position_or_len test xs

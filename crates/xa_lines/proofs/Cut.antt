@@ -11,7 +11,7 @@ use Rattle.xa_lines.specs.Script.{lines_of}
 use Rattle.xa_lines.specs.Received.{Whole, TooLong, received_line, longer, is_nothing, HasNoFeed, with_feed}
 use Rattle.xa_lines.specs.Received.{IsCutIntoLines}
 
--- the first line, where a line feed ends it
+-- if a text is a line without a line feed, a line feed and a rest, its lines are that line and the lines of the rest
 lines_of-feed : (line rest : List ℕ) → HasNoFeed line → lines_of (line ++ 10 ∷ rest) ≡ line ∷ lines_of rest
 unfolding lines_of
 lines_of-feed [] rest none = refl
@@ -20,7 +20,7 @@ lines_of-feed (byte ∷ line) rest none =
     let more = lines_of-feed line rest (All-tail (λ b. (b == 10) ≡ false) byte line none) in
     rw (here, more) refl
 
--- lines that line feeds end, and then others
+-- if a text is lines, each with its line feed, and a rest, its lines are these and the lines of the rest
 pub lines_of-feeds : (lines : List (List ℕ)) (rest : List ℕ) → All HasNoFeed lines
     → lines_of (flat_map with_feed lines ++ rest) ≡ lines ++ lines_of rest
 lines_of-feeds [] rest none = refl
@@ -81,7 +81,7 @@ lines_of-cut bytes lines begun rest cut =
     ap (λ xs. lines_of (xs ++ rest)) cut.whole ∙ ap lines_of (append_assoc (flat_map with_feed lines) begun rest)
     ∙ lines_of-feeds lines (begun ++ rest) cut.each
 
--- a line feed ends the line that was begun
+-- the lines of bytes that were cut, a line feed and a rest are those cut off, the one that was begun, and the rest's
 pub lines_of-cut_feed : (bytes : List ℕ) (lines : List (List ℕ)) (begun rest : List ℕ)
     → IsCutIntoLines bytes lines begun
     → lines_of (bytes ++ 10 ∷ rest) ≡ (lines ++ begun ∷ []) ++ lines_of rest
@@ -124,14 +124,14 @@ pub nothing_begun : (line : List ℕ) → is_nothing (received_line line) ≡ tr
 nothing_begun [] none = refl
 nothing_begun (byte ∷ line) none = let some = received_line-some byte line in cc
 
--- bytes without a line feed are one line
+-- bytes without a line feed are one line, if there are any
 pub lines_of-some : (line : List ℕ) → HasNoFeed line → is_nothing (received_line line) ≡ false
     → lines_of line ≡ line ∷ []
 unfolding received_line
 lines_of-some [] none some = cc
 lines_of-some (byte ∷ line) none some = lines_of-last byte line none
 
--- one byte more of a line that has room for it is kept, unless the line was too long already
+-- one byte more of a line that has room for it, and isn't too long, is kept
 pub put_short : (long : Bool) (line next : List ℕ) (byte : ℕ) → long ≡ false → length line < 65536
     → next ≡ line ++ byte ∷ []
     → cond long TooLong (Whole next) ≡ longer (cond long TooLong (Whole line)) byte

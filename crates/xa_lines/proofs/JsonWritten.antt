@@ -23,7 +23,7 @@ characters_more text old new index within before put =
     (encode_utf8 byte)))
     ∙ sym (encodes-append (take index text) (byte ∷ [])) ∙ sym (ap encode_utf8_all (take_more text index 0 within))
 
--- no line is left
+-- a text of no bytes has no lines
 pub lines-none : (text : List ℕ) → (length text == 0) ≡ true → lines_of text ≡ []
 unfolding lines_of
 lines-none [] empty = refl
@@ -134,7 +134,7 @@ left_if : (b : Bool) (one other : List ℕ) → b ≡ false → (if b then one e
 left_if false one other is = refl
 left_if true one other is = cc
 
--- the form at a place is the first that fits
+-- if the form at a place fits a line, and the form for the line is the first that fits from there on, it is that one
 pub form_here : (forms : List (Bor (List ℕ))) (line : List ℕ) (index : ℕ) (d : Bor (List ℕ)) → index < length forms
     → form_for line ≡ first_fit (map (λ form. form.now) (drop index forms)) line
     → fits (get_or forms index d).now line ≡ true

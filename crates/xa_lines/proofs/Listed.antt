@@ -6,7 +6,7 @@ use Rattle.xa_server.specs.Overview.{branches_of}
 use Rattle.xa_server.specs.State.{State}
 use Rattle.xa_lines.specs.Listing.{branch_lines, row_line, listing}
 
--- without a branch and a row it is
+-- a listing without a branch and a row is empty
 pub nothing_listed : (state : State) (keys : List (List ℕ)) → branches_of state ≡ [] → keys ≡ []
     → listing state keys ≡ []
 unfolding listing

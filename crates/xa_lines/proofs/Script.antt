@@ -72,7 +72,7 @@ pub filled-bad : (line text word : List ℕ) → line_of line ≡ filled_line te
 filled-bad line text word is at none =
     sym (is ∙ ap (λ s. line_given s (unblank (after_word text))) (ap session_named (sym at) ∙ none))
 
--- a line whose first word is one gives that session the text behind it
+-- a line whose first word is a session's number gives that session the text behind it
 pub filled-given : (line text word rest : List ℕ) (session : ℕ) → line_of line ≡ filled_line text
     → word ≡ first_word text → rest ≡ after_word text
     → session_named word ≡ Some session
@@ -90,7 +90,7 @@ lines_of-split text line rest lines some is after next =
     ∙ ap (drop 1) (sym after) ∙ sym next in
     rw is (lines_of-cut text some ∙ ap (λ l. take (first_length text) text ∷ lines_of l) e)
 
--- past the end nothing is left
+-- a text of no bytes is what is left of it without its first byte
 pub none_left : (text : List ℕ) → length text < 1 → text ≡ drop 1 text
 none_left [] short = refl
 none_left (x ∷ xs) short = absurd (omega arith)

@@ -62,7 +62,7 @@ nothing_later : (state : State) → served_text [] state [] ≡ []
 unfolding served_text
 nothing_later state = refl
 
--- the answers to lines, with those that come later
+-- the answers to lines begin what a server tells, with some marks, to these lines and those that come later
 part_told : (lines later : List (List ℕ)) (text : List ℕ) → AreAnswers HoldsNothing IsLineAnswer lines text
     → (marks : List Bool) × (unsaid : List ℕ) × (served_text marks no_state (lines ++ later) ≡ text ++ unsaid)
 part_told lines later text a =
@@ -114,7 +114,7 @@ after_fault Full exchange a = a
 after_fault GateShut exchange a = a
 after_fault ThreadRefused exchange a = a
 
--- what a server leaves after a fault, of an Err
+-- after Err a fault of serving leaves what a fault of statements leaves
 pub served_fault : {A : Type 0} (result : Result A ScriptFault) (o : Option Exchange)
     → IfErr result (λ fault. IfSome o (AfterServing HoldsNothing IsLineAnswer fault))
     → IfErr result (λ fault. IfSome o (AfterFaultOfStatements fault))
@@ -143,7 +143,7 @@ served_text-short state (line ∷ lines) short =
     let more = served_text-short (state_after_line state (line_of line)) lines (All-tail IsShort line lines short) in
     rw e (ap (λ t. answer_of state (line_of line) ++ t) more)
 
--- the answers of the server to a line that is blank or bad
+-- a blank line is answered with nothing, and changes nothing
 pub blank_answered : (state : State) (line : Line) (text : List ℕ) → Blank ≡ line → text ≡ []
     → (text ≡ answer_of state line) × (state ≡ state_after_line state line)
 unfolding answer_of state_after_line

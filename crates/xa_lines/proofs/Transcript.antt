@@ -51,7 +51,7 @@ written_more old now new whole answer more w appended = record {
 pub written_none : (old : Option (List ℕ)) (whole : List ℕ) → IsWrittenUpTo old old whole whole
 written_none old whole = record { written = []; appended = Appends-nil old; parts = refl }
 
--- what is left of the transcript, when one more line was cut off, and answered
+-- what is written for lines is the answer to the first, and what is written for the others in the state after it
 pub run_text-line : (state next : State) (text line rest answer : List ℕ) → lines_of text ≡ line ∷ lines_of rest
     → answer ≡ answer_of state (line_of line)
     → next ≡ state_after_line state (line_of line)
@@ -59,7 +59,7 @@ pub run_text-line : (state next : State) (text line rest answer : List ℕ) → 
 unfolding run_text
 run_text-line state next text line rest answer cut is after = rw (cut, is, after) refl
 
--- nothing is left of it at the end
+-- for a text of no bytes nothing is written
 pub run_text-end : (state : State) (text : List ℕ) → (length text == 0) ≡ true → run_text state (lines_of text) ≡ []
 unfolding run_text lines_of
 run_text-end state [] empty = refl
@@ -72,7 +72,7 @@ written_whole old new whole left w none =
     let e : w.written ≡ whole = sym (w.parts ∙ ap (λ xs. w.written ++ xs) none ∙ append-nil w.written) in
     let P : List ℕ → Type 0 = λ piece. Appends old new piece in subst P e w.appended
 
--- what is still to be written is known in another form
+-- what is left may be replaced by an equal text
 pub written_as : (old new : Option (List ℕ)) (whole left same : List ℕ) → left ≡ same → IsWrittenUpTo old new whole left
     → IsWrittenUpTo old new whole same
 written_as old new whole left same e w = let P : List ℕ → Type 0 = λ xs. IsWrittenUpTo old new whole xs in subst P e w

@@ -6,11 +6,12 @@ use Rattle.std.proofs.Math.Seq.{take-add}
 use Rattle.xa_lines.specs.Trying.{IsTry, Tries, IsLastTry, StopsTrying}
 
 module _ {S : Type 0} (takes : S → List ℕ → S → Type 0) (interrupts : S → S → Type 0) where
+  -- without a write no byte is taken, and the stream stays as it is
   pub tried_none : (stream : S) → Tries takes interrupts 0 stream [] stream
   unfolding Tries
   tried_none stream = (refl, refl)
 
-  -- one write more of the same text
+  -- after writes took the first bytes of a text, one more try that takes some of the rest, or none
   pub tried_next : (count : ℕ) (old mid new : S) (text : List ℕ) (written n : ℕ)
       → Tries takes interrupts count old (take written text) mid
       → IsTry takes interrupts mid (take n (take (length text - written) (drop written text))) new
@@ -24,7 +25,7 @@ module _ {S : Type 0} (takes : S → List ℕ → S → Type 0) (interrupts : S 
       let P : ℕ → Type 0 = λ k. Tries takes interrupts k old (take (written + n) text) new in
       subst P next (mid, take written text, piece, before, now, is)
 
-  -- a part of the text is taken, and then no more
+  -- if writes took the first bytes of a text, and no further one was tried, that is how trying stops
   pub tried_part : (count : ℕ) (old last new : S) (text : List ℕ) (written : ℕ)
       → (refuses : S → S → Type 0) → Tries takes interrupts count old (take written text) last
       → IsLastTry takes refuses count last new → StopsTrying takes interrupts refuses old text new

@@ -1,4 +1,4 @@
--- A conversation, byte by byte and answer by answer.
+-- A conversation, byte by byte and answer by answer. It is under way if all whole lines that don't wait are answered.
 use Rattle.std.proofs.Common.{◌≡◌, ℕ, ◌==◌, true, false, List, [], ◌∷◌, ◌++◌, length, take, drop, refl, sym, ap, subst}
 use Rattle.std.proofs.Common.{◌∙◌, append_assoc, append-nil, ◌≤◌, ◌+◌}
 use Rattle.std.proofs.Common.{arith, length-append}
@@ -22,11 +22,12 @@ longer_received : (reads n : ℕ) (received piece : List ℕ) → (n == 0) ≡ f
 longer_received reads n received piece some within before = grind (arith, nat_tests, length-append, length-take)
 
 module _ {S : Type 0} (Begins : S → Type 0) (Answers : S → Received → List ℕ → S → Type 0) where
+  -- no lines are answered with nothing, and the server stays as it is
   answers_none : (state : S) → AnswersAll Answers state [] [] state
   unfolding AnswersAll
   answers_none state = (refl, refl)
 
-  -- one line more is answered
+  -- if lines are answered, and one more after them, the answers to all are both texts together
   answers_more : (lines : List (List ℕ)) (first mid last : S) (text : List ℕ) (line answer : List ℕ)
       → AnswersAll Answers first lines text mid
       → Answers mid (received_line line) answer last
@@ -46,7 +47,7 @@ module _ {S : Type 0} (Begins : S → Type 0) (Answers : S → Received → List
             ∙ append_assoc before.1 before.2 answer,
       )
 
-  -- nothing has passed yet
+  -- a conversation in which nothing has passed, with a server that has just begun, is ready for more
   pub fresh : (exchange : Exchange) (line : Received) (server : S) → IsFresh exchange → line ≡ Whole [] → Begins server
       → IsReady Begins Answers Open 0 exchange line server
   fresh exchange line server none nothing begins =
@@ -67,7 +68,7 @@ module _ {S : Type 0} (Begins : S → Type 0) (Answers : S → Received → List
         },
       )
 
-  -- one byte more of a line
+  -- the next byte, which is no line feed, makes the line that has begun longer, and no longer waits
   pub put : (stage : Stage) (reads : ℕ) (exchange : Exchange) (byte : ℕ) (waiting : List ℕ) (line next : Received)
       (server : S) → (byte == 10) ≡ false
       → next ≡ longer line byte
@@ -87,7 +88,7 @@ module _ {S : Type 0} (Begins : S → Type 0) (Answers : S → Received → List
     counted = u.counted;
   }
 
-  -- a line feed, and the answer to the line that it ends
+  -- the next byte, a line feed, ends the line, whose answer was given: it no longer waits, and the next line is empty
   pub answered : (stage : Stage) (reads : ℕ) (exchange new : Exchange) (waiting answer : List ℕ) (line : Received)
       (server after : S)
       → new ≡ record exchange { given = exchange.given ++ answer } → Answers server line answer after
@@ -111,7 +112,7 @@ module _ {S : Type 0} (Begins : S → Type 0) (Answers : S → Received → List
         counted = u.counted;
       })
 
-  -- the answer to the line is given in part
+  -- the next byte, a line feed, ends the line, and giving its answer failed after a part: the conversation is cut off
   pub begun_answer : (stage : Stage) (reads : ℕ) (exchange new : Exchange) (waiting answer : List ℕ) (n : ℕ)
       (line : Received) (server after : S)
       → new ≡ record exchange { given = exchange.given ++ take n answer; stage = Mute }
@@ -142,7 +143,7 @@ module _ {S : Type 0} (Begins : S → Type 0) (Answers : S → Received → List
         refl,
       )
 
-  -- what was received waits
+  -- a read gave at least one byte when none waited: these bytes wait
   pub received : (reads : ℕ) (exchange new : Exchange) (n : ℕ) (piece : List ℕ) (line : Received) (server : S)
       → (n == 0) ≡ false → n ≤ length piece
       → new ≡ with_received exchange n piece
@@ -164,7 +165,7 @@ module _ {S : Type 0} (Begins : S → Type 0) (Answers : S → Received → List
         counted = longer_received reads n exchange.received piece some within u.counted;
       })
 
-  -- nothing more is to be received
+  -- a read gave no byte when none waited: the client has ended
   pub received_end : (reads : ℕ) (exchange new : Exchange) (n : ℕ) (piece : List ℕ) (line : Received) (server : S)
       → (n == 0) ≡ true
       → new ≡ with_received exchange n piece
@@ -190,7 +191,7 @@ module _ {S : Type 0} (Begins : S → Type 0) (Answers : S → Received → List
         counted = subst Q (sym same) u.counted;
       })
 
-  -- all whole lines are answered
+  -- if no byte waits, what was given answers all whole lines of what was received
   so_far : (stage : Stage) (reads : ℕ) (exchange : Exchange) (text : List ℕ) (line : Received) (server : S)
       → text ≡ exchange.given
       → IsUnderWay Begins Answers stage reads exchange [] line server
@@ -205,13 +206,14 @@ module _ {S : Type 0} (Begins : S → Type 0) (Answers : S → Received → List
         answers = subst Q (sym is) (record { first = u.first; last = server; begins = u.begins; answers = u.answers });
       }
 
+  -- in a conversation that is ready for more, all whole lines are answered, and the client was told so
   pub ready_answered : (reads : ℕ) (exchange : Exchange) (line : Received) (server : S)
       → IsReady Begins Answers Open reads exchange line server
       → AwaitsMore Begins Answers exchange
   ready_answered reads exchange line server r =
       (r.1.stage_is, so_far Open reads exchange exchange.told line server r.0 r.1)
 
-  -- the client is deaf from now on
+  -- if a read failed in a conversation that was ready for more, all whole lines are answered, and the client is deaf
   pub deaf : (reads : ℕ) (exchange new : Exchange) (line : Received) (server : S)
       → new ≡ record exchange { stage = Deaf }
       → IsReady Begins Answers Open reads exchange line server
@@ -220,7 +222,7 @@ module _ {S : Type 0} (Begins : S → Type 0) (Answers : S → Received → List
       let P : Exchange → Type 0 = λ e. IsAnswerSoFar Begins Answers e.received e.told × (e.stage ≡ Deaf) in
       subst P (sym is) (so_far Open reads exchange exchange.told line server r.0 r.1, refl)
 
-  -- all that was given was said
+  -- if all that was given was flushed when no byte waited, the conversation is ready for more
   pub flushed : (stage : Stage) (reads : ℕ) (exchange new : Exchange) (line : Received) (server : S)
       → new ≡ record exchange { told = exchange.given }
       → IsUnderWay Begins Answers stage reads exchange [] line server
@@ -244,7 +246,7 @@ module _ {S : Type 0} (Begins : S → Type 0) (Answers : S → Received → List
         },
       )
 
-  -- the whole lines are answered, and the line that has begun may be unanswered
+  -- if a flush failed when no byte waited, the conversation is cut off
   pub unflushed : (stage : Stage) (reads : ℕ) (exchange new : Exchange) (told : List ℕ) (line : Received) (server : S)
       → new ≡ record exchange { told = told; stage = Mute }
       → IsUnderWay Begins Answers stage reads exchange [] line server → IsCutOff Begins Answers new
@@ -263,7 +265,7 @@ module _ {S : Type 0} (Begins : S → Type 0) (Answers : S → Received → List
         refl,
       )
 
-  -- nothing of a last line has come
+  -- if the client has ended, and nothing of a further line has come, all lines are answered
   pub end_nothing : (reads : ℕ) (exchange : Exchange) (line : Received) (server : S) → is_nothing line ≡ true
       → IsUnderWay Begins Answers Ended reads exchange [] line server → IsAllAnswered Begins Answers exchange
   end_nothing reads exchange line server none u =
@@ -278,7 +280,7 @@ module _ {S : Type 0} (Begins : S → Type 0) (Answers : S → Received → List
             (record { first = u.first; last = server; begins = u.begins; answers = u.answers }),
       )
 
-  -- the lines, where the last of them has no line feed
+  -- if something of a further line has come when the client ended, the lines are the whole ones and that one
   all_lines : (reads : ℕ) (exchange : Exchange) (line : Received) (server : S) → is_nothing line ≡ false
       → (u : IsUnderWay Begins Answers Ended reads exchange [] line server)
       → lines_of exchange.received ≡ u.lines ++ u.begun ∷ []
@@ -287,7 +289,7 @@ module _ {S : Type 0} (Begins : S → Type 0) (Answers : S → Received → List
       ∙ ap (λ xs. u.lines ++ lines_of xs) (append-nil u.begun)
       ∙ ap (λ xs. u.lines ++ xs) (lines_of-some u.begun u.cut.last (ap is_nothing (sym u.held) ∙ some))
 
-  -- the last line is answered
+  -- the client has ended, and the answer to the last line, which has no line feed, was given: all lines are answered
   pub end_answered : (reads : ℕ) (exchange new : Exchange) (answer : List ℕ) (line : Received) (server after : S)
       → is_nothing line ≡ false
       → new ≡ record exchange { given = exchange.given ++ answer } → Answers server line answer after
@@ -304,7 +306,7 @@ module _ {S : Type 0} (Begins : S → Type 0) (Answers : S → Received → List
             (record { first = u.first; last = after; begins = u.begins; answers = answers }),
       )
 
-  -- or in part
+  -- the client has ended, and giving the answer to the last line failed after a part: the conversation is cut off
   pub end_begun : (reads : ℕ) (exchange new : Exchange) (answer : List ℕ) (n : ℕ) (line : Received) (server after : S)
       → is_nothing line ≡ false
       → new ≡ record exchange { given = exchange.given ++ take n answer; stage = Mute }
@@ -335,13 +337,14 @@ module _ {S : Type 0} (Begins : S → Type 0) (Answers : S → Received → List
         refl,
       )
 
-  -- all that was given was said
+  -- if all lines are answered, and all that was given was flushed, the client is served
   pub served : (exchange new : Exchange) → new ≡ record exchange { told = exchange.given }
       → IsAllAnswered Begins Answers exchange → IsServed Begins Answers new
   served exchange new is all =
       let P : Exchange → Type 0 = λ e. IsServed Begins Answers e in
       subst P (sym is) (all.0, refl, all.1)
 
+  -- if all lines are answered, and the last flush failed, the conversation is cut off
   pub unserved : (exchange new : Exchange) (told : List ℕ) → new ≡ record exchange { told = told; stage = Mute }
       → IsAllAnswered Begins Answers exchange
       → IsCutOff Begins Answers new

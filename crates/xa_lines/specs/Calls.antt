@@ -5,8 +5,9 @@
 --     HasRead, HasReadAll   reads that gave a text;  which is all that the reader gives
 --     StopsReading     why a text wasn't read to its end
 --     HasWritten       bytes were written
---     IsWrittenBut     so were bytes, but for what is left of them
+--     IsWrittenBut     a part of a text was written, and this is left of it
 --     StopsWriting     a write failed before all bytes were written
+--     Completes        all of a script was read, and all of its text written
 --     Stops            why a script's text wasn't written
 -- A fault is told only where the last call on a stream is the one that had it: a stream that failed isn't called again.
 use Rattle.std.specs.Prelude.{◌≡◌, ◌⊎◌, ℕ, zero, suc, ◌<◌, ◌≤◌, List, [], ◌++◌, length}

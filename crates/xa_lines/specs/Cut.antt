@@ -6,7 +6,7 @@
 --     has_faulted, has_refused    whether it has faulted
 --     reads_after, writes_after   how often it was read or written after that
 --     faults_next, refuses_next   whether it faults where it is used next
---     takes_next                  for how many of so many bytes a writer has room
+--     takes_next                  how many of so many bytes a writer takes next, at most
 use Rattle.std.specs.Prelude.{ℕ, Bool, ◌==◌, ◌&&◌, not, cond, List}
 use Rattle.xa_lines.specs.declared.cut_reader.CutReader.{CutReader}
 use Rattle.xa_lines.specs.declared.cut_writer.CutWriter.{CutWriter}
@@ -67,6 +67,7 @@ writes_after writer = writer.after
 abbrev pub refuses_next : CutWriter → Bool
 refuses_next writer = writer.room == 0 && not (writer.once && writer.faulted)
 
--- no more than there is room, unless it is one that has had its fault
+-- how many of these bytes the writer takes next, at most: as many as it has room for, or all if it faults once and has
+-- faulted
 abbrev pub takes_next : CutWriter → ℕ → ℕ
 takes_next writer count = cond (writer.once && writer.faulted) count writer.room

@@ -24,7 +24,7 @@ phase_text Active = codes " ACTIVE"
 phase_text Idle = codes " IDLE"
 phase_text Prepared = codes " PREPARED"
 
--- a PREPARED branch has no owner
+-- the words for a branch's owner; none for a PREPARED branch, which has no owner
 abbrev pub owner_text : Option ℕ → List ℕ
 owner_text None = []
 owner_text (Some session) = codes " SESSION " ++ decimal session

@@ -28,14 +28,14 @@ use Rattle.xa_lines.specs.declared.json_mark.Mark.TheVariants.{Word, Number, Any
 abbrev pub behind_first : List ℕ → List ℕ
 behind_first text = drop 1 (after_word text)
 
--- a number behind which nothing comes, or a colon
+-- the number that was read, if nothing comes behind it, or a colon alone
 abbrev pub number_alone : Reading ℕ → Option ℕ
 number_alone (Err fault) = None
 number_alone (Ok (found, [])) = Some found
 number_alone (Ok (found, byte ∷ [])) = if byte == 58 then Some found else None
 number_alone (Ok (found, byte ∷ other ∷ rest)) = None
 
--- the number that a word is; a colon may stand behind it
+-- the number that a word is, in decimal digits, or in hexadecimal ones after `0x`; a colon may stand behind it
 unfoldable pub number_said : List ℕ → Option ℕ
 number_said word = number_alone (number_ahead word)
 
@@ -44,7 +44,7 @@ abbrev pub begins_statement : List ℕ → Bool
 begins_statement [] = false
 begins_statement (first ∷ rest) = first == 88 || first == 71 || first == 80 || first == 68
 
--- the marks are #, $, =, ~ and !
+-- what a part stands for whose first byte is this; the marks are #, $, =, ~ and !
 abbrev pub mark_by : ℕ → Mark
 mark_by byte =
     if byte == 35
@@ -57,7 +57,7 @@ abbrev pub mark_of : List ℕ → Mark
 mark_of [] = Word
 mark_of (byte ∷ rest) = mark_by byte
 
--- a part with this mark fits what a text begins with
+-- whether a part with this mark fits what a text begins with; `Undecided` fits only a text that is just this word
 abbrev pub part_fits_as : Mark → (part text : List ℕ) → Bool
 part_fits_as Word part text = pointwise nat_eq (first_word text) part
 part_fits_as Number part text = is_some (number_said (first_word text))

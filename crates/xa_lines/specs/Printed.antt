@@ -34,12 +34,12 @@ abbrev pub rows_text : Bool → List Xid → List ℕ
 rows_text convert [] = []
 rows_text convert (xid ∷ xids) = codes "\n" ++ row_text convert xid ++ rows_text convert xids
 
--- its number, its SQLSTATE and its text (the form is the manual's)
+-- the text of a refusal: its number, its SQLSTATE and its message (the form is the manual's)
 abbrev pub error_text : XaError → List ℕ
 error_text error =
     codes "ERROR " ++ decimal (number_of error) ++ codes " (" ++ sqlstate_of error ++ codes "): " ++ message_of error
 
--- the text of a reply, in one line (own rule)
+-- the text of a reply, without a line feed at its end: one line, and for a list one more for each row (own rule)
 abbrev pub reply_text : Bool → Reply → List ℕ
 reply_text convert Accepted = codes "OK"
 reply_text convert (Value None) = codes "NONE"
@@ -51,7 +51,7 @@ reply_text convert (Refused error) = error_text error
 abbrev pub syntax_text : ℕ → List ℕ
 syntax_text place = codes "ERROR 1064 (42000): syntax fault at byte " ++ decimal place
 
--- XA RECOVER CONVERT XID asks for identifiers in digits
+-- whether identifiers are printed in digits: only for XA RECOVER CONVERT XID
 abbrev pub converts : Statement → Bool
 converts (Start xid) = false
 converts (End xid) = false

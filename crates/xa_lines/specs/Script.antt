@@ -16,7 +16,7 @@ use Rattle.xa_xid.specs.declared.byte_class.ByteClass.TheVariants.{Blank as Blan
 use Rattle.xa_lines.specs.declared.lines.ScriptLine.{ScriptLine}
 use Rattle.xa_lines.specs.declared.lines.ScriptLine.TheVariants.{Blank as BlankLine, Bad as BadLine, Given as GivenLine}
 
--- no byte, or no element of any list
+-- whether a text has no byte, or any list no element
 abbrev pub is_empty_line : {A : Type 0} → List A → Bool
 is_empty_line [] = true
 is_empty_line (x ∷ xs) = false
@@ -54,7 +54,7 @@ session_named (one ∷ []) = cond (nat_le 49 one && nat_le one 57) (Some (one - 
 session_named (ten ∷ one ∷ []) = cond ((ten == 49) && (nat_le 48 one && nat_le one 54)) (Some (10 + (one - 48))) None
 session_named (ten ∷ one ∷ more ∷ rest) = None
 
--- a number that is the whole of a text
+-- the number that was read, if it is the whole of the text
 abbrev pub whole_number : Reading ℕ → Option ℕ
 whole_number (Err fault) = None
 whole_number (Ok (number, [])) = Some number

@@ -1,6 +1,7 @@
 -- What is served for what is received. A server is seen by two facts: `Begins state`, that it may begin so, and
 -- `Answers old line text new`, that it may answer the line with the text, and is then so.
 --     AnswersAll      the texts of lines, one after another
+--     AreAnswers      a text is what a server that has just begun may answer lines
 --     AwaitsMore      all whole lines are answered, and the client was told so
 --     IsServed        all lines are, and nothing more is to be received
 --     IsCutOff        the answers are begun, and saying them failed

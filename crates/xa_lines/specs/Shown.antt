@@ -3,8 +3,9 @@
 --     unshown_text               what is said where memory is refused for a listing or a comment
 --     keys_asked                 the rows that a line is about
 --     listing_after              what stands behind the answer to a line
---     StandsBehind               it stands behind an answer, or what is said in its place does
---     BeginsEmpty, IsShown       how it begins, and how it may answer a line
+--     StandsBehind               a listing stands behind an answer, or in its place that memory is refused for it
+--     IsShown                    how a line may be answered
+--     BeginsEmpty, Shows         how a server that shows its store begins, and how it may answer a line
 use Rattle.std.specs.Prelude.{◌≡◌, ◌≢◌, ◌⊎◌, ℕ, Bool, true, false, List, [], ◌++◌, codes, Result, Ok, Err}
 use Rattle.xa_xid.specs.declared.statement.Statement.{Statement}
 use Rattle.xa_statement.specs.Reading.{read_of}

@@ -6,6 +6,7 @@
 --     IsAnswerTo, IsLineAnswer    how it may answer what is said, and a line
 --     IsToldAll, AfterFaultOfStatements   what is told to a client that ends, and what a fault leaves
 --     served_text     the answers to lines, where it is known for which memory was refused
+--     IsShort         a line has no more bytes than are kept
 use Rattle.std.specs.Prelude.{◌≡◌, ◌⊎◌, ◌≤◌, ℕ, ◌-◌, ◌^◌, Bool, true, false, Result, Ok, Err, List, [], ◌∷◌, ◌++◌}
 use Rattle.std.specs.Prelude.{length, codes, decimal}
 use Rattle.xa_xid.specs.declared.statement.Statement.{Statement}
@@ -37,8 +38,8 @@ refused_text session = answer_text (decimal session) (codes "ERROR 1037 (HY001):
 abbrev pub HoldsNothing : State → Type 0
 HoldsNothing state = state ≡ no_state
 
--- memory may be refused for a statement that makes a record or a list, and for no text that isn't a statement (own
--- rule)
+-- memory may be refused for a statement that asks for a list, or is logged and makes a record, and for no text that
+-- isn't a statement (own rule)
 abbrev pub MayBeRefused : State → ℕ → Result Statement ℕ → Type 0
 MayBeRefused state session (Ok statement) = may_take_memory state session statement ≡ true
 MayBeRefused state session (Err place) = ⊥

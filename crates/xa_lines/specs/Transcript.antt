@@ -1,11 +1,13 @@
 -- What a script's run writes.
+--     answer_to, state_then    what is written for a session's statement, read or not;  the state after it
 --     answer_of       what is written for a line
 --     state_after_line  the state after a line
 --     run_text        what is written for all lines
 --     transcript      what is written for a script
 --     AppendsPrefix, AfterFault      what a fault leaves in the writer
---     ConsumesMoreThan               how long a script is too long
+--     ConsumesMoreThan               a reader gave more bytes than a limit
 --     StopsAnswering, StopsRun       why the writing of answers, and a run, ended early
+--     IsWrittenUpTo                  a part of a text was written, and this is left of it
 use Rattle.std.specs.Prelude.{◌≡◌, ◌⊎◌, ℕ, ◌<◌, Option, List, [], ◌∷◌, ◌++◌, length, take, codes, decimal, IfSome}
 use Rattle.std.specs.Prelude.{Result, Ok, Err}
 use Rattle.std.specs.Io.KnownBytes.{Keeps, Appends, Consumes}
@@ -29,7 +31,7 @@ answer_to state session (Ok statement) =
     answer_text (decimal session) (reply_text (converts statement) (reply_to state session statement))
 answer_to state session (Err place) = answer_text (decimal session) (syntax_text place)
 
--- a statement that isn't read changes nothing
+-- the state after a session's statement; one that isn't read changes nothing
 abbrev pub state_then : State → ℕ → Result Statement ℕ → State
 state_then state session (Ok statement) = after state session statement
 state_then state session (Err place) = state
@@ -82,7 +84,7 @@ AfterFault Full input old new = ⊥
 AfterFault GateShut input old new = ⊥
 AfterFault ThreadRefused input old new = ⊥
 
--- why not all answers were written: a write failed; or memory was refused, and none had
+-- why not all answers were written: a write failed; or memory was refused, and no write had failed
 abbrev pub StopsAnswering : {W : Type 0} → (W → List ℕ → W → Type 0) → (W → W → Type 0) → ScriptFault → W → List ℕ → W
     → Type 0
 StopsAnswering takes refuses Read old whole new = ⊥

@@ -1,5 +1,5 @@
 -- What a race makes of comments. All of it is an own rule: docs/COMMANDS.md#race.
---     begins_comment_line    the first line that isn't blank is a comment
+--     begins_commented       the first line that isn't blank is a comment
 --     bare_lines             lines of which each comment is left blank
 --     uncommented            the script that is raced
 use Rattle.std.specs.Prelude.{ℕ, Bool, false, if◌then◌else◌, List, [], ◌∷◌, ◌++◌}
@@ -11,7 +11,7 @@ unfoldable pub begins_commented : List (List ℕ) → Bool
 begins_commented [] = false
 begins_commented (line ∷ lines) = if is_empty_line (unblank line) then begins_commented lines else is_comment_line line
 
--- a comment is left blank
+-- a line, or an empty one if it is a comment
 abbrev pub bare_line : List ℕ → List ℕ
 bare_line line = if is_comment_line line then [] else line
 

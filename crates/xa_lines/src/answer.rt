@@ -8,7 +8,8 @@ use arrayvec::ArrayVec;
 pub enum Answer {
     /// A text of any length.
     Text(Vec<u8>),
-    /// A text of at most 160 bytes, which takes no memory.
+    /// A text of at most 160 bytes, which takes no memory. Each answer to a statement fits except a list, with 16 bytes
+    /// to spare.
     Short(ArrayVec<u8, 160>),
 }
 

@@ -21,7 +21,9 @@ impl BegunLine {
     ghost use Rattle.xa_lines.specs.Answer.{bytes_of};
     ghost use Rattle.xa_lines.specs.Received.{held_by, longer, is_nothing, Whole};
 
-    /// Returns a line of which nothing has been received.
+    /// Returns a line of which nothing has been received, with room for 65,536 bytes.
+    ///
+    /// May return `NoMemory`.
     pub fn new(alloc: Global) -> Result<BegunLine, NoMemory>
         ensures { IfOk result (λ line. held_by line ≡ Whole []) }
     {
@@ -31,7 +33,7 @@ impl BegunLine {
         })
     }
 
-    /// Adds a byte to the line.
+    /// Adds a byte to the line. Of the bytes after 65,536 it is only noted that there are some.
     pub fn put(&mut self, byte: u8)
         ensures { held_by self.new ≡ longer (held_by self.old) byte }
     {
@@ -61,7 +63,7 @@ impl BegunLine {
         !self.is_long && self.bytes.is_empty()
     }
 
-    /// Has the server answer the line.
+    /// Has the server answer the line, as one that is too long if it has more than 65,536 bytes. Returns the answer.
     pub fn answer<S: LineServer>(&self, alloc: Global, server: &mut S) -> Answer
         ensures { S.answers server.old (held_by self.now) (bytes_of result) server.new }
     {

@@ -1,4 +1,4 @@
-//! Scripts whose comments are taken out.
+//! Scripts whose comments are left blank.
 ghost use Rattle.std.specs.Prelude.{◌≡◌, ◌++◌, ◌∷◌, OnOk, IfOk};
 ghost use Rattle.xa_lines.specs.Script.{lines_of};
 ghost use Rattle.xa_lines.specs.Uncommented.{begins_commented, bare_line, bare_lines};
@@ -8,7 +8,7 @@ use crate::{is_comment, split_line};
 use std::alloc::Global;
 use xa_xid::{NoMemory, skip_blanks};
 
-/// Returns whether the first line that isn't blank is a comment.
+/// Returns whether the first line that isn't blank is a comment. False if all lines are blank.
 fn begins_with_comment(script: &[u8]) -> bool
     ensures { result ≡ begins_commented (lines_of script.now) }
 {
@@ -23,7 +23,7 @@ fn begins_with_comment(script: &[u8]) -> bool
     false
 }
 
-/// Appends a line, or a blank one if it is a comment.
+/// Appends a line without its line feed, or nothing if it is a comment, which leaves its line blank.
 fn push_bare(text: &mut Vec<u8>, line: &[u8]) -> Result<(), NoMemory>
     ensures { OnOk result (text.new.items ≡ text.old.items ++ bare_line line.now) }
 {

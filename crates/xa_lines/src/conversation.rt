@@ -26,7 +26,8 @@ fn flush<S: LineServer, P: Client<S>>(client: &mut P) -> Result<(), ScriptFault>
     }
 }
 
-/// Answers the line that has been received, and begins the next.
+/// Answers the line that has been received, and begins the next. The answer isn't flushed yet. Returns `Write` if the
+/// client doesn't take it.
 fn answer_begun<S: LineServer, P: Client<S>>(
     alloc: Global,
     server: &mut S,
@@ -124,6 +125,7 @@ fn answer_last<S: LineServer, P: Client<S>>(
         → IfSome (P.exchange client.new) (IsCutOff S.begins S.answers)) }
     ensures fault { IfErr result (λ fault. fault ≡ ScriptFault.Write) }
 {
+    // The last byte was a line feed, or there was none, so no line has begun.
     if line.is_empty() {
         return Ok(());
     }
@@ -156,7 +158,9 @@ pub fn serve<S: LineServer, P: Client<S>>(
     ensures fault { IfErr result (λ fault. IfSome (P.exchange client.new) (AfterServing S.begins S.answers fault)) }
 {
     let mut line = BegunLine::new(alloc)?;
+    // The answers to what one read gives, at most 4,096 bytes, are flushed together.
     let mut piece = [0u8; 4096];
+    // With a bound the loop is known to end. No client sends as often as this.
     for _read in 0..u64::MAX {
         let count = match client.receive(&mut piece) {
             Ok(count) => count,
@@ -170,5 +174,6 @@ pub fn serve<S: LineServer, P: Client<S>>(
         take_piece(alloc, server, client, &mut line, &piece[..count])?;
         flush(client)?;
     }
+    // No read is left, and none has found the end.
     Err(ScriptFault::Read)
 }

@@ -99,6 +99,8 @@ impl<'a> Read for CutReader<'a> {
 
     ghost remaining = { λ reader. Some (left_in reader) };
 
+    /// Gives as much of what is left as fits into `buf`, at most a piece; or fails if no read is left, at each read or
+    /// at one only. Counts reads after the first that failed.
     fn read(&mut self, buf: &mut [u8]) -> io::Result<usize>
         ensures bound { ReadsAtMost result buf.new }
         ensures bytes { ReadConsumes (Some (left_in self.old)) (Some (left_in self.new)) result buf.new }
@@ -115,11 +117,12 @@ impl<'a> Read for CutReader<'a> {
         if self.faulted {
             self.after = self.after.saturating_add(1);
         }
-        // Its time has come, unless it fails once and has done so.
+        // No read is left, and it fails each time, or hasn't failed yet.
         if self.reads == 0 && !(self.once && self.faulted) {
             self.faulted = true;
             return Err(ErrorKind::Interrupted.into());
         }
+        // After its one failure a reader goes on, with no read left to be counted: 0 stays 0.
         self.reads = self.reads.saturating_sub(1);
         let count = self.rest.len().min(buf.len()).min(self.piece);
         let (piece, rest) = self.rest.split_at(count);

@@ -100,6 +100,9 @@ impl Write for CutWriter {
 
     ghost contents = { λ writer. Some (taken_by writer) };
 
+    /// Takes as much of `buf` as there is room for, at most a piece; or fails if no room is left, even for an empty
+    /// `buf`, at each write or at one only. After that one, room doesn't matter. Also fails if memory is refused.
+    /// Counts writes after the first that failed for want of room.
     fn write(&mut self, buf: &[u8]) -> io::Result<usize>
         ensures bound { WritesAtMost result buf.now }
         ensures bytes { WriteAppends (Some (taken_by self.old)) (Some (taken_by self.new)) result buf.now }
@@ -118,7 +121,8 @@ impl Write for CutWriter {
             self.after = self.after.saturating_add(1);
         }
         let passed = self.once && self.faulted;
-        // Its time has come, unless it fails once and has done so. Behind that there is no bound.
+        // No room is left, and it fails each time, or hasn't failed yet. A writer that fails once takes any number of
+        // bytes after that.
         if self.room == 0 && !passed {
             self.faulted = true;
             return Err(ErrorKind::Interrupted.into());
@@ -126,6 +130,7 @@ impl Write for CutWriter {
         let most = if passed { buf.len() } else { self.room };
         let count = buf.len().min(self.piece).min(most);
         self.taken.extend_from_slice(&buf[..count])?;
+        // After its one failure a writer takes more than there is room for: 0 stays 0.
         self.room = self.room.saturating_sub(count);
         Ok(count)
     }

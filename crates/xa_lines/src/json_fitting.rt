@@ -7,7 +7,8 @@ use crate::json_numbers::number_said;
 use crate::json_words::{begins_statement, left_behind, split_first};
 use crate::split_line;
 
-/// Returns whether a part with this mark fits what a text begins with.
+/// Returns whether a part with this mark fits what a text begins with. A part for any word, or for the rest, fits
+/// every text, even an empty one.
 fn part_fits(mark: Mark, part: &[u8], text: &[u8]) -> bool
     ensures { result ≡ part_fits_as mark part.now text.now }
 {
@@ -20,7 +21,8 @@ fn part_fits(mark: Mark, part: &[u8], text: &[u8]) -> bool
     }
 }
 
-/// Returns whether a form fits a line: each part what the line goes on with, and the last one up to the line's end.
+/// Returns whether a form fits a line: each part in turn fits what the line goes on with, and nothing is left behind
+/// the last one.
 ///
 /// Takes no memory. Doesn't wait.
 pub fn fits(form: &[u8], line: &[u8]) -> bool

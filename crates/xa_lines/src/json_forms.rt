@@ -27,7 +27,7 @@ const FORMS: [&[u8]; 18] = [
     b"#session\n=reply",
 ];
 
-/// Returns the form of a line.
+/// Returns the form of a line: the first that fits it, or else `=text`, which makes the whole line one string.
 ///
 /// Takes no memory. Doesn't wait.
 pub fn form_of(line: &[u8]) -> &'static [u8]

@@ -31,6 +31,7 @@ pub fn mark_of(part: &[u8]) -> Mark
         [b'=', ..] => Mark::Rest,
         [b'~', ..] => Mark::Statement,
         [b'!', ..] => Mark::Undecided,
+        // Any other part, even an empty one, is a word of the form.
         _ => Mark::Word,
     }
 }

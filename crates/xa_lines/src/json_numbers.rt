@@ -4,7 +4,8 @@ ghost use Rattle.xa_lines.specs.Objects.{number_said as said};
 
 use xa_xid::number_of;
 
-/// Returns the number that a word is. A colon may stand behind it.
+/// Returns the number that a word is, in decimal digits, or in hexadecimal ones after `0x`. A colon may stand behind
+/// it. None for any other word.
 ///
 /// Takes no memory. Doesn't wait.
 #[tactic(auto, unfolding(crate::specs::Objects::number_said))]

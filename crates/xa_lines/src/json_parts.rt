@@ -13,7 +13,7 @@ use json::Writer;
 use std::alloc::Global;
 use xa_xid::NoMemory;
 
-/// Returns the key of a part: what stands behind its first byte.
+/// Returns the key of a part: what stands behind its first byte. An empty part has an empty key.
 fn key_of(part: &[u8]) -> &[u8]
     ensures { result.now ≡ drop 1 part.now }
 {
@@ -62,7 +62,8 @@ fn write_number(
     }
 }
 
-/// Writes the member of a part with this mark, if it has one.
+/// Writes the member of a part with this mark, if it has one. Its value is the first word of `text`, or all of it if
+/// the part stands for the rest. A word of the form has no member, and a number none if the word isn't one.
 fn write_part(
     alloc: Global,
     writer: &mut Writer,

@@ -6,7 +6,8 @@ ghost use Rattle.xa_lines.specs.Objects.{behind_first, begins_statement as begin
 use crate::json_mark::Mark;
 use crate::split_word;
 
-/// Returns the word that a text begins with, and the text behind the blank after it.
+/// Returns the word that a text begins with, and the text behind the blank after it: nothing if no blank comes. The
+/// word is empty if the text is, or begins with a blank.
 ///
 /// Takes no memory. Doesn't wait.
 pub fn split_first(text: &[u8]) -> (&[u8], &[u8])
@@ -33,7 +34,8 @@ pub fn begins_statement(text: &[u8]) -> bool
     }
 }
 
-/// Returns what is left of a text behind what a part stands for.
+/// Returns what is left of a text behind what a part with this mark stands for: what comes after the first word and a
+/// blank, or nothing if the part stands for the rest.
 ///
 /// Takes no memory. Doesn't wait.
 pub fn left_behind(mark: Mark, text: &[u8]) -> &[u8]

@@ -34,7 +34,7 @@ pub fn converts(statement: &Statement) -> bool
 // The functions `put_..` write an answer over the text's former content. So one text can take one answer
 // after another, and keeps its memory.
 
-/// Puts the number of the session that is answered at the front of the answer.
+/// Begins an answer anew, with the number of the session that is answered and a blank.
 fn put_session(answer: &mut Vec<u8>, session: SessionNo) -> Result<(), NoMemory>
     ensures { OnOk result (answer.new.items ≡ decimal session ++ codes " ") }
 {
@@ -43,7 +43,8 @@ fn put_session(answer: &mut Vec<u8>, session: SessionNo) -> Result<(), NoMemory>
     answer.extend_from_slice(b" ")
 }
 
-/// Carries out a statement whose reply is known if it is logged; any other statement changes nothing.
+/// Carries out a statement if it is logged, which `enters` says; any other statement changes nothing. If memory is
+/// refused, the server is as before.
 #[tactic(auto, unfolding(xa_server::specs::Step::enters))]
 pub(crate) fn carry_out(
     server: &mut Server,
@@ -57,14 +58,16 @@ pub(crate) fn carry_out(
     ensures memory { OnErr result (may_take_memory server.old session statement.now ≡ true) }
 {
     if !enters {
+        // Does nothing. The contract needs this law, since the server stays as it is.
         statement_outside_history_changes_nothing();
         return Ok(());
     }
     server.accept(session, statement)
 }
 
-/// Answers a statement whose reply is known, and carries it out. `spare` more bytes can be appended to the
-/// answer without memory.
+/// Answers a statement whose reply is known, and carries it out if it is logged, which `enters` says. `spare` more
+/// bytes can be appended to the answer without memory. The statement is carried out last, so the server is as before
+/// if memory is refused.
 pub(crate) fn put_reply(
     alloc: Global,
     answer: &mut Vec<u8>,
@@ -89,7 +92,8 @@ pub(crate) fn put_reply(
     carry_out(server, session, statement, enters)
 }
 
-/// Answers a statement that was read, and carries it out.
+/// Answers a statement that was read, and carries it out if it is logged. If memory is refused, the server is as
+/// before.
 fn put_read(
     alloc: Global,
     answer: &mut Vec<u8>,
@@ -102,6 +106,7 @@ fn put_read(
     ensures unchanged { OnErr result (server.new ≡ server.old) }
 {
     let (reply, enters) = server.reply(session, statement)?;
+    // Nothing is appended to this answer, so it needs no spare bytes.
     put_reply(alloc, answer, server, session, statement, &reply, enters, 0)
 }
 
@@ -114,7 +119,8 @@ fn put_unread(answer: &mut Vec<u8>, session: SessionNo, place: u64) -> Result<()
     answer.extend_from_slice(b"\n")
 }
 
-/// Gives the text's statement to the server, and answers it.
+/// Gives the text's statement to the server, and answers it; or answers where the text goes wrong, if it isn't a
+/// statement. If memory is refused, the server is as before.
 fn put_statement(
     alloc: Global,
     answer: &mut Vec<u8>,
@@ -132,7 +138,7 @@ fn put_statement(
     }
 }
 
-/// Answers a bad line.
+/// Answers a bad line, with `-` in place of a session's number.
 fn put_bad(answer: &mut Vec<u8>) -> Result<(), NoMemory>
     ensures { OnOk result (answer.new.items ≡ answer_text (codes "-") (syntax_text 0)) }
 {
@@ -140,7 +146,8 @@ fn put_bad(answer: &mut Vec<u8>) -> Result<(), NoMemory>
     answer.extend_from_slice(bad_line().as_slice())
 }
 
-/// Gives the line's statement to the server, if it has one, and answers the line.
+/// Gives the line's statement to the server, if it has one, and answers the line. The answer to a line of blanks is
+/// empty. If memory is refused, the server is as before.
 #[tactic(auto, unfolding(crate::specs::Transcript::answer_of, crate::specs::Transcript::state_after_line))]
 pub(crate) fn put_line(
     alloc: Global,

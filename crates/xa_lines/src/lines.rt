@@ -7,7 +7,7 @@ ghost use Rattle.xa_lines.specs.Script.{is_comment_line, number_of_word};
 
 use xa_xid::{ByteClass, SessionNo, number_of, skip_blanks};
 
-/// Returns how many bytes come before the first line feed.
+/// Returns how many bytes come before the first line feed: all of them if there is none.
 pub fn line_length(text: &[u8]) -> usize
     ensures length { result ≡ prefix_len (λ byte. not (byte == 10)) text.now }
     ensures within { result ≤ length text.now }
@@ -17,7 +17,7 @@ pub fn line_length(text: &[u8]) -> usize
         .unwrap_or(text.len())
 }
 
-/// Returns how many bytes come before the first blank.
+/// Returns how many bytes come before the first blank: all of them if there is none.
 fn word_length(text: &[u8]) -> usize
     ensures length { result ≡ prefix_len is_no_blank text.now }
     ensures within { result ≤ length text.now }
@@ -27,7 +27,7 @@ fn word_length(text: &[u8]) -> usize
         .unwrap_or(text.len())
 }
 
-/// The session that the word names.
+/// The session that the word names: a number from 1 to 16, without leading zeros. Else None.
 fn session_of(word: &[u8]) -> Option<SessionNo>
     ensures { result ≡ session_named word.now }
 {
@@ -50,7 +50,8 @@ pub enum ScriptLine<'a> {
     Given(SessionNo, &'a [u8]),
 }
 
-/// Returns the first line, without its line feed, and the text after that.
+/// Returns the first line, without its line feed, and the text after that. Without a line feed all of the text is the
+/// line, and nothing comes after it.
 ///
 /// The text has at least one byte.
 /// Takes no memory. Doesn't wait.
@@ -102,11 +103,13 @@ pub fn number_in(word: &[u8]) -> Option<u64>
 {
     match word {
         [] => return None,
+        // A leading zero; or `0x`, after which `number_of` would read hexadecimal digits.
         [b'0', _, ..] => return None,
         _ => {}
     }
     match number_of(word) {
         Ok((number, [])) => Some(number),
+        // No number, one above 2^64 - 1, or one with something behind it.
         _ => None,
     }
 }

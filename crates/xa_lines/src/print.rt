@@ -37,6 +37,7 @@ fn push_part(alloc: Global, text: &mut Vec<u8>, bytes: &[u8]) -> Result<(), NoMe
     requires { length bytes.now ≤ text_bytes }
     ensures { OnOk result (text.new.items ≡ text.old.items ++ part_text bytes.now) }
 {
+    // `with_part` takes the text, and gives a longer one back.
     let before = mem::replace(text, Vec::new(alloc));
     *text = with_part(before, bytes)?;
     Ok(())
@@ -61,7 +62,8 @@ fn push_row_data(
     }
 }
 
-/// Appends the line of a recovered identifier.
+/// Appends the line of a recovered identifier, without a line feed: its formatID, the lengths of gtrid and bqual, and
+/// their bytes, in digits if `convert` asks for that.
 fn push_row(alloc: Global, text: &mut Vec<u8>, convert: bool, xid: &Xid) -> Result<(), NoMemory>
     ensures { OnOk result (text.new.items ≡ text.old.items ++ row_text convert xid.now) }
 {
@@ -90,6 +92,7 @@ fn push_error(text: &mut Vec<u8>, error: &XaError) -> Result<(), NoMemory>
     ensures { OnOk result (text.new.items ≡ text.old.items ++ error_text error.now) }
 {
     let (number, sqlstate) = (error.number(), error.sqlstate());
+    // A write to a `Vec` fails only if memory is refused.
     write!(text, "ERROR {number} ({sqlstate}): {error}").map_err(|_| AllocError)
 }
 

@@ -56,6 +56,7 @@ impl<'a> Recorded<'a> {
     {
         Recorded {
             reader: CutReader::new(bytes, piece, reads),
+            // What it is given isn't cut into pieces.
             writer: CutWriter::new(alloc, usize::MAX, room),
             received: Vec::new(alloc),
             told: 0,
@@ -88,6 +89,8 @@ impl<'a, S: LineServer> Client<S> for Recorded<'a> {
 
     ghost exchange = { λ client. Some (exchange_of client) };
 
+    /// Gives what the client sends next, and keeps a copy of it. Returns 0 at the end. If a read fails, or memory for
+    /// the copy is refused, the client is deaf from then on.
     fn receive(&mut self, piece: &mut [u8]) -> io::Result<usize>
         requires open { self.old.stage ≡ Stage.Open }
         ensures bound { ReadsAtMost result piece.new }
@@ -99,6 +102,7 @@ impl<'a, S: LineServer> Client<S> for Recorded<'a> {
         ensures deaf { reads_left_in self.old.reader ≡ 0 → IsErr result }
         ensures kept { (piece_of self.new.reader ≡ piece_of self.old.reader) × (self.new.writer ≡ self.old.writer) }
     {
+        // The room is taken before the read, so that nothing is read that can't be kept.
         if self.received.reserve(piece.len()).is_err() {
             self.stage = Stage::Deaf;
             return Err(ErrorKind::OutOfMemory.into());
@@ -119,11 +123,13 @@ impl<'a, S: LineServer> Client<S> for Recorded<'a> {
         }
     }
 
+    /// Takes all of the text, in one write. If the write fails, or takes less, the client is mute from then on.
     fn tell(&mut self, text: &[u8]) -> io::Result<()>
         ensures told { WritesText (Some (exchange_of self.old)) (Some (exchange_of self.new)) result text.now }
         ensures room { OnOk result (room_in self.old.writer ≡ room_in self.new.writer + length text.now) }
         ensures kept { self.new.reader ≡ self.old.reader }
     {
+        // A writer without room would fail, though nothing is to be taken.
         if text.is_empty() {
             return Ok(());
         }
@@ -141,6 +147,7 @@ impl<'a, S: LineServer> Client<S> for Recorded<'a> {
         }
     }
 
+    /// What was given so far counts as told. It never fails.
     fn flush(&mut self) -> io::Result<()>
         ensures flushed { Flushes (Some (exchange_of self.old)) (Some (exchange_of self.new)) result }
         ensures kept { (self.new.reader ≡ self.old.reader) × (self.new.writer ≡ self.old.writer) }

@@ -5,18 +5,19 @@ ghost use Rattle.xa_lines.specs.Faults.{number_of_script_fault};
 use std::alloc::{AllocError, AllocFailed};
 use thiserror::Error;
 
-/// Why a job on a script, a run or a race, ends early.
+/// Why a job on a script, a run or a race, ends early. Other jobs end with these faults too, with limits of their own,
+/// and say what they leave written.
 ///
 /// Own rule: docs/COMMANDS.md#scripts.
 #[derive(Clone, Copy, Debug, Drop, PartialEq, Eq, Error)]
 pub enum ScriptFault {
-    /// 1: a read failed. Nothing was written.
+    /// 1: a read failed, or too many reads were needed. Nothing was written.
     #[error("read fault")]
     Read,
     /// 2: the script is longer than 1,048,576 bytes. Nothing was written.
     #[error("script too long")]
     TooLong,
-    /// 3: a write failed. A prefix of the output was written.
+    /// 3: a write failed or took nothing. A prefix of the output was written.
     #[error("write fault")]
     Write,
     /// 4: an allocation failed. A run has written a prefix of its output, a race nothing.

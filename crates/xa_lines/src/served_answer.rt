@@ -21,7 +21,9 @@ use xa_xid::{NoMemory, SessionNo, Statement};
 /// was refused for it.
 const SPARE_BYTES: usize = 16;
 
-/// Carries out a statement whose reply is known and isn't a list, and answers it without memory.
+/// Carries out a statement whose reply is known and isn't a list, if it is logged, which `enters` says, and answers it
+/// without memory. If memory is refused for carrying it out, the answer says so, and nothing has changed. 16 more
+/// bytes can be appended to the answer without memory.
 fn serve_short(
     server: &mut Server,
     session: SessionNo,
@@ -41,8 +43,8 @@ fn serve_short(
     }
 }
 
-/// Answers a statement whose reply is known in a new text, and carries it out. 16 more bytes can be appended
-/// to the answer without memory.
+/// Answers a statement whose reply is known, in a new text, and carries it out if it is logged, which `enters` says.
+/// 16 more bytes can be appended to the answer without memory.
 fn answer_reply(
     alloc: Global,
     server: &mut Server,
@@ -72,7 +74,9 @@ fn answer_reply(
     Ok(answer)
 }
 
-/// Answers a statement whose reply is known.
+/// Answers a statement whose reply is known, and carries it out if it is logged, which `enters` says. Only the answer
+/// to a list takes memory. If memory is refused for the answer or for carrying the statement out, the answer says so,
+/// and nothing has changed. 16 more bytes can be appended to the answer without memory.
 fn serve_reply(
     alloc: Global,
     server: &mut Server,
@@ -95,7 +99,8 @@ fn serve_reply(
     }
 }
 
-/// Answers a statement that was read. 16 more bytes can be appended to the answer without memory.
+/// Answers a statement that was read, and carries it out if it is logged. If memory is refused, the answer says so,
+/// and nothing has changed. 16 more bytes can be appended to the answer without memory.
 pub(crate) fn serve_read(
     alloc: Global,
     server: &mut Server,
@@ -111,7 +116,8 @@ pub(crate) fn serve_read(
     }
 }
 
-/// Answers a text that isn't a statement. 16 more bytes can be appended to the answer without memory.
+/// Answers a text that isn't a statement, and goes wrong at this place. 16 more bytes can be appended to the answer
+/// without memory.
 pub(crate) fn serve_unread(server: &Server, session: SessionNo, place: u64) -> Answer
     ensures answered { IsStatementAnswer server.now session (Err place) (bytes_of result) server.now }
     ensures room { HasRoom 16 result }
@@ -121,7 +127,8 @@ pub(crate) fn serve_unread(server: &Server, session: SessionNo, place: u64) -> A
     unread_told(session, place)
 }
 
-/// Answers a session's line.
+/// Answers a session's line, of which `text` comes after the number: carries out its statement, or if it isn't one,
+/// says where it goes wrong.
 pub(crate) fn serve_given(
     alloc: Global,
     server: &mut Server,

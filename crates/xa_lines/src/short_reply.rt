@@ -21,11 +21,13 @@ fn session_text(session: SessionNo) -> ArrayVec<u8, 160>
 {
     let mut buffer = Buffer::new();
     let mut text = ArrayVec::new();
+    // The number has at most two digits, so it fits.
     let _ = text.try_extend_from_slice(buffer.format(session.get()).as_bytes());
     text
 }
 
-/// Returns the answer to a session, given in two parts.
+/// Returns the answer to a session: its number, a blank, what it is told, which is given in two parts, and a line
+/// feed.
 fn told(session: SessionNo, first: &[u8], second: &[u8]) -> Answer
     requires { length first.now + length second.now ≤ 140 }
     ensures bytes { bytes_of result ≡ answer_text (decimal session) (first.now ++ second.now) }
@@ -58,6 +60,7 @@ fn value_told(session: SessionNo, value: &[u8]) -> Answer
     ensures bytes { bytes_of result ≡ answer_text (decimal session) (codes "VALUE " ++ part_text value.now) }
     ensures room { HasRoom 16 result }
 {
+    // `0x` without a digit is no literal.
     if value.is_empty() {
         return told(session, b"VALUE ", b"X''");
     }
@@ -91,7 +94,7 @@ fn error_words(error: &XaError) -> &'static [u8]
     }
 }
 
-/// The answer to a session's reply that isn't a list.
+/// The answer that tells a session a reply, which isn't a list.
 pub(crate) fn reply_told(session: SessionNo, reply: &Reply) -> Answer
     requires { is_list reply.now ≡ false }
     ensures bytes { (convert : Bool) → bytes_of result ≡ answer_text (decimal session) (reply_text convert reply.now) }

@@ -25,7 +25,9 @@ use xa_xid::{Key, NoMemory, SessionNo, Statement};
 /// A sequential server that shows what it holds after each answer.
 #[derive(Drop)]
 pub struct Shown {
+    /// The server that answers.
     server: Server,
+    /// Where memory for the listing after a line that is too long is taken from: `answer_long` is given none.
     alloc: Global,
 }
 
@@ -49,7 +51,7 @@ fn comment_answer(alloc: Global, line: &[u8]) -> Answer
     }
 }
 
-/// Returns the answer, followed by the listing of these rows.
+/// Returns the answer, followed by the listing: all branches, and the rows of these keys.
 fn listed(
     alloc: Global,
     answer: &Answer,
@@ -62,7 +64,7 @@ fn listed(
     with_listing(alloc, text, server, keys)
 }
 
-/// Whether the listing of these rows is empty. It takes no memory if it is.
+/// Whether the listing is empty: it is if there are neither branches nor keys. To find that takes no memory then.
 #[tactic(auto, using(crate::proofs::Listed::branch_listed, crate::proofs::Listed::key_listed))]
 fn lists_nothing(alloc: Global, server: &Server, keys: &[Key]) -> bool
     ensures nothing { result ≡ true → listing server.now keys.now ≡ [] }
@@ -78,8 +80,8 @@ fn lists_nothing(alloc: Global, server: &Server, keys: &[Key]) -> bool
     }
 }
 
-/// Returns the answer, followed by the listing of these rows, or by the line that says that memory was
-/// refused for it. If nothing is listed no memory is wanted, and the answer stands alone.
+/// Returns the answer, followed by the listing (all branches, and the rows of these keys), or by the line that says
+/// that memory was refused for it. If nothing is listed no memory is wanted, and the answer stands alone.
 fn with_shown(alloc: Global, answer: Answer, server: &Server, keys: &[Key]) -> Answer
     requires { HasRoom 16 answer }
     ensures { StandsBehind (listing server.now keys.now) (bytes_of answer) (bytes_of result) }
@@ -93,7 +95,8 @@ fn with_shown(alloc: Global, answer: Answer, server: &Server, keys: &[Key]) -> A
     }
 }
 
-/// Answers a statement that was read, and shows the store after the answer.
+/// Answers a statement that was read, and shows the store after the answer: all branches, and the rows that the
+/// statement is about. If memory is refused for that, a line that says so comes in its place.
 fn show_read(
     alloc: Global,
     server: &mut Server,
@@ -104,6 +107,7 @@ fn show_read(
         → read_of text ≡ Ok statement.now
         → IsAnswerShown server.old (Given session text) (bytes_of result) server.new }
 {
+    // A statement that ends a branch is about the rows that the branch held before.
     let keys = server.keys_about(alloc, session, statement);
     let answer = serve_read(alloc, server, session, statement);
     match keys {
@@ -112,7 +116,8 @@ fn show_read(
     }
 }
 
-/// Answers a text that isn't a statement, and shows the store after the answer.
+/// Answers a text that isn't a statement, and shows the store after the answer: all branches, and no other rows, since
+/// the text is about none.
 fn show_unread(alloc: Global, server: &Server, session: SessionNo, place: u64) -> Answer
     ensures { (text : List ℕ)
         → read_of text ≡ Err place
@@ -132,14 +137,16 @@ fn show_given(alloc: Global, server: &mut Server, session: SessionNo, text: &[u8
     }
 }
 
-/// Answers a bad line, and shows the store after the answer.
+/// Answers a bad line, and shows the store after the answer: all branches, and no other rows, since the line is about
+/// none.
 fn show_bad(alloc: Global, server: &Server) -> Answer
     ensures { IsAnswerShown server.now Bad (bytes_of result) server.now }
 {
     with_shown(alloc, bad_line(), server, &[])
 }
 
-/// Answers a line that isn't a comment, and shows the store after the answer.
+/// Answers a line that isn't a comment, and shows the store after the answer. A line of blanks has an empty answer,
+/// and nothing is shown.
 fn answer_shown(alloc: Global, server: &mut Server, line: &[u8]) -> Answer
     ensures { IsAnswerShown server.old (line_of line.now) (bytes_of result) server.new }
 {
@@ -174,6 +181,7 @@ impl LineServer for Shown {
     //   be listed. A comment is repeated, or replaced by that line, and changes nothing.
     ghost answers = { Shows };
 
+    /// Repeats a comment. Answers any other line, and shows the store after the answer, as `answer_shown` does.
     fn answer(&mut self, alloc: Global, line: &[u8]) -> Answer {
         if is_comment(line) {
             return comment_answer(alloc, line);
@@ -181,6 +189,7 @@ impl LineServer for Shown {
         answer_shown(alloc, &mut self.server, line)
     }
 
+    /// Answers as for a bad line, since what begins the line isn't looked at: even a comment.
     fn answer_long(&mut self) -> Answer {
         show_bad(self.alloc, &self.server)
     }

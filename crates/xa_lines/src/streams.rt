@@ -47,7 +47,7 @@ fn read_once<R: PieceReader>(reader: &mut R, piece: &mut [u8]) -> Result<usize, 
     }
 }
 
-/// Writes once: at least one byte.
+/// Writes once: at least one byte. A write that takes nothing is a fault, too.
 fn write_once<W: PieceWriter>(writer: &mut W, bytes: &[u8]) -> Result<usize, ScriptFault>
     ensures bound { WritesAtMost result bytes.now }
     ensures bytes { WriteAppends (W.contents writer.old) (W.contents writer.new) result bytes.now }
@@ -63,7 +63,7 @@ fn write_once<W: PieceWriter>(writer: &mut W, bytes: &[u8]) -> Result<usize, Scr
     }
 }
 
-/// Reads all that the reader gives: at most `most` bytes, in at most `reads` reads.
+/// Reads all that the reader gives: at most `most` bytes, in at most `reads` reads. The read that finds the end counts.
 ///
 /// Errors: `Read` if a read failed, or too many were needed; `TooLong` if the reader gives more; `NoMemory`
 /// if an allocation failed. A reader that failed isn't read again.
@@ -87,6 +87,7 @@ pub fn read_within<R: PieceReader>(
     ensures cause { IfErr result (λ fault. StopsReading R.gives R.fails reads most fault reader.old reader.new) }
 {
     let mut text = Vec::new(alloc);
+    // What one read may give at most. Any size but 0 would do.
     let mut piece = [0u8; 4096];
     for _read in 0..reads {
         let count = read_once(reader, &mut piece)?;
@@ -99,6 +100,7 @@ pub fn read_within<R: PieceReader>(
         }
         text.extend_from_slice(&piece[..count])?;
     }
+    // No read is left, and none has found the end.
     Err(ScriptFault::Read)
 }
 

@@ -11,7 +11,7 @@ use crate::{Client, LineServer, PieceReader, PieceWriter};
 use std::io;
 use std::io::{BufWriter, ErrorKind, Read, Write};
 
-/// Writes once. An interrupted write takes nothing.
+/// Writes once, and returns how many bytes were taken: 0 if the write was interrupted, which is no error here.
 ///
 /// Errors: any other error of the write, and a write that took nothing.
 fn give_once<W: PieceWriter>(writer: &mut W, text: &[u8]) -> io::Result<usize>
@@ -47,6 +47,7 @@ fn give<W: PieceWriter>(writer: &mut W, text: &[u8]) -> io::Result<()>
     ensures retried { IfErr result (λ fault. error_kind fault ≢ ErrorKind.Interrupted) }
 {
     let mut written = 0;
+    // With a bound the loop is known to end, also if each write is interrupted.
     for _try in 0..u64::MAX {
         if written >= text.len() {
             return Ok(());
@@ -54,6 +55,7 @@ fn give<W: PieceWriter>(writer: &mut W, text: &[u8]) -> io::Result<()>
         let count = give_once(writer, &text[written..])?;
         written += count;
     }
+    // No try is left. The kind isn't `Interrupted`, after which a caller might begin again.
     Err(ErrorKind::TimedOut.into())
 }
 

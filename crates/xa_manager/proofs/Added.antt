@@ -47,23 +47,28 @@ pub record AddsOnly (kind : Statement → Type 0) (old new : SessionView) : Type
   pub each : All kind statements
 
 module _ (kind : Statement → Type 0) where
+  -- a session, compared with itself, has added nothing
   pub adds_none : (session : SessionView) → AddsOnly kind session session
   adds_none session =
       record { statements = []; number = refl; mine = sym (append-nil session.known.mine); each = All-nil kind }
 
+  -- a session that is as it was has added nothing
   adds_same : (old new : SessionView) → new ≡ old → AddsOnly kind old new
   adds_same old new is = subst (λ s. AddsOnly kind old s) (sym is) (adds_none old)
 
+  -- a session that added statements, each of the kind, added only such
   adds_these : (statements : List Statement) (old new : SessionView) → All kind statements
       → AddsStatements statements old new → AddsOnly kind old new
   adds_these statements old new each adds =
       record { statements = statements; number = adds.advances.number; mine = adds.mine; each = each }
 
+  -- a session that added one statement, of the kind, added only such
   adds_one : (statement : Statement) (old new : SessionView) → kind statement → AddsStatements (statement ∷ []) old new
       → AddsOnly kind old new
   adds_one statement old new is adds =
       adds_these (statement ∷ []) old new (All-cons kind statement [] is (All-nil kind)) adds
 
+  -- a session that added two statements, both of the kind, added only such
   adds_two : (first second : Statement) (old new : SessionView) → kind first → kind second
       → AddsStatements (first ∷ second ∷ []) old new
       → AddsOnly kind old new
@@ -71,7 +76,7 @@ module _ (kind : Statement → Type 0) where
       adds_these (first ∷ second ∷ []) old new (All-cons kind first (second ∷ []) is
       (All-cons kind second [] also (All-nil kind))) adds
 
-  -- one after another
+  -- if only statements of the kind were added up to a session, and from it on, only such were added in all
   pub adds_behind : (old mid new : SessionView) → AddsOnly kind old mid → AddsOnly kind mid new → AddsOnly kind old new
   adds_behind old mid new one two = record {
     statements = one.statements ++ two.statements;
@@ -87,10 +92,12 @@ module _ (kind : Statement → Type 0) where
     each = All-append kind one.statements two.statements one.each two.each;
   }
 
+  -- of a statement that wasn't carried out nothing was added
   undone : (statement : Statement) (cause : Cause) (old new : SessionView) → IsUndone statement cause old new
       → AddsOnly kind old new
   undone statement cause old new is = adds_these [] old new (All-nil kind) is.adds
 
+  -- if XA END was carried out and the statement behind it wasn't, the XA END was added, which is of the kind
   undone_behind : (statement : Statement) (xid : Xid) (cause : Cause) (old new : SessionView) → kind (End xid)
       → IsUndoneBehind statement xid cause old new
       → AddsOnly kind old new
@@ -98,18 +105,21 @@ module _ (kind : Statement → Type 0) where
       adds_behind old is.mid new (adds_one (End xid) old is.mid ends is.ends.adds)
       (undone statement cause is.mid new is.undone)
 
+  -- if a statement wasn't carried out, or the XA END before it wasn't, at most the XA END was added
   stopped : (ends : Bool) (statement : Statement) (xid : Xid) (cause : Cause) (old new : SessionView) → kind (End xid)
       → IsStopped ends statement xid cause old new → AddsOnly kind old new
   stopped false statement xid cause old new may is = undone statement cause old new is
   stopped true statement xid cause old new may (inl is) = undone (End xid) cause old new is
   stopped true statement xid cause old new may (inr is) = undone_behind statement xid cause old new may is
 
+  -- if a statement was answered XAER_NOTA, at most the XA END before it was added
   missed : (ends : Bool) (statement : Statement) (xid : Xid) (old new : SessionView) → kind (End xid)
       → IsMissing ends statement xid old new
       → AddsOnly kind old new
   missed false statement xid old new may is = undone statement _ old new is
   missed true statement xid old new may is = undone_behind statement xid _ old new may is
 
+  -- if a branch wasn't finished, at most the XA END was added
   unfinished : (ends : Bool) (statement : Statement) (xid : Xid) (cause : Cause) (old new : SessionView)
       → kind (End xid)
       → IsUnfinished ends statement xid cause old new → AddsOnly kind old new
@@ -117,12 +127,14 @@ module _ (kind : Statement → Type 0) where
   unfinished true statement xid cause old new may (inl is) = undone (End xid) cause old new is
   unfinished true statement xid cause old new may (inr is) = undone_behind statement xid cause old new may is.1
 
+  -- if a branch was finished, the statement that does it was added, after XA END if that comes before it
   closed : (ends : Bool) (statement : Statement) (xid : Xid) (old new : SessionView) → kind (End xid) → kind statement
       → IsClosed ends statement xid old new
       → AddsOnly kind old new
   closed false statement xid old new may is adds = adds_one statement old new is adds.adds
   closed true statement xid old new may is adds = adds_two (End xid) statement old new may is adds.adds
 
+  -- a store that finishing reached added at most XA END and the finishing statement, and nothing if it takes no part
   settles : (ends : Bool) (statement : Statement) (xid : Xid) (takes listed : Bool) (old new : SessionView)
       → kind (End xid)
       → (takes ≡ true → kind statement) → Settles ends statement xid takes listed old new → AddsOnly kind old new
@@ -130,17 +142,19 @@ module _ (kind : Statement → Type 0) where
   settles ends statement xid true false old new may is closes = closed ends statement xid old new may (is refl) closes
   settles ends statement xid true true old new may is misses = missed ends statement xid old new may misses
 
+  -- a store that preparing reached added XA END and XA PREPARE, or nothing if it takes no part
   voted : (xid : Xid) (takes : Bool) (old new : SessionView) → kind (End xid) → kind (Prepare xid)
       → IsVoted xid takes old new → AddsOnly kind old new
   voted xid false old new may is same = adds_same old new same
   voted xid true old new may is adds = adds_two (End xid) (Prepare xid) old new may is adds.adds
 
+  -- after a vote of One Phase the only participant added XA END, and any other store nothing
   ended : (xid : Xid) (takes : Bool) (old new : SessionView) → kind (End xid) → IsEnded xid takes old new
       → AddsOnly kind old new
   ended xid false old new may same = adds_same old new same
   ended xid true old new may adds = adds_one (End xid) old new may adds.adds
 
-  -- a row statement that was answered was added or not
+  -- a row statement that was answered, which is of the kind, was added or not
   replied : (row : Statement) (reply : Reply) (xid : Xid) (old new : SessionView) → kind row
       → IsReplied row reply xid old new → AddsOnly kind old new
   replied row reply xid old new may is =
@@ -161,6 +175,8 @@ module _ (kind : Statement → Type 0) where
         each = All-nil kind;
       }
 
+  -- if the branch was open, or its XA START was added, which is of the kind, and then only such statements were
+  -- added: all of them are of the kind
   started : (xid : Xid) (old mid new : SessionView) → kind (Start xid) → MayStart xid old mid → AddsOnly kind mid new
       → AddsOnly kind old new
   started xid old mid new may (was_open is) more = more
@@ -168,6 +184,7 @@ module _ (kind : Statement → Type 0) where
       adds_behind old m new (adds_one (Start xid) old m may is.adds) more
 
   -- ---- recovery
+  -- of DISCONNECT, which is of the kind, one or none was added
   disconnected : (old new : SessionView) → kind Disconnect → IsDisconnected old new → AddsOnly kind old new
   disconnected old new may is = by is.statements is.is is.adds
     where
@@ -178,11 +195,13 @@ module _ (kind : Statement → Type 0) where
       by statements (inr one) adds =
           adds_one Disconnect old new may (subst (λ list. AddsStatements list old new) one adds)
 
+  -- the kind has XA COMMIT of each decided branch of the coordinator's naming, and XA ROLLBACK of each undecided one
   module _ (decisions : List Decision) (name : List ℕ) (store : ℕ)
       (commits : (number : ℕ) (xid : Xid) → IsBranchOf name number store xid → is_decided decisions number ≡ true
       → kind (Commit xid false))
       (rolls : (number : ℕ) (xid : Xid) → IsBranchOf name number store xid → is_decided decisions number ≡ false
       → kind (Rollback xid)) where
+    -- for one listed branch only an XA COMMIT or XA ROLLBACK of the kind was added, or nothing
     settled_one : (xid : Xid) (before after : Tally) (old new : SessionView)
         → SettlesOne decisions name store xid before old after new → AddsOnly kind old new
     settled_one xid before after old new (foreign apart) = adds_none old
@@ -192,6 +211,7 @@ module _ (kind : Statement → Type 0) where
         adds_one (Rollback xid) old n (rolls number xid is decided) adds.adds
     settled_one xid before after old new (missing number is n none) = undone _ _ old n none
 
+    -- for the listed branches, one after another, only XA COMMIT and XA ROLLBACK of the kind were added
     settled : (old : SessionView) (xids : List Xid) (tally : Tally) (new : SessionView)
         → Settled decisions name store old xids tally new
         → AddsOnly kind old new
@@ -199,6 +219,7 @@ module _ (kind : Statement → Type 0) where
     settled old xids tally new (one_more before first mid so_far xid after n is) =
         adds_behind old mid n (settled old before first mid so_far) (settled_one xid first after mid n is)
 
+    -- the recovery of a store added only DISCONNECT, XA COMMIT and XA ROLLBACK of the kind
     pub recovered : (tally : Tally) (front : ℕ) (old new : SessionView) → kind Disconnect
         → IsRecovered decisions name store tally front old new
         → AddsOnly kind old new
@@ -211,6 +232,7 @@ module _ (kind : Statement → Type 0) where
         (adds_these [] is.finished new (All-nil kind) is.clear.listed.adds)))
 
 -- ---- what was added, and what wasn't
+-- if each statement is of the kind, so is that of each entry that is made of one
 in_map : (kind : Statement → Type 0) (number : ℕ) (statements : List Statement) → All kind statements
     → All (λ (entry : Entry). kind entry.statement) (map (entry_of number) statements)
 in_map kind number [] each = All-nil (λ (entry : Entry). kind entry.statement)
@@ -219,7 +241,7 @@ in_map kind number (first ∷ rest) each =
     (All-head kind first rest each)
     (in_map kind number rest (All-tail kind first rest each))
 
--- a statement was there, or is of the kind that was added
+-- an entry that a session has added was added before, or its statement is of the kind that was added since
 pub added_or_there : (kind : Statement → Type 0) (old new : SessionView) (entry : Entry) → AddsOnly kind old new
     → Contains new.known.mine entry
     → Contains old.known.mine entry ⊎ kind entry.statement
@@ -242,6 +264,8 @@ stays_there kind old new entry adds there =
 
 -- ---- in each store
 module _ {S : Type 0} (view : S → SessionView) (kind : ℕ → Statement → Type 0) where
+  -- finishing a transaction adds in each store only statements of its kind, if that has the branch's XA END and,
+  -- where the store takes part, the statement that finishes the branch
   pub ending_adds : (branches : List (Option OpenBranch)) (transaction : Transaction) (closing : Closing)
       (ending : Ending) (old new : List S)
       → ((store : ℕ) → kind store (End (branch_of transaction store)))
@@ -274,6 +298,7 @@ module _ {S : Type 0} (view : S → SessionView) (kind : ℕ → Statement → T
           (λ other a. adds_none (kind other) a)
           store
 
+  -- a vote adds in each store only statements of its kind, if that has the branch's XA END and XA PREPARE
   pub vote_adds : (transaction : Transaction) (vote : Vote) (old new : List S)
       → ((store : ℕ) → kind store (End (branch_of transaction store)))
       → ((store : ℕ) → kind store (Prepare (branch_of transaction store))) → VotesAs view transaction vote old new
@@ -298,6 +323,8 @@ module _ {S : Type 0} (view : S → SessionView) (kind : ℕ → Statement → T
       at_same view store (AddsOnly (kind store)) (λ a. adds_none (kind store) a) old new
       (ap (λ list. slice_get list store) is.1)
 
+  -- work adds in its store only statements of its kind, if that has the row statement and, where the store takes part
+  -- then, the branch's XA START; in the others it adds nothing
   pub work_adds : (marks marks' : List (Option OpenBranch)) (before after : Transaction) (store : ℕ) (row : Statement)
       (answer : Result Reply WorkFault)
       (old new : List S) → (takes_part after.participants store ≡ true → kind store (Start (branch_of before store)))
@@ -331,7 +358,7 @@ module _ {S : Type 0} (view : S → SessionView) (kind : ℕ → Statement → T
       by (Err Lost) is = at_same view store (AddsOnly (kind store)) (λ a. adds_none (kind store) a) old new
           (ap (λ list. slice_get list store) is.4)
 
--- a store that took part before more work was added takes part after it
+-- a store that took part before it was given work takes part after it
 pub work_keeps : {S : Type 0} (view : S → SessionView) (marks marks' : List (Option OpenBranch))
     (before after : Transaction) (store : ℕ) (row : Statement)
     (answer : Result Reply WorkFault) (old new : List S) → WorksAs view marks marks' before after store row answer old

@@ -26,8 +26,11 @@ use Rattle.xa_manager.specs.Whole.{Performs}
 use Rattle.xa_manager.proofs.Passes.{map_within}
 use Rattle.xa_manager.proofs.Said.{get_before, get_last}
 
+-- `view` sees the coordinator's session of a value, `other` the other client's in it; using the first leaves the
+-- second as it was (`steady`)
 module _ {S : Type 0} (view other : S → SessionView) (steady : (old new : S) → HoldsAsBefore (view old) (view new)
     → other new ≡ other old) where
+  -- if each of the coordinator's sessions stays of its log, and none is missing, the other clients' are as they were
   others_steady : (old new : List (Fused S)) → length new ≡ length old
       → EachStore (limited view) (λ store. StaysOfLog) old new
       → others_of other new ≡ others_of other old
@@ -43,6 +46,7 @@ module _ {S : Type 0} (view other : S → SessionView) (steady : (old new : S) �
       held : StaysOfLog (limited view o) (limited view n) → HoldsAsBefore (view o.inner) (view n.inner)
       held stays = record { base = stays.base; beside = stays.beside }
 
+  -- if the coordinator's sessions are the same but for their limits, the other clients' are as they were
   others_within : (old new : List (Fused S)) → map (λ (s : Fused S). s.inner) new ≡ map (λ (s : Fused S). s.inner) old
       → others_of other new ≡ others_of other old
   others_within old new same =
@@ -52,19 +56,24 @@ module _ {S : Type 0} (view other : S → SessionView) (steady : (old new : S) �
   module _ {T : Type 0} (nobody : T → SessionView) (old new : WholeManager (Fused S) T)
       (was : length old.sessions ≡ old.stores)
       (now : length new.sessions ≡ new.stores) where
+    -- the other clients' sessions are as they were
     abbrev Same : Type 0
     Same = others_of other new.sessions ≡ others_of other old.sessions
 
+    -- they are as they were if they are in a manager that equals the new one
     unchanged_others : (whole : WholeManager (Fused S) T) → new ≡ whole
         → others_of other whole.sessions ≡ others_of other old.sessions → Same
     unchanged_others whole is same = ap (λ (w : WholeManager (Fused S) T). others_of other w.sessions) is ∙ same
 
+    -- a call that used only the coordinator's sessions leaves the other clients' as they were
     spoken : (decisions : List Decision) (stages : List Stage) → SpeaksAlone (limited view) decisions stages old new
         → Same
     spoken decisions stages alone =
         let stores : new.stores ≡ old.stores = ap (λ (w : WholeManager (Fused S) T). w.stores) alone.stands in
         others_steady old.sessions new.sessions (now ∙ stores ∙ sym was) alone.logs
 
+    -- a call other than AT and SHOW that was carried out left the other clients' sessions, held by the coordinator's,
+    -- as they were
     carried_beside : (call : Call) (response : Response) → ((store : ℕ) (statement : Statement)
         → call ≡ At store statement → ⊥) → (call ≡ Show → ⊥)
         → Carries (limited view) nobody old call response new → CarriesBeside view other nobody old call response new
@@ -85,13 +94,15 @@ module _ {S : Type 0} (view other : S → SessionView) (steady : (old new : S) �
     carried_beside (At store statement) response not_at not_show is = absurd (not_at store statement refl)
     carried_beside Show response not_at not_show is = absurd (not_show refl)
 
+    -- a call other than AT and SHOW that was refused or carried out was so also where the coordinator's sessions hold
+    -- the other clients'
     pub performed_beside : (call : Call) (response : Response)
         → ((store : ℕ) (statement : Statement) → call ≡ At store statement → ⊥) → (call ≡ Show → ⊥)
         → Performs view nobody old call response new → PerformsBeside view other nobody old call response new
     performed_beside call response not_at not_show performs =
         ⊎_elim (λ refused. inl refused) (λ carries. inr (carried_beside call response not_at not_show carries)) performs
 
--- if a session answered the statement so, it gave the reply, wherever in the history that took effect
+-- a session that answered a statement, or failed, was given it, with the reply or the fault as its result
 pub given_so : (statement : Statement) (answered : Result Answer Fault) (old new : SessionView)
     → IsAnsweredSo statement answered old new
     → IsGiven statement (reply_of answered) old new
@@ -120,7 +131,7 @@ alone_then a b c first second = record {
   starved = λ starved. second.starved (first.starved starved);
 }
 
--- a call that was read from a line is what the line says
+-- what was refused or carried out for a call was so for an equal one, as the call that a line says
 pub performed_said : {S T : Type 0} (view other : S → SessionView) (nobody : T → SessionView)
     (old new : WholeManager (Fused S) T) (call said : Call)
     (response : Response)
@@ -154,6 +165,7 @@ listed_beside view answers answered answer place old now next count reply so_far
     })
 
 module _ {S : Type 0} (view : S → SessionView) where
+  -- none of the sessions got a statement, and each passes on as many calls as before, if they are as they were
   pub leaves_none : (sessions : List (Fused S)) → LeavesAlone view sessions sessions
   leaves_none sessions =
       record {
@@ -161,7 +173,8 @@ module _ {S : Type 0} (view : S → SessionView) where
         left = refl;
       }
 
-  -- another client's session of one store was spoken to
+  -- if the coordinator's sessions were left alone so far, and then another client's session of one store got a
+  -- statement, which left the coordinator's there alone, they were left alone in all
   pub leaves_next : (place : ℕ) (old now next : List (Fused S)) → length now ≡ length old → LeavesAlone view old now
       → ChangesAt place now next
       → AtStore (within view) place IsLeftAlone now next

@@ -11,7 +11,7 @@ use Rattle.xa_manager.specs.declared.call.Call.{Call}
 use Rattle.xa_manager.specs.declared.stop.Stop.{Stop}
 use Rattle.xa_manager.specs.Stops.{differences, is_own, stops_below, stop_count, stops_at, stops_from, limits_for}
 
--- what holds of each item by its place holds where one is added
+-- what holds of each item by its place, counted from a number, and of one more at the place after them, holds of all
 pub pushed_holds : {X : Type 0} (P : ℕ → X → Type 0) (from : ℕ) (xs : List X) (y : X)
     → ((place : ℕ) (x : X) → slice_get xs place ≡ Some x → P (from + place) x)
     → P (from + length xs) y → (place : ℕ) (x : X) → slice_get (xs ++ y ∷ []) place ≡ Some x → P (from + place) x
@@ -72,7 +72,7 @@ unfolding differences
 differences_end after before place past =
     ap (λ (list : List ℕ). differences list (drop place before)) (drop_all place after past)
 
--- the loop over stores: the limit of one more is what it answered, or what is left
+-- the loop over stores: the limit of one more is how many calls go there in all, or what is left if that is less
 pub limits_step : (made : List ℕ) (place there left : ℕ) → place < length made → there ≡ get_or made place 0
     → limits_for (drop place made) left ≡ min there left ∷ limits_for (drop (place + 1) made) (left - min there left)
 unfolding limits_for
@@ -80,12 +80,12 @@ limits_step made place there left within is =
     ap (λ (list : List ℕ). limits_for list left)
     (drop_more made place 0 within ∙ ap (λ (n : ℕ). n ∷ drop (place + 1) made) (sym is))
 
--- past the last store no limit is
+-- past the last store there is no limit
 pub limits_end : (made : List ℕ) (place left : ℕ) → length made ≤ place → limits_for (drop place made) left ≡ []
 unfolding limits_for
 limits_end made place left past = ap (λ (list : List ℕ). limits_for list left) (drop_all place made past)
 
--- a line that makes no calls of sessions has no stop among them
+-- after fewer than 0 calls of a line there is no stop
 pub none_below : (place : ℕ) → stops_below place 0 ≡ []
 unfolding stops_below
 none_below place = refl
@@ -96,7 +96,7 @@ pub stops_more : (place count : ℕ) → stops_below place (count + 1) ≡ stops
 unfolding stops_below
 stops_more place count = ap (stops_below place) (add-one count)
 
--- a script's calls can be stopped at one call at least, even if there is no call
+-- a line has as many stops as it makes calls, or one if it makes none: the greater of their number and 1
 pub counted : (calls : ℕ) → max calls 1 ≡ stop_count calls
 counted zero = omega arith
 counted (suc calls) = omega arith
@@ -114,21 +114,24 @@ stops_step place calls made call there within as_well is also =
     ∙ ap (λ (list : List (List ℕ)). stops_from place (call ∷ drop (place + 1) calls) list)
     (drop_more made place there as_well ∙ ap (λ (t : List ℕ). t ∷ drop (place + 1) made) (sym also))
 
--- past the last call no stop is
+-- past the last call there is no stop
 pub stops_end : (place : ℕ) (calls : List Call) (made : List (List ℕ)) → length calls ≤ place
     → stops_from place (drop place calls) (drop place made) ≡ []
 unfolding stops_from
 stops_end place calls made past =
     ap (λ (list : List Call). stops_from place list (drop place made)) (drop_all place calls past)
 
--- each stop is in a line of the script
+-- each stop is in a line of the script: `bound` is how many lines there are
 module _ (bound : ℕ) where
+  -- the stop is in one of these lines
   abbrev Within : Stop → Type 0
   Within stop = stop.place < bound
 
+  -- of no stops each is in one of the lines
   none_within : All Within []
   none_within = λ k d less. absurd (let none : length {A = Stop} [] ≡ 0 = refl in omega (arith, less, none))
 
+  -- the stops in one of the lines, after fewer than so many calls, are in it
   below_within : (place count : ℕ) → place < bound → All Within (stops_below place count)
   unfolding stops_below
   below_within place zero within = none_within
@@ -136,11 +139,13 @@ module _ (bound : ℕ) where
       All-push Within (stops_below place count) (record { place = place; calls = count })
       (below_within place count within) within
 
+  -- all stops in one of the lines are in it, or there are none
   at_within : (place : ℕ) (own : Bool) (count : ℕ) → place < bound
       → All Within (if own then stops_below place count else [])
   at_within place true count within = below_within place count within
   at_within place false count within = none_within
 
+  -- the stops in calls from a place on are in the lines, if the calls are
   pub stops_within : (place : ℕ) (calls : List Call) (made : List (List ℕ)) → place + length calls ≤ bound
       → All Within (stops_from place calls made)
   unfolding stops_from
@@ -153,7 +158,7 @@ module _ (bound : ℕ) where
       (stops_within (place + 1) calls made (let f : place + length (call ∷ calls) ≤ bound = fits in
       grind (arith, common_steps)))
 
--- what holds of each item by its place holds where one is added
+-- what holds of each item by its place, and of one more at the place after them, holds of all
 pub pushed : {X : Type 0} (P : ℕ → X → Type 0) (xs : List X) (y : X) (count : ℕ) → length xs ≡ count
     → ((place : ℕ) (x : X) → slice_get xs place ≡ Some x → P place x)
     → P count y → (place : ℕ) (x : X) → slice_get (xs ++ y ∷ []) place ≡ Some x → P place x
@@ -177,7 +182,7 @@ pub none_there : {X Y : Type 0} (f : X → Y) (xs : List X) (place : ℕ) (y : Y
 none_there f [] place y empty is = cc
 none_there f (x ∷ xs) place y empty is = cc
 
--- an item within a list is the same whatever stands for those past its end
+-- the item at a place within a list is the same, whatever is given for places past its end
 pub same_read : {X : Type 0} (xs : List X) (place : ℕ) (one other : X) → place < length xs
     → get_or xs place one ≡ get_or xs place other
 same_read {X} [] place one other within =

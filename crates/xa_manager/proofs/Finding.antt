@@ -51,7 +51,8 @@ kept change (Some branch) keeps is isn't = clash (is_prepared_phase (change bran
 abbrev pub EndsBranch : Xid → Statement → Type 0
 EndsBranch xid statement = ((one_phase : Bool) × (statement ≡ Commit xid one_phase)) ⊎ (statement ≡ Rollback xid)
 
--- a statement of a session that hasn't a prepared branch open ends it only as an XA COMMIT or XA ROLLBACK of it
+-- a prepared branch that the session hasn't open is ended only by an XA COMMIT or XA ROLLBACK of it, if the statement
+-- isn't an XA START or XA END of it
 ends_it : (session : ℕ) (association : Association) (statement : Statement) (at : Xid) (found : Option Branch)
     → ((own : Xid) → (association ≡ Active own) ⊎ (association ≡ Idle own) → same_xid at own ≡ false)
     → (statement ≡ Start at → ⊥) → (statement ≡ End at → ⊥)
@@ -125,7 +126,7 @@ nobodys state session xid own is open_one = elim (same_or_apart xids_total exact
         clash (is_prepared state xid) is (ap (is_prepared state) same
         ∙ ap (λ p. option_map_or is_prepared_phase p false) phase)
 
--- only XA COMMIT and XA ROLLBACK end a prepared branch
+-- a statement after which a prepared branch isn't prepared any more is an XA COMMIT or XA ROLLBACK of it
 pub ends_prepared : (state : State) (session : ℕ) (statement : Statement) (xid : Xid) → is_prepared state xid ≡ true
     → is_prepared (after state session statement) xid ≡ false → EndsBranch xid statement
 ends_prepared state session statement xid is isn't = elim (outcome state session statement) [

@@ -31,7 +31,7 @@ Session = Fused CountedStore
 
 -- ---- how far a transaction has come
 
--- a transaction that was voted Ready, or is over
+-- the stage of a transaction that can be decided already: it was voted Ready, or is over
 abbrev pub MayStandDecided : Option Stage → Type 0
 MayStandDecided None = ⊥
 MayStandDecided (Some (Working transaction)) = ⊥
@@ -39,7 +39,7 @@ MayStandDecided (Some (Ready prepared)) = Unit {0}
 MayStandDecided (Some (Voted prepared)) = ⊥
 MayStandDecided (Some Over) = Unit {0}
 
--- the store takes part, as far as the transaction is kept
+-- the transaction was begun, and the store takes part in it, unless it is over and so not kept
 abbrev pub TookPart : ℕ → Option Stage → Type 0
 TookPart store None = ⊥
 TookPart store (Some (Working transaction)) = takes_part transaction.participants store ≡ true
@@ -134,7 +134,8 @@ grew_stays kind store old after statement grew added =
 
 -- ---- what goes on going
 
--- what is over stays so, what is decided stays so, and no branch of what is over begins
+-- sessions only added statements of the kind; what is over and undecided stays so, what is decided stays so, and the
+-- kind has no XA START of what is over
 pub record GoesOn (kind : ℕ → Statement → Type 0) (old new : Managing) : Type 0 where
   pub grows : Grows kind old.sessions new.sessions
   pub over : (number : ℕ) → IsUndecidedOver old number → IsUndecidedOver new number
@@ -171,7 +172,8 @@ goes_still kind old new store (Put key value) on is = tt
 goes_still kind old new store (Del key) on is = tt
 goes_still kind old new store Disconnect on is = tt
 
--- everything that was added goes with how far each transaction has come
+-- if all that was added goes with how far transactions had come, and what is added now goes with how far they are,
+-- then so does all that was added
 pub all_go : (kind : ℕ → Statement → Type 0) (old new : Managing) → Holds old → GoesOn kind old new
     → ((store : ℕ) (statement : Statement) → kind store statement → Goes new store statement)
     → (store : ℕ) (session : Session) (statement : Statement)

@@ -66,7 +66,7 @@ adds_known kind old new same = record {
   each = (adds_none kind old).each;
 }
 
--- each session within is as it was
+-- sessions that are the same but for their limits have added nothing
 pub grows_within : (old new : List Session) → map (λ (s : Session). s.inner) new ≡ map (λ (s : Session). s.inner) old
     → Grows Never old new
 grows_within old new same store after is =
@@ -427,7 +427,7 @@ ends number was transaction closing old new response there opened named takes ma
     goes store statement (inl harmless) = harmless_goes new store statement harmless
     goes store statement (inr finish) = subst (Goes new store) (sym finish.0) (finish_goes closing may store finish.1)
 
--- how one that was voted on may be finished
+-- a transaction that was voted on may be finished as its decision and its vote say
 may_finish : (old : Managing) (number : ℕ) (prepared : Prepared) → Holds old
     → (stage_of old.stages number ≡ Some (Ready prepared)) ⊎ (stage_of old.stages number ≡ Some (Voted prepared))
     → May old number prepared.transaction (finish_for (is_decided old.decisions number) prepared.vote_kind)

@@ -1,4 +1,4 @@
--- How many calls the sessions have left, once each of the first was limited, and once each was made.
+-- How many calls sessions pass on while they are limited, or put into a list, one after another.
 use Rattle.std.proofs.Common.{◌≡◌, ◌<◌, ◌+◌, ℕ, zero, suc, List, [], ◌∷◌, ◌++◌, length, Some, sym, ◌∙◌, ap, subst, inl}
 use Rattle.std.proofs.Common.{inr, arith}
 use Rattle.std.specs.Prelude.{slice_get}
@@ -9,7 +9,7 @@ use Rattle.xa_coordinator.specs.declared.fused.Fused.{Fused}
 use Rattle.xa_coordinator.specs.Stores.{ChangesAt}
 use Rattle.xa_manager.specs.Limits.{Passes}
 
--- limits are given store by store: those up to this one, too, now have as many calls left as was said
+-- the loop over stores: one more passes on so many calls, as those below it do, and the others are as they were
 pub passes_grown : {S : Type 0} (store calls : ℕ) (old new : List (Fused S))
     → ((other : ℕ) → other < store → Passes other calls old) → Passes store calls new
     → ChangesAt store old new →

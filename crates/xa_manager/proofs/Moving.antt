@@ -1,4 +1,4 @@
--- What calls make of it.
+-- Calls keep what holds of a manager (`Holds`): one that moves a transaction to another stage, BEGIN, and DECIDE.
 use Rattle.std.proofs.Common.{◌≡◌, ◌≢◌, ◌⊎◌, ◌<◌, ◌+◌, ◌-◌, ◌^◌, ℕ, zero, suc, Bool, true, false, cond, List, [], ◌∷◌}
 use Rattle.std.proofs.Common.{◌++◌, length, refl, ap, sym, ◌∙◌, subst, inl, inr, Some, None, arith, length-append}
 use Rattle.std.specs.Prelude.{slice_get, slice_set, Option, ◌==◌}
@@ -31,7 +31,7 @@ use Rattle.xa_manager.proofs.Holding.{grew_cases, GoesOn, Never, all_go, still_p
 
 -- ---- another stage in the place of one
 
--- the stage of a number once one was put in the place of another
+-- after the stage of one number that was begun is set, that number has it, and each other has the stage that it had
 pub stage_put : (stages : List Stage) (number other : ℕ) (was stage : Stage) → stage_of stages number ≡ Some was
     → ((other ≡ number) × (stage_of (with_stage stages number stage) other ≡ Some stage))
     ⊎ ((other ≢ number) × (stage_of (with_stage stages number stage) other ≡ stage_of stages other))
@@ -71,7 +71,8 @@ stage_put stages number other was stage is = by (number == 0) (other == 0) refl 
           )
     ]
 
--- a transaction that isn't over came to this stage, and statements of this kind were added
+-- a transaction that wasn't over came to another stage, which fits it and the decisions, and the statements that were
+-- added are of this kind, which goes with the new stage
 pub record Acts (kind : ℕ → Statement → Type 0) (number : ℕ) (was stage : Stage) (old new : Managing) : Type 0 where
   pub stores : new.stores ≡ old.stores
   pub decisions : new.decisions ≡ old.decisions
@@ -97,7 +98,7 @@ pub record Acts (kind : ℕ → Statement → Type 0) (number : ℕ) (was stage 
 some_over : (was : Stage) → (was ≡ Over → ⊥) → Some was ≡ Some Over → ⊥
 some_over was apart is = apart (same_Some was Over is)
 
--- a call that moves one transaction to another stage keeps what holds, if that stage fits
+-- a call that moves one transaction to another stage, as `Acts` says, keeps what holds of the manager
 pub acts : (kind : ℕ → Statement → Type 0) (number : ℕ) (was stage : Stage) (old new : Managing)
     → Acts kind number was stage old new → Holds old → Holds new
 acts kind number was stage old new act holds =
@@ -210,7 +211,7 @@ stage_still stages last found other is = by (other == 0) is
     by true there = there
     by false there = get_still stages last found (other - 1) there
 
--- a new number that isn't decided decides nothing
+-- an undecided number behind the others leaves at each place whether it is decided
 decides_more : (decisions : List Decision) (place : ℕ)
     → decides (slice_get (decisions ++ Undecided ∷ []) place) ≡ decides (slice_get decisions place)
 decides_more [] zero = refl
@@ -234,11 +235,11 @@ some_stage : (stage : Option Stage) → (stage ≡ None → ⊥) → (found : St
 some_stage None none = absurd (none refl)
 some_stage (Some stage) none = (stage, refl)
 
--- a store takes part only in a transaction that is kept
+-- a store took part only in a transaction that was begun
 took_some : (store : ℕ) (stage : Option Stage) → TookPart store stage → stage ≡ None → ⊥
 took_some store stage took none = subst (TookPart store) none took
 
--- only a transaction that is kept may be decided
+-- only a transaction that was begun can be decided
 decided_some : (stage : Option Stage) → MayStandDecided stage → stage ≡ None → ⊥
 decided_some stage may none = subst MayStandDecided none may
 
@@ -322,7 +323,7 @@ still_decided : (decisions : List Decision) (number other : ℕ) → is_decided 
 unfolding with_decided
 still_decided decisions number other is = decided_kept decisions (number - 1) other is
 
--- numbers begin at 1, so a transaction that is kept doesn't have 0
+-- numbers begin at 1, so no transaction that was begun has 0
 stage_some : (stages : List Stage) (number : ℕ) (found : Stage) → stage_of stages number ≡ Some found → number ≢ 0
 unfolding stage_of
 stage_some stages number found is none =

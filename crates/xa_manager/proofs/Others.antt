@@ -55,7 +55,7 @@ abbrev OthersGrow : (ℕ → Statement → Type 0) → List Session → List Ses
 OthersGrow kind old new = (store : ℕ) (after : Session) → slice_get new store ≡ Some after
     → OtherGrew kind store old after
 
--- a statement that was given was added or not
+-- a statement of the kind that a session was given was added or not
 given_adds : (kind : Statement → Type 0) (statement : Statement) (answer : Result Reply Fault) (old new : SessionView)
     → kind statement
     → IsGiven statement answer old new → AddsOnly kind old new
@@ -87,7 +87,7 @@ given_adds kind statement (Err fault) old new may is =
       each = All-nil kind;
     }
 
--- another client to whom nothing was said has added nothing
+-- another client's session that is as it was has added nothing
 same_other : (kind : Statement → Type 0) (old new : SessionView) → new ≡ old → AddsOnly kind old new
 same_other kind old new is = subst (λ s. AddsOnly kind old s) (sym is) (adds_none kind old)
 
@@ -101,7 +101,7 @@ others_grow kind old new count each store after is =
     let was = slice_get-get_or old store after below in
     record { before = _; there = was; adds = each store _ after was is }
 
--- the other clients' sessions are as they were
+-- other clients' sessions that are as they were have added nothing
 others_same : (kind : ℕ → Statement → Type 0) (old new : List Session) → others_of other_of new ≡ others_of other_of old
     → OthersGrow kind old new
 others_same kind old new same =
@@ -114,7 +114,8 @@ others_same kind old new same =
     ∙ slice_get-map other old store
     ∙ ap (option_map other) is_before)))
 
--- if none of them ends a branch of the coordinator's, none has been ended by others
+-- if what other clients added before ends no branch of the coordinator's, and what they added since ends none, then
+-- all that they added ends none
 still_leave : (kind : ℕ → Statement → Type 0) (old new : Managing)
     → ((store : ℕ) (statement : Statement) → kind store statement → EndsNone store statement)
     → OthersGrow kind old.sessions new.sessions → OthersLeave old → OthersLeave new
@@ -132,7 +133,7 @@ same_leave : (old new : Managing) → others_of other_of new.sessions ≡ others
 same_leave old new same = still_leave Never old new (λ store statement never. absurd never)
     (others_same Never old.sessions new.sessions same)
 
--- AT with a statement that ends none of these branches
+-- after AT with a statement that ends no branch of the coordinator's, other clients still have ended none
 replied_leave : (store : ℕ) (statement : Statement) (old new : Managing) (response : Response)
     → EndsNone store statement
     → HasRepliedBeside own_of other_of store statement old response new → OthersLeave old → OthersLeave new
@@ -151,7 +152,7 @@ replied_leave store statement old new response none is =
           (sym is_after ∙ is.others.others there apart ∙ is_before)))
     ]))
 
--- SHOW, which gives each other client an XA RECOVER
+-- after SHOW, which gives each other client an XA RECOVER, they still have ended no branch of the coordinator's
 shown_leave : (old new : Managing) (response : Response) → IsShownBeside own_of other_of old response new
     → OthersLeave old → OthersLeave new
 shown_leave old new response is =
@@ -164,7 +165,8 @@ shown_leave old new response is =
     given_adds (EndsNone there) (RecoverStatement true) listed.answer (other_of before.inner)
     (other_of after.inner) tt listed.given))
 
--- a call that is carried out and leaves branches alone keeps what the other clients leave alone
+-- after a call that is carried out and has no other client end a branch of the coordinator's, they still have ended
+-- none
 carried_leave : (old new : Managing) (call : Call) (response : Response) → LeavesBranches call
     → CarriesBeside own_of other_of own_view old call response new
     → OthersLeave old → OthersLeave new
@@ -182,7 +184,8 @@ carried_leave old new Recover response leaves is = same_leave old new is.1
 carried_leave old new (At store statement) response leaves is = replied_leave store statement old new response leaves is
 carried_leave old new Show response leaves is = shown_leave old new response is
 
--- each call at all: one that is refused says nothing to anybody
+-- after a call that has no other client end a branch of the coordinator's, refused or carried out, they still have
+-- ended none
 pub answered_leave : (old new : Managing) (call : Call) (response : Response) → LeavesBranches call
     → IsAnswered old call response new → OthersLeave old
     → OthersLeave new

@@ -80,7 +80,7 @@ pairs_of turns (x ∷ xs) (s ∷ ss) (t ∷ ts) pass base pass' base' own own' b
   pairs_of turns xs ss ts pass base pass' base' own.1 own'.1 bases.1 bases'.1 empty.1 first.1 second.1,
 )
 
--- what is within each is in the list of what is within
+-- if the list of what is within each is related to another list, place by place, so is what is within each
 pub zip_within : {A B C : Type 0} (within : A → B) (R : B → C → Type 0) (xs : List A) (ys : List C)
     → AllZip R (map within xs) ys
     → AllZip (λ x y. R (within x) y) xs ys
@@ -89,7 +89,7 @@ zip_within within R [] (y ∷ ys) all = absurd all
 zip_within within R (x ∷ xs) [] all = absurd all
 zip_within within R (x ∷ xs) (y ∷ ys) all = (all.0, zip_within within R xs ys all.1)
 
--- a function of what is within each, over the list of what is within
+-- mapping a function of what is within each is mapping that function over the list of what is within
 pub map_within : {A B C : Type 0} (within : A → B) (f : B → C) (xs : List A)
     → map (λ x. f (within x)) xs ≡ map f (map within xs)
 map_within within f [] = refl

@@ -1,4 +1,5 @@
--- The calls of a script, and those that are carried out for a stop of it.
+-- No call of a script is RECOVER, and none that is carried out for a stop of it but the last. So each stop leaves
+-- every transaction whole.
 use Rattle.std.proofs.Common.{◌≡◌, ◌+◌, ℕ, zero, suc, Bool, true, false, List, [], ◌∷◌, ◌++◌, take, drop, map, refl}
 use Rattle.std.proofs.Common.{sym, subst, Some, None, Result, Ok, Err, append_assoc}
 use Rattle.std.specs.Prelude.{Option, All, if◌then◌else◌, bytes_eq, codes}
@@ -26,7 +27,7 @@ use Rattle.xa_manager.proofs.Standing.{all_or_none}
 
 -- ---- the call of a line
 
--- the call, as the text of a script is taken, isn't RECOVER
+-- the call, as a script's lines are taken, isn't RECOVER, and work gives GET, PUT or DEL
 record Fine (call : Call) : Type 0 where
   is : IsPlain (taken call)
 
@@ -50,13 +51,13 @@ fine_with : (number : Option ℕ) (make : ℕ → Call) → ((n : ℕ) → Fine 
 fine_with None make fine = record { is = tt }
 fine_with (Some n) make fine = fine n
 
--- a statement of WORK, if it is one about a row
+-- work with GET, PUT or DEL isn't RECOVER, nor is the unread line in place of other work
 fine_row : (number store : ℕ) (statement : Statement) (b : Bool) → takes_rows statement ≡ b
     → Fine (if b then Work number store statement else Unread 0)
 fine_row number store statement true rows = record { is = rows }
 fine_row number store statement false other = record { is = tt }
 
--- WORK with a statement that was read, or couldn't be
+-- WORK isn't taken as RECOVER, whether its statement was read or not
 fine_work : (number store : ℕ) (read : Result Statement ℕ) → Fine (work_call number store read)
 fine_work number store (Ok statement) = fine_row number store statement (takes_rows statement) refl
 fine_work number store (Err place) = record { is = tt }
@@ -94,23 +95,29 @@ fine_work_of text =
     fine_with (number_of_word (first_word text)) (λ number. with_number place (λ store. work_call number store read))
     (λ number. fine_with place (λ store. work_call number store read) (λ store. fine_work number store read))
 
--- by the word in front
+-- the choice of a call by its first word, from the last word that is tried
 module _ (word text : List ℕ) where
+  -- SHOW, or unread
   shows : Call
   shows = if bytes_eq word (codes "SHOW") then alone Show text else Unread 0
 
+  -- RECOVER, or `shows`
   recovers : Call
   recovers = if bytes_eq word (codes "RECOVER") then alone Recover text else shows
 
+  -- STOP, or `recovers`
   stops : Call
   stops = if bytes_eq word (codes "STOP") then alone StopCall text else recovers
 
+  -- FAIL, or `stops`
   fails : Call
   fails = if bytes_eq word (codes "FAIL") then fail_of text else stops
 
+  -- AT, or `fails`
   ats : Call
   ats = if bytes_eq word (codes "AT") then at_of text else fails
 
+  -- a call that is about no transaction isn't taken as RECOVER
   fine_plain : Fine (plain_call word text)
   unfolding plain_call shows recovers stops fails ats
   fine_plain =
@@ -124,21 +131,27 @@ module _ (word text : List ℕ) where
       (either (bytes_eq word (codes "SHOW")) (alone Show text) (Unread 0) (fine_alone Show text (record { is = tt }))
       (record { is = tt }))))))
 
+  -- the number that is all of the text behind the word
   number : Option ℕ
   number = lone_number text
 
+  -- ABANDON, or a call that is about no transaction
   abandons : Call
   abandons = if bytes_eq word (codes "ABANDON") then numbered (λ n. Abandon n) number else plain_call word text
 
+  -- FINISH, or `abandons`
   finishes : Call
   finishes = if bytes_eq word (codes "FINISH") then numbered (λ n. Finish n) number else abandons
 
+  -- DECIDE, or `finishes`
   decides : Call
   decides = if bytes_eq word (codes "DECIDE") then numbered (λ n. Decide n) number else finishes
 
+  -- PREPARE, or `decides`
   prepares : Call
   prepares = if bytes_eq word (codes "PREPARE") then numbered (λ n. Prepare n) number else decides
 
+  -- a call isn't taken as RECOVER, whatever its first word
   fine_named : Fine (call_named word text)
   unfolding call_named number abandons finishes decides prepares
   fine_named =
@@ -180,12 +193,14 @@ plain_calls script = all_map IsPlain call_in (lines_of script) (λ line. (fine_s
 -- ---- the calls of a stop
 
 module _ (P : Call → Type 0) (of_fail : (store calls : ℕ) → P (Fail store calls)) where
+  -- what holds of each FAIL holds of the calls FAIL for a list of limits
   fails_are : (from : ℕ) (limits : List ℕ) → All P (fails_from from limits)
   unfolding fails_from
   fails_are from [] = All-nil P
   fails_are from (limit ∷ limits) =
       All-cons P (Fail from limit) (fails_from (from + 1) limits) (of_fail from limit) (fails_are (from + 1) limits)
 
+  -- what holds of each FAIL and of a script's calls holds of what is carried out of the stop's line
   cut_are : (calls : List Call) (place count : ℕ) (limits : List ℕ) → All P calls
       → All P (cut_line calls place count limits)
   cut_are calls place zero limits each = All-nil P
@@ -193,6 +208,7 @@ module _ (P : Call → Type 0) (of_fail : (store calls : ℕ) → P (Fail store 
       All-append P (fails_from 0 limits) (take 1 (drop place calls)) (fails_are 0 limits)
       (All-take P 1 (drop place calls) (All-drop P place calls each))
 
+  -- what holds of each FAIL and of a script's calls holds of all calls up to a stop
   stop_are : (calls : List Call) (stop : Stop) (limits : List ℕ) → All P calls
       → All P (take stop.place calls ++ cut_line calls stop.place stop.calls limits)
   stop_are calls stop limits each =
@@ -221,7 +237,8 @@ left_whole stores script calls text left plain leaves report is =
           (with_stop_call LeavesBranches calls tt leaves) run,
     )
 
--- at each stop that the text shows, each transaction is left whole
+-- at each stop that the text shows, each transaction is left whole, if no line has another client end a branch of the
+-- coordinator's
 pub stop_whole : (stores : ℕ) (script : List ℕ) (made : List (List ℕ)) (stop : Stop) (text : List ℕ)
     → All LeavesBranches (calls_of script)
     → (shown : IsStopText stores (calls_of script) made stop text) → LeavesWhole shown.left
@@ -232,7 +249,8 @@ stop_whole stores script made stop text leaves shown =
     (stop_are IsPlain (λ store n. tt) calls stop limits (plain_calls script))
     (stop_are LeavesBranches (λ store n. tt) calls stop limits leaves)
 
--- at the end of the script each transaction is left whole
+-- at the end of the script each transaction is left whole, if no line has another client end a branch of the
+-- coordinator's
 pub end_whole : (stores : ℕ) (script : List ℕ) (text : List ℕ) → All LeavesBranches (calls_of script)
     → (shown : IsShown stores (calls_of script) text)
     → LeavesWhole shown.left

@@ -36,7 +36,7 @@ use Rattle.xa_manager.proofs.Holds.{answered_holds}
 
 -- ---- a manager with which nothing has begun
 
--- before the first BEGIN no transaction is kept
+-- before the first BEGIN no number has a stage
 no_stage : (number : ℕ) (stage : Stage) → stage_of [] number ≡ Some stage → ⊥
 unfolding stage_of
 no_stage number stage is = by (number == 0) is
@@ -152,8 +152,8 @@ last_call old new all answers (one_more cs rs mid so_far c r n answered) told ca
 
 -- ---- a recovery that came to its end
 
--- what a recovery adds: it commits branches of decided numbers and rolls back the others, in two phases, and begins
--- none
+-- what a recovery may add: XA COMMIT of a decided number's branch, not with ONE PHASE, XA ROLLBACK of an undecided
+-- one's, and no XA START
 abbrev pub Recovering : List Decision → ℕ → Statement → Type 0
 Recovering decisions store (Start xid) = ⊥
 Recovering decisions store (Commit xid false) =
@@ -180,13 +180,14 @@ recovering_goes decisions sessions store (Put key value) is = tt
 recovering_goes decisions sessions store (Del key) is = tt
 recovering_goes decisions sessions store Disconnect is = tt
 
--- a recovery returned a report: it recovered by the decisions, and changed none
+-- a recovery returned a report: it recovered by the decisions, the same numbers are decided, and what it added is of
+-- its kind
 pub record HasEndedWell (mid last : Managing) (report : Report) : Type 0 where
   pub recovers : Recovers (limited own_of) last.decisions (codes "c") report mid.sessions last.sessions
   pub decisions : (number : ℕ) → is_decided last.decisions number ≡ is_decided mid.decisions number
   pub grows : Grows (Recovering last.decisions) mid.sessions last.sessions
 
--- the clause on a recovery, taken apart for the report that it returned
+-- a RECOVER that was answered with this report recovered by the decisions, with it
 same_report : (mid last : Managing) (report : Report) → HasRecovered (limited own_of) mid (Recovered (Ok report)) last
     → Recovers (limited own_of) last.decisions (codes "c") report mid.sessions last.sessions
 same_report mid last report is =
@@ -194,7 +195,7 @@ same_report mid last report is =
     subst (λ o. IfOk o (λ (r : Report). Recovers (limited own_of) last.decisions
     (codes "c") r mid.sessions last.sessions)) outcome is.done
 
--- a recovery that returned a report has recovered by the decisions, and changed none
+-- a RECOVER that was answered with a report ended well, as `HasEndedWell` says
 pub ended_well : (mid last : Managing) (report : Report) → IsAnswered mid Recover (Recovered (Ok report)) last
     → HasEndedWell mid last report
 ended_well mid last report (inl refused) = absurd (let e = refused.told in cc)
@@ -216,6 +217,7 @@ ended_well mid last report (inr carried) =
     }
 
 module _ (mid last : Managing) (report : Report) (holds : Holds mid) (well : HasEndedWell mid last report) where
+  -- the only branch of a transaction is still the only one after the recovery, which begins none
   alone : (number store : ℕ) → IsAlone mid.sessions number store → IsAlone last.sessions number store
   alone number store was other session is added =
       let grew = well.grows other session is in
@@ -225,9 +227,11 @@ module _ (mid last : Managing) (report : Report) (holds : Holds mid) (well : Has
         | inr now ↦ absurd now
       ]
 
+  -- a transaction that was over and undecided is undecided after the recovery
   undecided : (number : ℕ) → IsUndecidedOver mid number → is_decided last.decisions number ≡ false
   undecided number is = well.decisions number ∙ is.undecided
 
+  -- a statement that went with how far transactions had come goes with the decisions after the recovery
   goes_last : (store : ℕ) (statement : Statement) → Goes mid store statement
       → GoesWith last.decisions last.sessions store statement
   goes_last store (Start xid) is = tt
@@ -244,6 +248,8 @@ module _ (mid last : Managing) (report : Report) (holds : Holds mid) (well : Has
   goes_last store (Del key) is = tt
   goes_last store Disconnect is = tt
 
+  -- all that was added, before the recovery and in it, goes with the decisions, and no branch of the coordinator's is
+  -- prepared
   pub keeps : KeepsToDecisions last
   keeps = record {
     goes = λ store session statement is added.
@@ -257,7 +263,8 @@ module _ (mid last : Managing) (report : Report) (holds : Holds mid) (well : Has
         (well.recovers.each store grew.before session grew.there is).2.clear.none_left;
   }
 
--- after calls and a recovery that returned a report, all that was added keeps to the decisions
+-- after calls of which none is RECOVER, and a recovery that returned a report, all that was added keeps to the
+-- decisions
 pub keeps_to_decisions : (stores : ℕ) (told : List Call) (responses : List Response) (report : Report) (last : Managing)
     → All IsPlain told
     → IsRun stores (told ++ Recover ∷ []) (responses ++ Recovered (Ok report) ∷ []) last → KeepsToDecisions last

@@ -86,7 +86,7 @@ pub taken_more : (calls : List Call) (place : ℕ) (call : Call) → place < len
 taken_more calls place call within is =
     take_more calls place call within ∙ ap (λ (c : Call). take place calls ++ c ∷ []) (sym is)
 
--- calls that are carried out from a fresh manager on make a run of these calls
+-- calls that are answered one after another from a fresh manager on were carried from the beginning (`HasCarried`)
 pub from_fresh : (stores : ℕ) (first last : Managing) (calls : List Call) → IsFresh stores first
     → ((responses : List Response) × CarriesOut first calls responses last) → HasCarried stores calls last
 from_fresh stores first last calls fresh carried =
@@ -97,7 +97,8 @@ pub map_twice : {X Y Z : Type 0} (f : X → Y) (g : Y → Z) (xs : List X) → m
 map_twice f g [] = refl
 map_twice f g (x ∷ xs) = ap (λ rest. g (f x) ∷ rest) (map_twice f g xs)
 
--- STOP and RECOVER behind calls, and what is shown then
+-- after calls, STOP, and RECOVER, in which each statement was answered, the answer to RECOVER and the rows are what
+-- is left; the responses before it are those to the calls and to STOP
 pub recovered : (stores : ℕ) (script told : List Call) (mid stopped last : Managing) (first second : Response)
     (kept : List CountedStore) (text : List ℕ)
     → (before : HasCarried stores told mid) → IsAnswered mid Stop first stopped → IsAnswered stopped Recover second last
@@ -219,7 +220,7 @@ cut_run stores calls fails line same first one two three responses more call res
       refl,
     )
 
--- what is left where the line was cut before its first call
+-- what is left after the lines before a place is what is left at the stop before the first call of the line there
 pub left_whole_at : (stores : ℕ) (script calls : List Call) (place count : ℕ) (limits rest : List ℕ) → count ≡ 0
     → place ≤ length calls
     → (left : IsLeft stores script (ended_calls (take place calls)) rest)
@@ -232,8 +233,8 @@ left_whole_at stores script calls place zero limits rest none within left whole 
     (left, subst (λ (n : ℕ). IsWhole n left.responses) (length-take-le place calls within) whole)
 left_whole_at stores script calls place (suc count) limits rest none within left whole = absurd (omega (arith, none))
 
--- what is left if a call is cut off after some of its statements: the calls before it, FAIL for the stores, and the
--- call
+-- what is left after the lines before a place, FAIL for the stores, and the line there, in which a session didn't
+-- answer a statement, is what is left at the stop there after so many calls, at least one
 pub left_cut_at : (stores : ℕ) (script calls : List Call) (place count : ℕ) (limits rest : List ℕ) → (count ≡ 0 → ⊥)
     → (left : IsLeft stores script (ended_calls ((take place calls ++ fails_from 0 limits) ++ take 1
     (drop place calls))) rest)

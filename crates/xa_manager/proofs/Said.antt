@@ -1,4 +1,5 @@
--- What was said to sessions: nothing, another client's answer, and what each other client answered.
+-- What sessions answered: their replies without places in the history, and the list of what each other client
+-- answered.
 use Rattle.std.proofs.Common.{◌≡◌, ◌∙◌, ◌+◌, ℕ, zero, suc, true, List, [], ◌∷◌, ◌++◌, length, take, get_or, map, ap}
 use Rattle.std.proofs.Common.{refl, sym, subst, Result, Ok, Err, Some, arith}
 use Rattle.std.proofs.lemmas.List.{length-map}
@@ -79,7 +80,7 @@ listed_more {T} view answers answer place old now before after count so_far was 
     (at_place view [] (IsListed more place) now place before after was
     (record { answer = answer; there = get_last answers answer place count; given = here }))
 
--- a fact of each session of a list, of which a part was lent that was all of it
+-- a fact of each session of a part of a list that was lent, and was all of it, holds of each of the list
 pub each_lent : {T : Type 0} (view : T → SessionView) (fact : ℕ → SessionView → SessionView → Type 0)
     (items was now rest : List T) (count : ℕ)
     → was ≡ items → count ≡ length items → length now ≡ length was → EachStore view fact was now
@@ -91,7 +92,7 @@ each_lent {T} view fact items was now rest count all whole same each =
     let Q : List T → Type 0 = λ list. EachStore view fact list now in
     subst P (sym back) (subst Q all each)
 
--- a call that was read from a line is what the line says
+-- what was refused or carried out for a call was so for an equal one, as the call that a line says
 pub performed : {S T : Type 0} (view : S → SessionView) (view' : T → SessionView) (old new : WholeManager (Fused S) T)
     (call said : Call) (response : Response)
     → call ≡ said → Performs view view' old call response new → Performs view view' old said response new

@@ -36,7 +36,7 @@ with_stage-absent stages number stage absent = by (number == 0) refl
     by false some =
         sym (set_past stages (number - 1) stage (absent_past (length stages) number absent (eqb-false number 0 some)))
 
--- setting a stage leaves their number
+-- setting a stage leaves how many stages there are
 pub with_stage-length : (stages : List Stage) (number : ℕ) (stage : Stage)
     → length (with_stage stages number stage) ≡ length stages
 unfolding with_stage
@@ -99,7 +99,7 @@ pub put_on : (stages : List Stage) (number : ℕ) (between stage : Stage) (taken
 put_on stages number between stage taken now out back =
     back ∙ ap (λ list. with_stage list number stage) out ∙ with_stage-twice stages number between stage
 
--- a transaction that was put back with another stage, or another one
+-- a stage that is found after one was set is that one, under its number, or was found before
 pub stage_of-with : (stages : List Stage) (number other : ℕ) (stage found : Stage)
     → stage_of (with_stage stages number stage) other ≡ Some found
     → ((other ≡ number) × (stage ≡ found)) ⊎ (stage_of stages other ≡ Some found)
@@ -150,7 +150,7 @@ stage_of-append stages last found other is = by (other == 0) refl is
       | inr before ↦ inr before
     ]
 
--- the last one comes to another stage, or is taken away
+-- setting the stage of the last transaction puts it in the place of the last stage
 pub with_stage-last : (stages : List Stage) (before after : Stage) (number : ℕ) → number ≡ length stages + 1
     → with_stage (stages ++ before ∷ []) number after ≡ stages ++ after ∷ []
 unfolding with_stage
@@ -163,19 +163,20 @@ with_stage-last stages before after number is = by (number == 0) refl
         let place : number - 1 ≡ length stages = omega arith in
         ap (λ at. slice_set (stages ++ before ∷ []) at after) place ∙ set-append_seam stages before [] after
 
--- each transaction that is kept was begun under its number, over so many stores
+-- each transaction that a stage in the list keeps is the one of its number, of the coordinator `c` over so many
+-- stores
 abbrev pub Kept : ℕ → List Stage → Type 0
 Kept count stages =
     (number : ℕ) (stage : Stage) (transaction : Transaction) → stage_of stages number ≡ Some stage
     → transaction_in stage ≡ Some transaction
     → IsTransactionOf count number transaction
 
--- whatever is kept as voted Ready was voted Ready
+-- each vote that the stage Ready keeps is a vote of Ready
 abbrev pub AllReady : List Stage → Type 0
 AllReady stages = (number : ℕ) (prepared : Prepared) → stage_of stages number ≡ Some (Ready prepared)
     → prepared.vote_kind ≡ VoteKindReady
 
--- setting a stage keeps the first, if the new one's transaction has that number
+-- setting a stage keeps `Kept`, if the transaction of the new stage is the one of its number
 pub kept_with : (count : ℕ) (stages : List Stage) (number : ℕ) (stage : Stage) → Kept count stages
     → ((transaction : Transaction) → transaction_in stage ≡ Some transaction → IsTransactionOf count number transaction)
     → Kept count (with_stage stages number stage)
@@ -187,7 +188,7 @@ kept_with count stages number stage kept is other found transaction there keeps 
       | inr before ↦ kept other found transaction before keeps
     ]
 
--- setting a stage keeps all that are kept as Ready voted so, if the new one is
+-- setting a stage keeps `AllReady`, if the new stage, where it is Ready, keeps a vote of Ready
 pub ready_with : (stages : List Stage) (number : ℕ) (stage : Stage) → AllReady stages
     → ((prepared : Prepared) → stage ≡ Ready prepared → prepared.vote_kind ≡ VoteKindReady)
     → AllReady (with_stage stages number stage)
@@ -197,7 +198,7 @@ ready_with stages number stage ready is other prepared there =
       | inr before ↦ ready other prepared before
     ]
 
--- one transaction more keeps each under its number, if it has the next one
+-- one stage more keeps `Kept`, if its transaction is the one of the next number
 pub kept_more : (count : ℕ) (stages : List Stage) (last : Stage) → Kept count stages
     → ((transaction : Transaction) → transaction_in last ≡ Some transaction
     → IsTransactionOf count (length stages + 1) transaction)
@@ -210,7 +211,7 @@ kept_more count stages last kept is other found transaction there keeps =
       | inr before ↦ kept other found transaction before keeps
     ]
 
--- one transaction more keeps all that are kept as Ready voted so, if the new one is
+-- one stage more keeps `AllReady`, if it, where it is Ready, keeps a vote of Ready
 pub ready_more : (stages : List Stage) (last : Stage) → AllReady stages
     → ((prepared : Prepared) → last ≡ Ready prepared → prepared.vote_kind ≡ VoteKindReady)
     → AllReady (stages ++ last ∷ [])
@@ -219,12 +220,12 @@ ready_more stages last ready is other prepared there = elim (stage_of-append sta
   | inr before ↦ ready other prepared before
 ]
 
--- a transaction that is over is kept no longer, so nothing has to hold of it
+-- setting the stage Over keeps `Kept`: it keeps no transaction, so nothing has to hold of it
 pub kept_over : (count : ℕ) (stages : List Stage) (number : ℕ) → Kept count stages
     → Kept count (with_stage stages number Over)
 kept_over count stages number kept = kept_with count stages number Over kept (λ transaction is. absurd (cc))
 
--- a transaction that is over keeps all that are kept as Ready voted so
+-- setting the stage Over keeps `AllReady`
 pub ready_over : (stages : List Stage) (number : ℕ) → AllReady stages → AllReady (with_stage stages number Over)
 ready_over stages number ready = ready_with stages number Over ready (λ prepared is. absurd (cc))
 

@@ -1,4 +1,4 @@
--- What stands of each transaction in the end.
+-- After a recovery that came to its end each transaction is in all of its stores, or in none.
 use Rattle.std.proofs.Common.{◌≡◌, ◌⊎◌, ◌<◌, ◌≤◌, ◌+◌, ◌^◌, ℕ, zero, suc, Bool, true, false, cond, List, [], ◌∷◌, ◌++◌}
 use Rattle.std.proofs.Common.{length, take, refl, ap, sym, ◌∙◌, subst, inl, inr, Some, Ok, arith}
 use Rattle.std.specs.Prelude.{slice_get, slice_index_or, Contains, All, codes, nat_eq}
@@ -111,9 +111,12 @@ entry_is entry number is = ap (λ n. entry_of n entry.statement) is
 
 -- ---- one store
 
+-- all that the coordinator's session added in the store goes with the decisions, and the other client ended no branch
+-- of the coordinator's
 module _ (decisions : _) (sessions : List Session) (number store : ℕ) (session : Session) (fits : number < 2 ^ 64)
     (goes : (statement : Statement) → HasAdded session statement → GoesWith decisions sessions store statement)
     (leave : (statement : Statement) → OtherAdded session statement → EndsNone store statement) where
+  -- the store, its history, the state in which that begins, and the transaction's branch there
   abbrev counted : CountedStore
   counted = session.inner
 
@@ -126,10 +129,12 @@ module _ (decisions : _) (sessions : List Session) (number store : ℕ) (session
   abbrev xid : Xid
   xid = branch_in number store
 
+  -- the branch is of the coordinator's naming
   abbrev named : IsBranchOf (codes "c") number store xid
   named = record { fits = fits; is = refl }
 
-  -- whoever has an entry in the history added it
+  -- an entry of the history is of session 1, and the coordinator's session added its statement; or of session 2, and
+  -- the other client's did
   of_whom : (place : ℕ) (entry : Entry) → slice_get history place ≡ Some entry
       → ((entry.session ≡ 1) × HasAdded session entry.statement)
       ⊎ ((entry.session ≡ 2) × OtherAdded session entry.statement)
@@ -148,10 +153,12 @@ module _ (decisions : _) (sessions : List Session) (number store : ℕ) (session
         )
   ]
 
+  -- this branch, of the coordinator's naming, is of no other number
   same_number : (other : ℕ) → IsBranchOf (codes "c") other store xid → other ≡ number
   same_number other is = sym (one_number number other store fits is.fits is.is)
 
-  -- an XA COMMIT of an undecided transaction's branch
+  -- an XA COMMIT of an undecided transaction's branch, whoever gave it, is with ONE PHASE, and the coordinator began
+  -- a branch of the transaction in no other store
   pub committed_alone : (place client : ℕ) (one_phase : Bool) → is_decided decisions number ≡ false
       → slice_get history place ≡ Some (entry_of client (Commit xid one_phase))
       → (one_phase ≡ true) × IsAlone sessions number store
@@ -166,7 +173,7 @@ module _ (decisions : _) (sessions : List Session) (number store : ℕ) (session
       by false is =
           absurd (true≢false (sym is.2 ∙ ap (is_decided decisions) (same_number is.0 is.1) ∙ undecided))
 
-  -- a decided transaction's branch isn't rolled back, nor committed in one phase
+  -- an entry that ends a decided transaction's branch is the coordinator's XA COMMIT, without ONE PHASE
   ended_how : (entry : Entry) (place : ℕ) → is_decided decisions number ≡ true → slice_get history place ≡ Some entry
       → EndsBranch xid entry.statement
       → entry ≡ entry_of 1 (Commit xid false)
@@ -239,7 +246,8 @@ module _ (decisions : _) (sessions : List Session) (number store : ℕ) (session
 
 -- ---- all of them
 
--- after a recovery that came to its end: of each transaction all branches that were prepared are committed, or none
+-- after calls, none of which is RECOVER or has another client end a branch of the coordinator's, and a recovery that
+-- came to its end, each transaction is in all of its stores, or in none
 pub all_or_none : (stores : ℕ) (told : List Call) (responses : List Response) (report : Report) (last : Managing)
     → All IsPlain told → All LeavesBranches told
     → IsRun stores (told ++ Recover ∷ []) (responses ++ Recovered (Ok report) ∷ []) last → AllOrNone last

@@ -49,14 +49,14 @@ pub same_open : {C T : Type 0} (n m : ℕ) (d : List Decision) (s : List Stage) 
 same_open n m d s b c xs os stores branches =
     ap (λ k. whole k d s b xs os) stores ∙ ap (λ list. whole m d s list xs os) branches
 
--- facts on the stages of so many stores, for equal stores and stages
+-- `Kept` holds of an equal number of stores and an equal list of stages
 pub kept_as : (n m : ℕ) (s t : List Stage) → m ≡ n → t ≡ s → Kept n s → Kept m t
 kept_as n m s t stores stages kept =
     let P : ℕ → Type 0 = λ k. Kept k t in
     let Q : List Stage → Type 0 = λ list. Kept n list in
     subst P (sym stores) (subst Q (sym stages) kept)
 
--- what holds of all stages of a list holds of an equal list
+-- `AllReady` holds of an equal list of stages
 pub ready_as : (s t : List Stage) → t ≡ s → AllReady s → AllReady t
 ready_as s t stages ready = let P : List Stage → Type 0 = λ list. AllReady list in subst P (sym stages) ready
 

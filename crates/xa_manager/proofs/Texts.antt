@@ -143,7 +143,8 @@ refusal_words decisions (UnknownTransaction number) is = refl
 refusal_words decisions (WrongStage number) is = refl
 refusal_words decisions response is = absurd (cc)
 
--- the pieces of what is written for a line that is refused
+-- `LINE `, the number, `: ` and the answer, appended one after another, are what is written for a line that is
+-- refused
 pub pieces : (old one two three new bytes : List ℕ) (number : ℕ) (decisions : List Decision) (response : Response)
     → is_refusal response ≡ true
     → bytes ≡ answer_text decisions response → one ≡ old ++ codes "LINE " → two ≡ one ++ decimal number

@@ -10,7 +10,7 @@
 --     AllOrNone        each transaction is in all of its stores, or in none
 --     KeepsToDecisions     all that the coordinator added goes with the decisions, and none of its branches
 --     is prepared
---     LeavesWhole      both hold after a stop, if the recovery came to its end
+--     LeavesWhole      KeepsToDecisions and AllOrNone hold after a recovery, if it came to its end
 use Rattle.std.specs.Prelude.{◌≡◌, ◌⊎◌, ◌<◌, ◌≤◌, ◌+◌, ◌^◌, ℕ, Bool, true, false, Some, Ok, slice_get, List, Contains}
 use Rattle.std.specs.Prelude.{codes}
 use Rattle.std.specs.FinMap as map
@@ -60,14 +60,15 @@ IsAlone sessions number store =
     (other : ℕ) (session : Fused CountedStore) → slice_get sessions other ≡ Some session
     → HasAdded session (Start (branch_in number other)) → other ≡ store
 
--- an undecided transaction that was committed nevertheless
+-- an undecided transaction of which the coordinator began a branch in no other store than this one; of undecided ones
+-- only such a one may be committed, with ONE PHASE
 pub record IsOnePhase (decisions : List Decision) (sessions : List (Fused CountedStore))
     (store number : ℕ) : Type 0 where
   pub undecided : is_decided decisions number ≡ false
   pub alone : IsAlone sessions number store
 
 -- XA COMMIT is of a decided transaction's branch; with ONE PHASE of an undecided one's that has no branch in
--- another store; XA ROLLBACK is of an undecided one's
+-- another store; XA ROLLBACK is of an undecided one's; every other statement goes with them
 abbrev pub GoesWith : List Decision → List (Fused CountedStore) → ℕ → Statement → Type 0
 GoesWith decisions sessions store (Commit xid false) =
     (number : ℕ) × IsBranchOf (codes "c") number store xid × (is_decided decisions number ≡ true)
@@ -86,7 +87,7 @@ pub record KeepsToDecisions (last : Managing) : Type 0 where
   pub none_left : (store : ℕ) (session : Fused CountedStore) → slice_get last.sessions store ≡ Some session
       → NoneLeft (codes "c") store (own_of session.inner)
 
--- XA COMMIT and XA ROLLBACK are of no branch of the coordinator's naming
+-- the statement is no XA COMMIT and no XA ROLLBACK of a branch of the coordinator's naming in this store
 abbrev pub EndsNone : ℕ → Statement → Type 0
 EndsNone store (Commit xid one_phase) = IsNamed (codes "c") store xid → ⊥
 EndsNone store (Rollback xid) = IsNamed (codes "c") store xid → ⊥
@@ -97,7 +98,7 @@ abbrev pub LeavesBranches : Call → Type 0
 LeavesBranches (At store statement) = EndsNone store statement
 LeavesBranches call = Unit {0}
 
--- the state after so many entries of the store
+-- the state before the store's entry at this place: that after so many entries
 abbrev pub state_before : CountedStore → ℕ → State
 state_before counted place = state_at counted.store.first.value (history_of counted.store) place
 
@@ -108,7 +109,8 @@ ChangesRows association (Put key value) = association ≡ Free
 ChangesRows association (Del key) = association ≡ Free
 ChangesRows association statement = ⊥
 
--- the committed values are as before, or the entry at this place is of that kind
+-- the entry at this place leaves the committed values as they were, or is a commit or a write of a session that has
+-- no branch open
 abbrev pub KeepsRowsOr : CountedStore → ℕ → Entry → Type 0
 KeepsRowsOr counted place entry =
     ((state_before counted (place + 1)).rows ≡ (state_before counted place).rows)
@@ -141,7 +143,8 @@ pub record AllOrNone (last : Managing) : Type 0 where
       (entry_of client (Commit (branch_in number store) one_phase))
       → (one_phase ≡ true) × IsAlone last.sessions number store
 
--- if the recovery after a stop came to its end, both hold of what it left
+-- if the recovery was answered with a report, what it left keeps to the decisions, and each transaction is in all of
+-- its stores or in none
 abbrev pub LeavesWhole : {stores : ℕ} {script told : List Call} {text : List ℕ} → IsLeft stores script told text
     → Type 0
 LeavesWhole left = (report : Report) → left.response ≡ Recovered (Ok report)

@@ -7,6 +7,7 @@
 --     CarriesBeside    a call was carried out, by the call
 --     PerformsBeside   a call was refused or carried out
 --     BeginsBeside     nothing has begun, and no session fails
+--     IsRefusedBeside  memory was refused for a call, or for its answer
 --     IsBesideAnswer   how a line may be answered
 use Rattle.std.specs.Prelude.{◌≡◌, ◌⊎◌, ◌<◌, ℕ, false, List, [], All, length, map, Result}
 use Rattle.xa_xid.specs.declared.statement.Statement.{Statement}
@@ -35,11 +36,11 @@ use Rattle.xa_manager.specs.Whole.{IsPair, IsRefused}
 abbrev pub within : {S : Type 0} → (S → SessionView) → Fused S → SessionView
 within {S} view session = view session.inner
 
--- the other clients' sessions
+-- the other clients' sessions, which these hold
 abbrev pub others_of : {S : Type 0} → (S → SessionView) → List (Fused S) → List SessionView
 others_of {S} other sessions = map (within other) sessions
 
--- none got a statement, and each passes on as many calls as before
+-- none of the coordinator's sessions got a statement, and each passes on as many calls as before
 pub record LeavesAlone {S : Type 0} (view : S → SessionView) (old new : List (Fused S)) : Type 0 where
   pub alone : EachStore (within view) (λ store. IsLeftAlone) old new
   pub left : map (λ (s : Fused S). s.left) new ≡ map (λ (s : Fused S). s.left) old
@@ -68,7 +69,9 @@ pub record IsShownBeside {S T : Type 0} (view other : S → SessionView) (old : 
   pub alone : LeavesAlone view old.sessions new.sessions
   pub stands : new ≡ record old { sessions = new.sessions }
 
--- a call was carried out, by the call; only AT and SHOW give a statement to another client's session
+-- a call was carried out, by the call; only AT and SHOW give a statement to another client's session. `other` sees
+-- those sessions, which the coordinator's hold; `nobody` sees the manager's own list of other clients, which stays as
+-- it is
 abbrev pub CarriesBeside : {S T : Type 0} → (S → SessionView) → (S → SessionView) → (T → SessionView)
     → WholeManager (Fused S) T → Call → Response
     → WholeManager (Fused S) T → Type 0
@@ -93,8 +96,8 @@ pub record BeginsBeside {S T : Type 0} (view other : S → SessionView)
   pub anew : StartsAnew manager.branches manager.sessions
   pub pairs : All (λ session. IsPair (view session.inner) (other session.inner)) manager.sessions
 
--- memory was refused for a call, and no session got a statement and nothing changed; or it was carried out,
--- and memory was refused for its answer
+-- memory was refused for a call, and nothing changed; or the call was refused by the table or carried out, and memory
+-- was refused for its answer, which is then of many words. A blank line and a comment are never answered so
 pub record IsRefusedBeside {S T : Type 0} (view other : S → SessionView) (nobody : T → SessionView)
     (old : WholeManager (Fused S) T) (call : Call)
     (text : List ℕ) (new : WholeManager (Fused S) T) : Type 0 where
@@ -103,7 +106,7 @@ pub record IsRefusedBeside {S T : Type 0} (view other : S → SessionView) (nobo
   pub stands : (new ≡ old) ⊎ ((response : Response) × (has_few_words response ≡ false)
       × PerformsBeside view other nobody old call response new)
 
--- a call was refused or carried out, and its response is written; or memory was refused
+-- the line's call was refused or carried out, and its response is written; or memory was refused, and that is written
 abbrev pub IsBesideAnswer : {S T : Type 0} → (S → SessionView) → (S → SessionView) → (T → SessionView)
     → WholeManager (Fused S) T → Received → List ℕ
     → WholeManager (Fused S) T → Type 0

@@ -25,7 +25,7 @@ takes_rows statement = false
 unfoldable pub lone_number : List ℕ → Option ℕ
 lone_number text = if is_empty_line (behind_word text) then number_of_word (first_word text) else None
 
--- a call that is all of its line
+-- the call, if no text is left after its word; else unread
 abbrev pub alone : Call → List ℕ → Call
 alone call [] = call
 alone call (byte ∷ rest) = Unread 0
@@ -35,17 +35,18 @@ abbrev pub numbered : (ℕ → Call) → Option ℕ → Call
 numbered call None = Unread 0
 numbered call (Some number) = call number
 
--- work, if its statement is read and is GET, PUT or DEL; any other kind is wrong at its first byte
+-- work, if its statement is read and is GET, PUT or DEL; any other kind is wrong at its first byte, and a statement
+-- that can't be read at the place of its fault
 abbrev pub work_call : ℕ → ℕ → Result Statement ℕ → Call
 work_call number store (Err place) = Unread place
 work_call number store (Ok statement) = if takes_rows statement then Work number store statement else Unread 0
 
--- the other client's statement, if it is read
+-- the other client's statement, if it is read; else unread at the place of its fault
 abbrev pub at_call : ℕ → Result Statement ℕ → Call
 at_call store (Err place) = Unread place
 at_call store (Ok statement) = At store statement
 
--- a number, and the call that the text after it makes
+-- the call that is made with the number, if one was read; else unread
 abbrev pub with_number : Option ℕ → (ℕ → Call) → Call
 with_number None call = Unread 0
 with_number (Some number) call = call number
@@ -89,7 +90,7 @@ call_named word text =
     if bytes_eq word (codes "ABANDON") then numbered (λ number. Abandon number)
     (lone_number text) else plain_call word text
 
--- what is left of a line after its blanks
+-- the call of what is left of a line after its first blanks; no call if nothing is left
 abbrev pub filled_call : List ℕ → Call
 filled_call [] = Silent
 filled_call (first ∷ rest) = call_named (first_word (first ∷ rest)) (behind_word (first ∷ rest))

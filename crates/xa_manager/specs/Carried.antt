@@ -130,8 +130,8 @@ pub record HasWorked {C T : Type 0} (view : C → SessionView) (number store : �
   pub marks : ChangesAt store old.branches new.branches
   pub alone : SpeaksAlone view old.decisions (with_stage old.stages number (Working after)) old new
 
--- the stores of a transaction that takes work voted, and this is the vote, which is kept; what is open in the other
--- stores stays so
+-- the stores of a transaction that takes work voted, and this is the vote, which is kept; what is open stays so in
+-- the stores that take no part or weren't asked
 pub record HasVoted {C T : Type 0} (view : C → SessionView) (number : ℕ) (old : WholeManager C T) (response : Response)
     (new : WholeManager C T) : Type 0 where
   pub before : Transaction
@@ -143,7 +143,7 @@ pub record HasVoted {C T : Type 0} (view : C → SessionView) (number : ℕ) (ol
   pub marked_there : KeepsMark before vote old.branches new.branches
   pub alone : SpeaksAlone view old.decisions (with_stage old.stages number (stage_after vote)) old new
 
--- a transaction with a vote of Ready is decided, or its number is closed
+-- a transaction with a vote of Ready is decided, or its number is closed and nothing changes
 pub record IsDecided {C T : Type 0} (number : ℕ) (old : WholeManager C T) (response : Response)
     (new : WholeManager C T) : Type 0 where
   pub prepared : Prepared
@@ -153,7 +153,8 @@ pub record IsDecided {C T : Type 0} (number : ℕ) (old : WholeManager C T) (res
       × (new ≡ record old { decisions = with_decided old.decisions number }))
       ⊎ ((may_be_decided old.decisions number ≡ false) × (response ≡ Closed) × (new ≡ old))
 
--- a transaction was to end by this closing, and this is how it ended; what is open in the other stores stays so
+-- a transaction was to end by this closing, and this is how it ended; it is over now. What is open stays so in the
+-- stores that take no part or weren't asked
 pub record HasEnded {C T : Type 0} (view : C → SessionView) (number : ℕ) (transaction : Transaction) (closing : Closing)
     (old : WholeManager C T)
     (response : Response) (new : WholeManager C T) : Type 0 where
@@ -163,7 +164,7 @@ pub record HasEnded {C T : Type 0} (view : C → SessionView) (number : ℕ) (tr
   pub marks : KeepsOpen transaction.participants (asked_by_ending ending) old.branches new.branches
   pub alone : SpeaksAlone view old.decisions (with_stage old.stages number Over) old new
 
--- a transaction that was voted on ended as the decisions say
+-- a transaction that was voted on was to end as its decision and its vote say, and ended in this way
 pub record IsFinished {C T : Type 0} (view : C → SessionView) (number : ℕ) (old : WholeManager C T)
     (response : Response)
     (new : WholeManager C T) : Type 0 where
@@ -174,7 +175,7 @@ pub record IsFinished {C T : Type 0} (view : C → SessionView) (number : ℕ) (
   pub ends : HasEnded view number prepared.transaction (finish_for
       (is_decided old.decisions number) prepared.vote_kind) old response new
 
--- a transaction that takes work was rolled back
+-- a transaction that takes work was to be rolled back, and ended in this way
 pub record IsAbandoned {C T : Type 0} (view : C → SessionView) (number : ℕ) (old : WholeManager C T)
     (response : Response)
     (new : WholeManager C T) : Type 0 where
@@ -198,8 +199,8 @@ pub record IsStopped {S T : Type 0} (old : WholeManager (Fused S) T) (response :
   pub within : map (λ (s : Fused S). s.inner) new.sessions ≡ map (λ (s : Fused S). s.inner) old.sessions
   pub stands : new ≡ record old { branches = new.branches; sessions = new.sessions }
 
--- the coordinator recovered by the decisions, of which none is undecided then, with this result; nothing is
--- open then, or after a fault, in the stores that it didn't reach, what was open before
+-- the undecided numbers were closed, and the coordinator recovered by the decisions, with this result. After a report
+-- it has nothing open; after a fault it has open, in the stores that it didn't reach, what it had
 pub record HasRecovered {C T : Type 0} (view : C → SessionView) (old : WholeManager C T) (response : Response)
     (new : WholeManager C T) : Type 0 where
   pub outcome : Result Report RecoverFault
@@ -233,7 +234,7 @@ pub record IsShown {C T : Type 0} (view : T → SessionView) (old : WholeManager
   pub each : EachStore view (IsListed listing.answers.items) old.other_clients new.other_clients
   pub stands : new ≡ record old { other_clients = new.other_clients }
 
--- a call was carried out, by the call
+-- a call was carried out, by the call; a line that can't be read never is
 abbrev pub Carries : {S T : Type 0} → (Fused S → SessionView) → (T → SessionView) → WholeManager (Fused S) T → Call
     → Response → WholeManager (Fused S) T
     → Type 0

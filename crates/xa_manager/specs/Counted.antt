@@ -1,7 +1,7 @@
 -- A store that notes if memory was refused, as contracts see it.
---     own_of, other_of the coordinator's session;  the other client's by itself
+--     own_of, other_of         the coordinator's session;  the other client's by itself
 --     state_in         the state that its history leaves
---     IsNoted          it is noted whether a statement of the coordinator's session was answered
+--     IsNoted          it is noted if a statement of the coordinator's session wasn't answered
 use Rattle.std.specs.Prelude.{◌≡◌, true, Result, OnOk, OnErr}
 use Rattle.xa_xid.specs.declared.statement.Statement.{Statement}
 use Rattle.xa_server.specs.State.{State}
@@ -24,7 +24,7 @@ other_of counted = other_alone counted.store
 abbrev pub state_in : CountedStore → State
 state_in counted = state_after counted.store.first.value (history_of counted.store)
 
--- whether memory was ever refused is noted
+-- if the statement wasn't answered, it is noted that memory was refused; if it was answered, the note is as before
 pub record IsNoted (old : CountedStore) (statement : Statement) (result : Result Answer Fault)
     (new : CountedStore) : Type 0 where
   pub refused : OnErr result (new.starved ≡ true)

@@ -30,12 +30,12 @@ takes_finish (Ready prepared) = true
 takes_finish (Voted prepared) = true
 takes_finish stage = false
 
--- a call that only these stages allow
+-- the refusal of a call that only these stages allow: the transaction wasn't begun, or is in another stage
 abbrev pub refusal_in : (Stage → Bool) → ℕ → Option Stage → Option Response
 refusal_in takes number None = Some (UnknownTransaction number)
 refusal_in takes number (Some stage) = if takes stage then None else Some (WrongStage number)
 
--- a call that needs a store of this number, and then has this refusal
+-- the refusal of a call that needs a store of this number: there is no such store, or else this one
 abbrev pub refusal_at : (stores store : ℕ) → Option Response → Option Response
 refusal_at stores store refusal = if nat_lt store stores then refusal else Some (UnknownStore store)
 

@@ -4,9 +4,9 @@
 --     IsAnswered       a call was refused or carried out
 --     CarriesOut       calls were answered, one after another
 --     IsFresh          nothing has begun
---     HasCarried       calls were carried out from such a beginning
+--     HasCarried       calls were answered by a manager with which nothing had begun
 --     IsRun            HasCarried, and memory was refused for no statement
---     is_unanswered    whether a session didn't answer a statement that a call gave it
+--     is_unanswered    whether a response tells that a session didn't answer a statement
 --     AreAnswered      that was so in no call
 --     passed           how many calls of a session were passed on
 --     IsGiven          how many statements the coordinator's session of each store was given in a run
@@ -49,14 +49,15 @@ pub record IsFresh (stores : ℕ) (manager : Managing) : Type 0 where
   pub begins : BeginsBeside own_of other_of manager
   pub none_starved : All (λ session. session.inner.starved ≡ false) manager.sessions
 
--- calls were carried out from such a beginning
+-- calls were answered, one after another, by a manager that began fresh over so many stores
 pub record HasCarried (stores : ℕ) (calls : List Call) (last : Managing) : Type 0 where
   pub first : Managing
   pub fresh : IsFresh stores first
   pub responses : List Response
   pub carried : CarriesOut first calls responses last
 
--- calls were carried out from such a beginning, with these responses, and memory was refused for no statement
+-- calls got these responses, one after another, from a manager that began fresh over so many stores, and memory was
+-- refused for no statement
 pub record IsRun (stores : ℕ) (calls : List Call) (responses : List Response) (last : Managing) : Type 0 where
   pub first : Managing
   pub fresh : IsFresh stores first
@@ -68,7 +69,8 @@ abbrev pub is_of_session : Cause → Bool
 is_of_session (BySession fault) = true
 is_of_session (ByRefusal error) = false
 
--- a session didn't answer a statement that the call gave it, or memory was refused for a recovery's report
+-- the response tells that a session didn't answer a statement, or that memory was refused for a recovery's report;
+-- the answers in the list of a SHOW aren't looked at
 abbrev pub is_unanswered : Response → Bool
 is_unanswered (Worked (Err (SessionAtWork fault))) = true
 is_unanswered (Voted (No store cause)) = is_of_session cause
@@ -78,7 +80,7 @@ is_unanswered (Recovered (Err NoMemory)) = true
 is_unanswered (Replied convert (Err fault)) = true
 is_unanswered response = false
 
--- in each call each statement that it gave a session was answered
+-- no response tells that a session didn't answer a statement
 abbrev pub AreAnswered : List Response → Type 0
 AreAnswered responses = All (λ response. is_unanswered response ≡ false) responses
 

@@ -60,7 +60,8 @@ unfoldable pub faults_from : ℕ → List Response → List ℕ
 faults_from number [] = []
 faults_from number (response ∷ responses) = fault_text number response ++ faults_from (number + 1) responses
 
--- all calls were carried out, each with its statements answered, and this is the text of those that were refused
+-- all calls were answered by a manager that began fresh, and sessions answered their statements; this is the text of
+-- the calls that were refused
 pub record HasFaults (stores : ℕ) (calls : List Call) (text : List ℕ) : Type 0 where
   pub responses : List Response
   pub last : Managing
@@ -86,7 +87,7 @@ abbrev pub AppendsStopsPrefix : ℕ → List ℕ → Option (List ℕ) → Optio
 AppendsStopsPrefix stores script old new =
     (ended : Ended) × (text : List ℕ) × IsStopsText stores script ended text × AppendsPrefix old new text
 
--- a fault of a script that was read
+-- once a script is read, making its text fails only for want of memory
 abbrev pub IsFaultOfStops : List ℕ → ScriptFault → Type 0
 IsFaultOfStops script fault = fault ≡ NoMemory
 

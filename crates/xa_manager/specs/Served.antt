@@ -57,9 +57,9 @@ has_few_words Stopped = true
 has_few_words (Replied convert (Ok reply)) = is_word reply
 has_few_words response = false
 
--- memory was refused for a call, and no session got a statement and nothing changed; or it was carried out,
--- and memory was refused for its answer, which is then of many words: so a begin, a decision, a limit and a
--- stop aren't carried out
+-- memory was refused for a call, and no session got a statement and nothing changed; or the call was refused by the
+-- table or carried out, and memory was refused for its answer, which is then of many words: so a begin, a decision, a
+-- limit and a stop aren't carried out. A blank line and a comment are never answered so
 pub record IsRefusedCall {S T : Type 0} (view : S → SessionView) (view' : T → SessionView)
     (old : WholeManager (Fused S) T) (call : Call) (text : List ℕ)
     (new : WholeManager (Fused S) T) : Type 0 where
@@ -68,7 +68,7 @@ pub record IsRefusedCall {S T : Type 0} (view : S → SessionView) (view' : T �
   pub stands : (new ≡ old) ⊎ ((response : Response) × (has_few_words response ≡ false)
       × Performs view view' old call response new)
 
--- a call was refused or carried out, and its response is written; or memory was refused
+-- the line's call was refused or carried out, and its response is written; or memory was refused, and that is written
 abbrev pub IsCallAnswer : {S T : Type 0} → (S → SessionView) → (T → SessionView) → WholeManager (Fused S) T → Received
     → List ℕ → WholeManager (Fused S) T
     → Type 0

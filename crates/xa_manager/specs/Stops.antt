@@ -7,7 +7,8 @@
 --     ended_calls      calls, and then STOP and RECOVER
 --     stopped_calls    the calls that are carried out for a stop
 --     IsLeft           what a recovery leaves after calls
---     IsWhole, IsCutAt         all lines were carried out whole;  those before a stop, and its own was cut
+--     IsWhole, IsCutAt         sessions answered all statements of the lines;  of those before a stop, and of the first
+--                              calls of its own line alone
 --     IsShown          the text of calls of which none is faulty
 use Rattle.std.specs.Prelude.{◌≡◌, ℕ, zero, suc, ◌+◌, ◌-◌, min, Bool, true, false, if◌then◌else◌, Some, Err, List, []}
 use Rattle.std.specs.Prelude.{◌∷◌, ◌++◌, length, take, drop, map}
@@ -32,7 +33,8 @@ is_own Silent = false
 is_own (At store statement) = false
 is_own call = true
 
--- how much greater each number is than the one at its place
+-- how much greater each number of the first list is than that of the second at its place, which counts as 0 if there
+-- is none
 unfoldable pub differences : List ℕ → List ℕ → List ℕ
 differences [] before = []
 differences (one ∷ after) [] = one ∷ differences after []
@@ -57,11 +59,11 @@ abbrev pub stop_count : ℕ → ℕ
 stop_count zero = 1
 stop_count (suc calls) = suc calls
 
--- the stops in a line that makes so many calls in each store
+-- the stops in a line that makes so many calls in each store; none in one that the coordinator doesn't carry out
 abbrev pub stops_at : ℕ → Call → List ℕ → List Stop
 stops_at place call made = if is_own call then stops_below place (stop_count (sum made)) else []
 
--- the stops in the lines from this place on
+-- the stops in the lines from this place on; `made` has how many calls each of them makes in each store
 unfoldable pub stops_from : ℕ → List Call → List (List ℕ) → List Stop
 stops_from place [] made = []
 stops_from place (call ∷ calls) [] = []
@@ -81,7 +83,7 @@ unfoldable pub fails_from : ℕ → List ℕ → List Call
 fails_from store [] = []
 fails_from store (limit ∷ limits) = Fail store limit ∷ fails_from (store + 1) limits
 
--- the coordinator was stopped, and a new one recovered, to which each session answered: this is its answer
+-- the coordinator was stopped, and a new one recovered, with each statement answered: this text is its answer
 pub record IsRecovered (old : Managing) (answer : List ℕ) (new : Managing) : Type 0 where
   pub stopped : Response
   pub mid : Managing
@@ -105,8 +107,8 @@ cut_line calls place (suc count) limits = fails_from 0 limits ++ take 1 (drop pl
 abbrev pub stopped_calls : List Call → Stop → List ℕ → List Call
 stopped_calls calls stop limits = ended_calls (take stop.place calls ++ cut_line calls stop.place stop.calls limits)
 
--- a manager that carried out these calls answered the last of them, in which sessions answered each statement, so, and
--- the rows that the script names have these committed values
+-- a manager that began fresh carried out these calls (`told`), and sessions answered each statement of the last. The
+-- text is the answer to the last one, and the committed values then of the rows that the script's calls name
 pub record IsLeft (stores : ℕ) (script told : List Call) (text : List ℕ) : Type 0 where
   pub responses : List Response
   pub response : Response
@@ -117,7 +119,7 @@ pub record IsLeft (stores : ℕ) (script told : List Call) (text : List ℕ) : T
   pub text_is : text ≡ answer_text last.decisions response
       ++ rows_text script 0 (map (λ (s : Fused CountedStore). state_in s.inner) last.sessions)
 
--- so many lines were carried out, each with its statements answered, and then STOP
+-- these are the responses to so many lines, whose statements sessions answered, and then to STOP
 pub record IsWhole (count : ℕ) (responses : List Response) : Type 0 where
   pub before : List Response
   pub stopped : Response
@@ -125,8 +127,8 @@ pub record IsWhole (count : ℕ) (responses : List Response) : Type 0 where
   pub answered : AreAnswered before
   pub are : responses ≡ before ++ stopped ∷ []
 
--- the lines before the one at this place were carried out so, and then FAIL for each store, the line, in which a
--- session didn't answer a statement, and STOP
+-- these are the responses to the lines before the one at this place, whose statements sessions answered; then to FAIL
+-- for each store; to the line, in which a session didn't answer a statement; and to STOP
 pub record IsCutShort (place : ℕ) (limits : List ℕ) (responses : List Response) : Type 0 where
   pub before : List Response
   pub limited : List Response

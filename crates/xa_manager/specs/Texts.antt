@@ -160,6 +160,6 @@ abbrev pub is_silent : Response → Bool
 is_silent Silent = true
 is_silent response = false
 
--- what is written for a call
+-- what is written for a call: its response and a line feed, or nothing for a line that is no call
 abbrev pub answer_text : List Decision → Response → List ℕ
 answer_text decisions response = if is_silent response then [] else response_text decisions response ++ codes "\n"

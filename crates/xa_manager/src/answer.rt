@@ -19,7 +19,7 @@ use xa_server::Reply;
 use xa_session::{Answer, Fault};
 use xa_xid::{NoMemory, Statement};
 
-/// The reply of an answer.
+/// The reply of an answer, or the fault that the session returned in its place.
 pub(crate) fn reply_in(answered: Result<Answer, Fault>) -> Result<Reply, Fault>
     ensures { result ≡ reply_of answered }
 {
@@ -27,7 +27,7 @@ pub(crate) fn reply_in(answered: Result<Answer, Fault>) -> Result<Reply, Fault>
     Ok(answer.reply)
 }
 
-/// The response for a transaction that doesn't begin.
+/// The response if a transaction doesn't begin since all numbers are given. Err if memory was refused.
 fn not_begun(fault: BeginFault) -> Result<Response, NoMemory>
     ensures { IfOk result (λ response. (fault ≡ BeginFault.NumbersSpent) × (response ≡ Response.NumbersSpent)) }
 {
@@ -54,7 +54,7 @@ fn told_of(vote: Vote) -> (VoteAnswer, Stage)
     }
 }
 
-/// Gives a statement to a client's session, and returns its answer.
+/// Gives a statement to a client's session, and returns its reply, or the fault if it couldn't answer.
 fn reply_from<T: Speak, R: Wait>(
     rt: &R,
     session: &mut T,
@@ -66,7 +66,7 @@ fn reply_from<T: Speak, R: Wait>(
 }
 
 /// What each other client's session answers to `XA RECOVER CONVERT XID`. Room for the answers is taken before
-/// the first is asked.
+/// the first is asked, so after `NoMemory` none got a statement.
 fn listed_by_each<T: Speak, R: Wait>(
     rt: &R,
     alloc: Global,
@@ -86,7 +86,7 @@ fn listed_by_each<T: Speak, R: Wait>(
     Ok(answers)
 }
 
-/// Lets the sessions of the first `count` stores pass every call on.
+/// Lets the sessions of the first `count` stores pass on 2^64 - 1 calls, so that none reaches its limit.
 fn allow_all<S: Speak>(coordinator: &mut Coordinator<Fused<S>>, count: u8)
     requires { count ≤ vec_len coordinator.old.stores }
     ensures name { coordinator.new.name ≡ coordinator.old.name }
@@ -104,16 +104,18 @@ impl<C: Speak, T: Speak> Manager<C, T> {
     pub(crate) fn has_store(&self, store: u64) -> bool
         ensures { result ≡ nat_lt store (vec_len self.now.coordinator.stores) }
     {
+        // The list has one for each store.
         store < self.other_clients.len() as u64
     }
 
-    /// Begins a transaction.
+    /// Begins the transaction of the next number, or answers that all numbers were given.
     fn begin(&mut self) -> Result<Response, NoMemory>
         ensures answers { IfOk result
             (λ response. IsBegun (whole_of self.old) response (whole_of self.new)
             ⊎ IsSpent (whole_of self.old) response (whole_of self.new)) }
         ensures nothing { OnErr result (whole_of self.new ≡ whole_of self.old) }
     {
+        // The place comes first: where there is no memory for it, no number is given.
         self.ledger.add(Stage::Over)?;
         match self.coordinator.begin(&mut self.decisions) {
             Ok(transaction) => {
@@ -122,18 +124,21 @@ impl<C: Speak, T: Speak> Manager<C, T> {
                 Ok(Response::Begun(number))
             }
             Err(fault) => {
+                // No number was given, so its place goes again.
                 self.ledger.forget_last();
                 not_begun(fault)
             }
         }
     }
 
-    /// Gives a row statement of a transaction to a store.
+    /// Gives a row statement of a transaction to a store. The answer is a refusal if there is no such store, or if
+    /// the transaction wasn't begun or takes no more work.
     fn work<R: Wait>(&mut self, rt: &R, number: u64, store: u64, statement: &Statement) -> Response
         requires { takes_rows statement.now ≡ true }
         ensures { IsRefused (whole_of self.old) (Call.Work number store statement.now) result (whole_of self.new)
             ⊎ HasWorked C.view number store statement.now (whole_of self.old) result (whole_of self.new) }
     {
+        // The store is looked at first: it goes before the transaction in the order of refusals.
         if !self.has_store(store) {
             return Response::UnknownStore(store);
         }
@@ -142,6 +147,7 @@ impl<C: Speak, T: Speak> Manager<C, T> {
                 let worked = self
                     .coordinator
                     .work(rt, &mut transaction, store as u8, statement);
+                // It goes on taking work, also after a refusal or a fault.
                 self.ledger.put(number, Stage::Working(transaction));
                 Response::Worked(worked)
             }
@@ -149,7 +155,8 @@ impl<C: Speak, T: Speak> Manager<C, T> {
         }
     }
 
-    /// Has the stores of a transaction vote.
+    /// Has the stores of a transaction vote, and keeps the vote as its stage. The answer is a refusal if the
+    /// transaction wasn't begun or takes no more work.
     fn prepare<R: Wait>(&mut self, rt: &R, number: u64) -> Response
         ensures { IsRefused (whole_of self.old) (Call.Prepare number) result (whole_of self.new)
             ⊎ HasVoted C.view number (whole_of self.old) result (whole_of self.new) }
@@ -165,7 +172,8 @@ impl<C: Speak, T: Speak> Manager<C, T> {
         }
     }
 
-    /// Decides a transaction.
+    /// Decides that a transaction commits, or answers that its number is closed. The answer is a refusal if its vote
+    /// isn't Ready.
     fn decide(&mut self, number: u64) -> Response
         ensures { IsRefused (whole_of self.old) (Call.Decide number) result (whole_of self.new)
             ⊎ IsDecided number (whole_of self.old) result (whole_of self.new) }
@@ -173,6 +181,7 @@ impl<C: Speak, T: Speak> Manager<C, T> {
         match self.ledger.take_ready(number) {
             Ok(prepared) => {
                 let decided = self.decisions.decide(&prepared);
+                // It stays Ready, decided or not, so that it can be finished.
                 self.ledger.put(number, Stage::Ready(prepared));
                 match decided {
                     Ok(()) => Response::Decided,
@@ -183,12 +192,14 @@ impl<C: Speak, T: Speak> Manager<C, T> {
         }
     }
 
-    /// Finishes a transaction that was voted on.
+    /// Ends a transaction that was voted on, as its vote and the decisions say; it is over then, however it ended.
+    /// The answer is a refusal if it has no vote to finish.
     fn finish<R: Wait>(&mut self, rt: &R, number: u64) -> Response
         ensures { IsRefused (whole_of self.old) (Call.Finish number) result (whole_of self.new)
             ⊎ IsFinished C.view number (whole_of self.old) result (whole_of self.new) }
     {
         match self.ledger.take_voted(number) {
+            // To take it out has set its stage to Over, which stays.
             Ok(prepared) => {
                 Response::Ended(self.coordinator.finish(rt, &self.decisions, prepared))
             }
@@ -196,12 +207,14 @@ impl<C: Speak, T: Speak> Manager<C, T> {
         }
     }
 
-    /// Rolls back a transaction that wasn't voted on.
+    /// Rolls back a transaction that takes work; it is over then, however it ended. The answer is a refusal if it
+    /// wasn't begun or takes no more work.
     fn abandon<R: Wait>(&mut self, rt: &R, number: u64) -> Response
         ensures { IsRefused (whole_of self.old) (Call.Abandon number) result (whole_of self.new)
             ⊎ IsAbandoned C.view number (whole_of self.old) result (whole_of self.new) }
     {
         match self.ledger.take_working(number) {
+            // To take it out has set its stage to Over, which stays.
             Ok(transaction) => Response::Ended(self.coordinator.abandon(rt, transaction)),
             Err(refusal) => refusal,
         }
@@ -214,7 +227,7 @@ impl<C: Speak, T: Speak> Manager<C, T> {
         Response::Recovered(self.coordinator.recover(rt, alloc, &mut self.decisions))
     }
 
-    /// Gives a statement of the other client to a store.
+    /// Gives a statement to the other client's session of a store, and returns its answer, or `UnknownStore`.
     fn at<R: Wait>(&mut self, rt: &R, store: u64, statement: &Statement) -> Response
         ensures { IsRefused (whole_of self.old) (Call.At store statement.now) result (whole_of self.new)
             ⊎ HasReplied T.view store statement.now (whole_of self.old) result (whole_of self.new) }
@@ -239,7 +252,7 @@ impl<C: Speak, T: Speak> Manager<C, T> {
 }
 
 impl<S: Speak, T: Speak> Manager<Fused<S>, T> {
-    /// Limits the calls that the coordinator's session in a store answers.
+    /// Has the coordinator's session in a store pass on `calls` more calls, and then fail; or answers `UnknownStore`.
     fn fail(&mut self, store: u64, calls: u64) -> Response
         ensures { IsRefused (whole_of self.old) (Call.Fail store calls) result (whole_of self.new)
             ⊎ IsLimited store calls (whole_of self.old) result (whole_of self.new) }
@@ -251,10 +264,13 @@ impl<S: Speak, T: Speak> Manager<Fused<S>, T> {
         Response::Limited
     }
 
-    /// Replaces the coordinator by a new one of the same name over the same sessions, which no longer fail.
+    /// Replaces the coordinator by a new one of the same name over the same sessions, each of which then passes on
+    /// 2^64 - 1 calls.
     fn stop(&mut self) -> Response
         ensures { IsStopped (whole_of self.old) result (whole_of self.new) }
     {
+        // The list of other clients has one for each store. A coordinator that has forgotten what is open is as a new
+        // one.
         allow_all(&mut self.coordinator, self.other_clients.len() as u8);
         self.coordinator.restart();
         Response::Stopped

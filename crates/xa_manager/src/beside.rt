@@ -18,7 +18,7 @@ use xa_session::Fault;
 use xa_xid::{NoMemory, Statement};
 
 /// What each other client's session answers to `XA RECOVER CONVERT XID`. Room for the answers is taken before
-/// the first is asked.
+/// the first is asked, so after `NoMemory` none got a statement.
 fn listed_beside<S: Beside, R: Wait>(
     rt: &R,
     alloc: Global,
@@ -44,7 +44,8 @@ fn listed_beside<S: Beside, R: Wait>(
 }
 
 impl<S: Beside, T: Speak> Manager<Fused<S>, T> {
-    /// Gives a statement of the other client to a store.
+    /// Gives a statement to the other client's session of a store, which the coordinator's session there holds.
+    /// Returns its answer, or `UnknownStore`.
     fn at_beside<R: Wait>(&mut self, rt: &R, store: u64, statement: &Statement) -> Response
         ensures { IsRefused (whole_of self.old) (Call.At store statement.now) result (whole_of self.new)
             ⊎ HasRepliedBeside S.view S.other store statement.now (whole_of self.old) result (whole_of self.new) }
@@ -58,7 +59,7 @@ impl<S: Beside, T: Speak> Manager<Fused<S>, T> {
         }
     }
 
-    /// Has the other client of each store list what is prepared there.
+    /// Has the other client of each store, whose session the coordinator's holds, list what is prepared there.
     fn show_beside<R: Wait>(&mut self, rt: &R, alloc: Global) -> Result<Response, NoMemory>
         ensures answers { IfOk result (λ response. IsShownBeside S.view S.other (whole_of self.old) response
             (whole_of self.new)) }

@@ -47,6 +47,7 @@ impl<'r, S: Beside, T: Speak, R: Wait> LineServer for BesideServer<'r, Fused<S>,
         if let Call::Silent = call {
             return Answer::Short(ArrayVec::new());
         }
+        // The room comes first: without it the call isn't carried out.
         let Ok(room) = Vec::with_capacity(alloc, ANSWER_ROOM) else {
             return refusal();
         };
@@ -55,6 +56,7 @@ impl<'r, S: Beside, T: Speak, R: Wait> LineServer for BesideServer<'r, Fused<S>,
         };
         match write_response(alloc, room, self.manager.decisions(), &response) {
             Ok(answer) => answer,
+            // The call was carried out or refused by now, and only its answer is missing.
             Err(_) => refusal(),
         }
     }

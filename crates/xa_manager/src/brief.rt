@@ -12,12 +12,13 @@ use xa_coordinator::{Decision, Ending, WorkFault};
 use xa_lines::Answer;
 use xa_server::Reply;
 
-/// An answer of at most 64 bytes.
+/// An answer of at most 64 bytes, all of which `Answer::Short` has room for.
 pub(crate) fn short_answer(text: &[u8]) -> Answer
     requires { length text.now ≤ 64 }
     ensures { bytes_of result ≡ text.now }
 {
     let mut bytes = ArrayVec::new();
+    // 64 bytes fit, so nothing is refused.
     let _ = bytes.try_extend_from_slice(text);
     Answer::Short(bytes)
 }
@@ -35,7 +36,7 @@ fn begun(number: u64) -> Answer
     Answer::Short(bytes)
 }
 
-/// A reply of one word.
+/// The answer for a reply of one word, `OK` or `NONE`. None if the reply has more.
 fn word_of(reply: &Reply) -> Option<Answer>
     ensures words { IfSome result (λ answer. (convert : Bool)
         → bytes_of answer ≡ reply_text convert reply.now ++ codes "\n") }
@@ -48,7 +49,7 @@ fn word_of(reply: &Reply) -> Option<Answer>
     }
 }
 
-/// The answer after a vote without a cause.
+/// The answer after a vote. None if it is a No, which has a cause.
 fn vote_of(vote: &VoteAnswer) -> Option<Answer>
     ensures words { IfSome result (λ answer. bytes_of answer ≡ vote_text vote.now ++ codes "\n") }
     ensures none { result ≡ None → has_few_words (Response.Voted vote.now) ≡ false }
@@ -61,7 +62,7 @@ fn vote_of(vote: &VoteAnswer) -> Option<Answer>
     }
 }
 
-/// The answer after an ending without stores and without a cause.
+/// The answer after an ending. None if it lists stores or has a cause.
 fn ending_of(ending: &Ending) -> Option<Answer>
     ensures words { IfSome result (λ answer. bytes_of answer ≡ ending_text ending.now ++ codes "\n") }
     ensures none { result ≡ None → has_few_words (Response.Ended ending.now) ≡ false }
@@ -73,7 +74,8 @@ fn ending_of(ending: &Ending) -> Option<Answer>
     }
 }
 
-/// The answer to a call that was carried out, if its words are few. It takes no memory.
+/// The answer to a call that was carried out, if its words are few: it takes no memory then. None if they aren't, and
+/// for a refused call and a line that is no call.
 pub(crate) fn few_words(response: &Response) -> Option<Answer>
     ensures words { IfSome result (λ answer. (decisions : List Decision)
         → bytes_of answer ≡ answer_text decisions response.now) }

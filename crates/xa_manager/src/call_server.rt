@@ -12,8 +12,8 @@ use std::sync::Wait;
 use xa_coordinator::{Fused, Speak};
 use xa_lines::{Answer, LineServer};
 
-/// Room for most answers, in bytes. It is taken before a call is carried out; only values and lists need
-/// more.
+/// Room for most answers, in bytes; only values and lists need more. It is taken before a call is carried out: if it
+/// can't be had, the call isn't carried out.
 pub(crate) const ANSWER_ROOM: usize = 256;
 
 /// The answer if memory is refused.
@@ -23,7 +23,7 @@ pub(crate) fn refusal() -> Answer
     short_answer(b"ERROR 1037 (HY001): out of memory\n")
 }
 
-/// The answer to a line that isn't read as a call.
+/// The answer to a line that is too long to be read as a call.
 pub(crate) fn unread() -> Answer
     ensures { bytes_of result ≡ syntax_text 0 ++ codes "\n" }
 {
@@ -74,6 +74,7 @@ impl<'r, S: Speak, T: Speak, R: Wait> LineServer for CallServer<'r, Fused<S>, T,
         if let Call::Silent = call {
             return Answer::Short(ArrayVec::new());
         }
+        // The room comes first: without it the call isn't carried out.
         let Ok(room) = Vec::with_capacity(alloc, ANSWER_ROOM) else {
             return refusal();
         };
@@ -82,6 +83,7 @@ impl<'r, S: Speak, T: Speak, R: Wait> LineServer for CallServer<'r, Fused<S>, T,
         };
         match write_response(alloc, room, self.manager.decisions(), &response) {
             Ok(answer) => answer,
+            // The call was carried out or refused by now, and only its answer is missing.
             Err(_) => refusal(),
         }
     }

@@ -23,8 +23,8 @@ fn is_of_session(cause: &Cause) -> bool
     }
 }
 
-/// Whether a session didn't answer a statement that the call gave it, or memory was refused for a recovery's
-/// report.
+/// Whether the response tells that a session didn't answer a statement, or that memory was refused for a recovery's
+/// report. The answers in the list of a `SHOW` aren't looked at.
 pub fn is_unanswered(response: &Response) -> bool
     ensures { result ≡ is_unanswered_of response.now }
 {
@@ -44,7 +44,7 @@ pub fn is_unanswered(response: &Response) -> bool
 
 /// Carries calls out. Each statement that they give a session has to be answered.
 ///
-/// Errors: `NoMemory`, also if a statement wasn't answered.
+/// The sessions have no limit that the calls reach. Errors: `NoMemory`, also if a statement wasn't answered.
 pub fn carry_out<R: Wait>(
     rt: &R,
     alloc: Global,
@@ -57,7 +57,7 @@ pub fn carry_out<R: Wait>(
 {
     for call in calls {
         let response = manager.answer_beside(rt, alloc, call)?;
-        // No session of these stores has a limit yet, so memory was refused.
+        // No limit is reached, so memory was refused.
         if is_unanswered(&response) {
             return Err(AllocError);
         }
@@ -65,7 +65,7 @@ pub fn carry_out<R: Wait>(
     Ok(())
 }
 
-/// Lets the coordinator's session in each store, from store 0 on, answer so many more calls.
+/// Lets the coordinator's session in store k answer `limits[k]` more calls, for each of the limits.
 pub fn limit_each<R: Wait>(
     rt: &R,
     alloc: Global,
@@ -81,7 +81,7 @@ pub fn limit_each<R: Wait>(
             store: store as u64,
             calls: limits[store],
         };
-        // The response only says that the session is limited, and isn't shown.
+        // It only says that the session is limited, or that there is no such store, and isn't shown.
         let _response = manager.answer_beside(rt, alloc, &call)?;
     }
     Ok(())

@@ -10,7 +10,7 @@ use xa_xid::Statement;
 
 /// An unbounded store that notes if memory was refused for a statement.
 ///
-/// The calls of its own session are counted by their limit.
+/// It doesn't count the calls of its own session: the limit of the `Fused` around it does.
 #[derive(Drop)]
 pub struct CountedStore {
     /// The store whose sessions answer.
@@ -38,7 +38,7 @@ impl CountedStore {
         self.store.server()
     }
 
-    /// Notes whether a statement was answered.
+    /// Notes that memory was refused if a statement wasn't answered, which in an unbounded store has no other cause.
     fn note(&mut self, answered: bool)
         ensures store { self.new.store ≡ self.old.store }
         ensures refused { answered ≡ false → self.new.starved ≡ true }

@@ -11,7 +11,8 @@ use std::alloc::Global;
 use std::sync::Wait;
 use xa_xid::NoMemory;
 
-/// How many statements the coordinator's session of each store was given, after these calls are carried out.
+/// How many statements the coordinator's session of each store is given if these calls are carried out on so many new
+/// stores.
 fn given_after<R: Wait>(
     rt: &R,
     alloc: Global,
@@ -36,19 +37,23 @@ fn number_or_zero(list: &[u64], place: usize) -> u64
     if place < list.len() { list[place] } else { 0 }
 }
 
-/// How much greater each number is than the one at its place.
+/// How much greater each number of `after` is than the one of `before` at its place; a missing one counts as 0, and a
+/// difference is at least 0.
 fn differences(alloc: Global, after: &[u64], before: &[u64]) -> Result<Vec<u64>, NoMemory>
     ensures { IfOk result (λ more. more.items ≡ differences_of after.now before.now) }
 {
     let mut more = Vec::new(alloc);
     for place in 0..after.len() {
+        // Both lists have a number for each store, so the 0 isn't taken. The lines before go alike in both runs, so no
+        // number is less than the one before, and nothing is cut off; but no contract says that runs go alike.
         let was = number_or_zero(before, place);
         more.push(after[place].saturating_sub(was))?;
     }
     Ok(more)
 }
 
-/// How many calls of sessions each line makes in each store.
+/// How many calls of sessions each line makes in each store: how many more statements the lines up to it give a
+/// session than those before it do, each time on new stores.
 pub fn calls_made<R: Wait>(
     rt: &R,
     alloc: Global,
@@ -64,6 +69,7 @@ pub fn calls_made<R: Wait>(
         → MakesCalls stores calls.now place there) }
 {
     let mut made = Vec::new(alloc);
+    // Before the first line that is 0 in each store.
     let mut before = given_after(rt, alloc, &calls[..0], stores)?;
     for place in 0..calls.len() {
         let after = given_after(rt, alloc, &calls[..place + 1], stores)?;

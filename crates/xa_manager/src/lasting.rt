@@ -16,7 +16,10 @@ use xa_lines::{Client, LineServer, ScriptFault, serve};
 use xa_server::Server;
 use xa_xid::NoMemory;
 
-/// Unbounded stores that hold nothing and never fail, and as many more that get no statement.
+/// Opens `count` unbounded stores that hold nothing, and as many more.
+///
+/// The sessions of the first list pass on 2^64 - 1 calls. Such a store holds its other client's session itself
+/// (`Beside`). The second list only fills the place of `Manager`'s other clients: its stores get no statement.
 fn open_each(
     alloc: Global,
     count: u64,
@@ -38,7 +41,8 @@ fn open_each(
     Ok((sessions, nobody))
 }
 
-/// Makes a manager over unbounded stores that hold nothing. Nothing has begun, and no session fails.
+/// Makes a manager over unbounded stores that hold nothing. Nothing has begun, and each session of the coordinator
+/// passes on 2^64 - 1 calls.
 ///
 /// `count`: how many stores, in `[1, 16]`. Errors: `NoMemory` if an allocation fails; nothing is kept then.
 /// May return `NoMemory`. Doesn't wait.

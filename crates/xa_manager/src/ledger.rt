@@ -53,7 +53,7 @@ impl Ledger {
         Ok(())
     }
 
-    /// Removes the last transaction.
+    /// Removes the last transaction, if there is one.
     ///
     /// Takes no memory. Doesn't wait.
     pub fn forget_last(&mut self)
@@ -90,7 +90,7 @@ impl Ledger {
         Some(mem::replace(&mut self.stages[place], Stage::Over))
     }
 
-    /// Puts a transaction's stage back, if it was begun.
+    /// Sets a transaction's stage, also after it was taken out. Nothing changes if none of this number was begun.
     ///
     /// Takes no memory. Doesn't wait.
     #[tactic(auto, unfolding(crate::specs::Ledger::stage_of, crate::specs::Ledger::with_stage))]
@@ -119,6 +119,7 @@ impl Ledger {
         match self.take(number) {
             None => Err(Response::UnknownTransaction(number)),
             Some(Stage::Working(transaction)) => Ok(transaction),
+            // The call is refused, so the stage goes back.
             Some(stage) => {
                 self.put(number, stage);
                 Err(Response::WrongStage(number))
@@ -129,7 +130,7 @@ impl Ledger {
     /// Takes out a transaction whose vote is Ready. Its place then says that it is over.
     ///
     /// `number`: the transaction's, any below 2^64. Errors: the response `UnknownTransaction` if it wasn't
-    /// begun, `WrongStage` if its vote isn't Ready or it was finished.
+    /// begun, `WrongStage` if it wasn't voted on, if its vote isn't Ready, or if it is over.
     /// After an error the ledger is as before. Takes no memory. Doesn't wait.
     /// Own rule: docs/COORDINATOR.md#calls.
     pub fn take_ready(&mut self, number: u64) -> Result<Prepared, Response>
@@ -142,6 +143,7 @@ impl Ledger {
         match self.take(number) {
             None => Err(Response::UnknownTransaction(number)),
             Some(Stage::Ready(prepared)) => Ok(prepared),
+            // The call is refused, so the stage goes back.
             Some(stage) => {
                 self.put(number, stage);
                 Err(Response::WrongStage(number))
@@ -169,6 +171,7 @@ impl Ledger {
             None => Err(Response::UnknownTransaction(number)),
             Some(Stage::Ready(prepared)) => Ok(prepared),
             Some(Stage::Voted(prepared)) => Ok(prepared),
+            // The call is refused, so the stage goes back.
             Some(stage) => {
                 self.put(number, stage);
                 Err(Response::WrongStage(number))

@@ -21,13 +21,17 @@ fn name() -> Bytes
     name
 }
 
-/// A transaction manager: a coordinator with a session in each store, another client's session in each store,
+/// A transaction manager: a coordinator with a session in each store, another client's session of each store,
 /// the decisions, and the stage of each transaction.
+///
+/// If the coordinator's sessions hold the other clients' (`Beside`), calls are answered by `answer_beside`. The
+/// second list then has as many stores of its own, which get no statement.
 #[derive(Drop)]
 pub struct Manager<C: Speak, T: Speak> {
     /// The coordinator, with its session in each store.
     pub(crate) coordinator: Coordinator<C>,
-    /// The other client's session in each store.
+    /// The other client's session of each store; or a store that only fills its place, if the coordinator's session
+    /// holds the other client's.
     pub(crate) other_clients: Vec<T>,
     /// The decisions, which outlive a coordinator that stops.
     pub(crate) decisions: Decisions,
@@ -35,7 +39,7 @@ pub struct Manager<C: Speak, T: Speak> {
     pub(crate) ledger: Ledger,
     // Branches are named by this name: docs/COORDINATOR.md#calls.
     ghost named: { coordinator.name.items ≡ codes "c" },
-    // Each store has another client.
+    // The second list has one for each store, also where it only fills a place.
     ghost pairs: { vec_len other_clients ≡ vec_len coordinator.stores },
     // Each number that was given has a transaction, at whatever stage.
     ghost counted: { length ledger ≡ length decisions },
@@ -50,9 +54,10 @@ pub struct Manager<C: Speak, T: Speak> {
 }
 
 impl<C: Speak, T: Speak> Manager<C, T> {
-    /// Makes a manager over these sessions, two in each store: the coordinator's and another client's.
+    /// Makes a manager over these sessions: the coordinator's and another client's of each store.
     ///
-    /// Nothing has begun. There are 1 to 16 stores, and both lists are in their order.
+    /// Nothing has begun. There are 1 to 16 stores, and both lists are in their order. Over unbounded stores, which
+    /// hold the other client's session too, the second list has as many other stores.
     /// Takes no memory. Doesn't wait.
     #[tactic(auto, using(crate::proofs::Nothing::none_begun))]
     pub fn new(alloc: Global, sessions: Vec<C>, other_clients: Vec<T>) -> Manager<C, T>

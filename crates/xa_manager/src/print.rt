@@ -31,6 +31,7 @@ fn push_count(text: &mut Vec<u8>, word: &[u8], count: u128) -> Result<(), NoMemo
     ensures { OnOk result (text.new.items ≡ text.old.items ++ (word.now ++ decimal count)) }
 {
     text.extend_from_slice(word)?;
+    // To write into a text fails only if memory is refused.
     write!(text, "{count}").map_err(|_| AllocError)
 }
 
@@ -50,6 +51,7 @@ fn push_fault(text: &mut Vec<u8>, fault: &Fault) -> Result<(), NoMemory>
 fn push_refusal(alloc: Global, text: &mut Vec<u8>, error: XaError) -> Result<(), NoMemory>
     ensures { OnOk result (text.new.items ≡ text.old.items ++ error_text error) }
 {
+    // A refusal has no identifiers that could be written in digits.
     push_reply(alloc, text, false, &Reply::Refused(error))
 }
 
@@ -79,7 +81,7 @@ fn push_store_cause(
     push_cause(alloc, text, cause)
 }
 
-/// Appends the result of work, if it isn't one word.
+/// Appends the result of work. LOST and replies of one word are of few words, so they don't come here.
 fn push_worked(
     alloc: Global,
     text: &mut Vec<u8>,
@@ -89,6 +91,7 @@ fn push_worked(
     ensures { OnOk result (text.new.items ≡ text.old.items ++ worked_text worked.now) }
 {
     match worked {
+        // The reply to a row statement has no identifiers that could be written in digits.
         Ok(reply) => push_reply(alloc, text, false, reply),
         Err(WorkFault::Session(fault)) => {
             text.extend_from_slice(b"FAULT: ")?;
@@ -102,7 +105,7 @@ fn push_worked(
     }
 }
 
-/// Appends a vote with its cause.
+/// Appends a No with its cause. The other votes are of few words, so they don't come here.
 fn push_vote(alloc: Global, text: &mut Vec<u8>, vote: &VoteAnswer) -> Result<(), NoMemory>
     requires { has_few_words (Response.Voted vote.now) ≡ false }
     ensures { OnOk result (text.new.items ≡ text.old.items ++ vote_text vote.now) }
@@ -123,7 +126,7 @@ fn push_stores(text: &mut Vec<u8>, stores: &[u8]) -> Result<(), NoMemory>
     Ok(())
 }
 
-/// Appends an ending with its stores or its cause.
+/// Appends an ending with its stores or its cause. The others are of few words, so they don't come here.
 fn push_ending(alloc: Global, text: &mut Vec<u8>, ending: &Ending) -> Result<(), NoMemory>
     requires { has_few_words (Response.Ended ending.now) ≡ false }
     ensures { OnOk result (text.new.items ≡ text.old.items ++ ending_text ending.now) }
@@ -140,7 +143,7 @@ fn push_ending(alloc: Global, text: &mut Vec<u8>, ending: &Ending) -> Result<(),
     }
 }
 
-/// Appends the report of a recovery.
+/// Appends the counts of a recovery's report. Its places (`fronts`) aren't written.
 fn push_report(text: &mut Vec<u8>, report: &Report) -> Result<(), NoMemory>
     ensures { OnOk result (text.new.items ≡ text.old.items ++ report_text report.now) }
 {
@@ -173,7 +176,7 @@ fn push_recover_fault(
     }
 }
 
-/// Appends another client's answer.
+/// Appends another client's answer, with recovered identifiers in digits if `convert`.
 fn push_replied(
     alloc: Global,
     text: &mut Vec<u8>,
@@ -202,6 +205,7 @@ fn push_store(
 {
     push_numbered(text, b"STORE ", store)?;
     text.extend_from_slice(b"\n")?;
+    // It is the answer to `XA RECOVER CONVERT XID`.
     push_replied(alloc, text, true, answer)?;
     text.extend_from_slice(b"\n")
 }
@@ -242,13 +246,15 @@ fn push_numbers(
 {
     for (place, decision) in decisions.iter().enumerate() {
         if stands(decision, wanted) {
+            // The number at place 0 is 1.
             push_numbered(text, b" ", place as u64 + 1)?;
         }
     }
     Ok(())
 }
 
-/// Appends all numbers by their states. The text doesn't end in a line feed.
+/// Appends the lines `UNDECIDED`, `DECIDED` and `CLOSED`, each with the numbers of the transactions that are so. The
+/// last one has no line feed.
 fn push_decisions(text: &mut Vec<u8>, decisions: &[Decision]) -> Result<(), NoMemory>
     ensures { OnOk result (text.new.items ≡ text.old.items ++ decisions_text decisions.now) }
 {
@@ -260,7 +266,8 @@ fn push_decisions(text: &mut Vec<u8>, decisions: &[Decision]) -> Result<(), NoMe
     push_numbers(text, Decision::Closed, decisions)
 }
 
-/// Appends a response of more than few words. The text doesn't end in a line feed.
+/// Appends a response of more than few words, without a line feed. Those of few words don't come here: `few_words`
+/// has their answers.
 fn push_response(
     alloc: Global,
     text: &mut Vec<u8>,
@@ -293,7 +300,7 @@ fn push_response(
     }
 }
 
-/// Writes a response of more than few words into an empty text.
+/// Writes a response of more than few words into an empty text, with its line feed; nothing for a line that is no call.
 fn write_into(
     alloc: Global,
     mut text: Vec<u8>,
@@ -304,7 +311,7 @@ fn write_into(
     requires words { has_few_words response.now ≡ false }
     ensures { IfOk result (λ written. written.items ≡ answer_text decisions.now response.now) }
 {
-    // Not even a line feed is written.
+    // A line that is no call has no answer, not even a line feed.
     if matches!(response, Response::Silent) {
         return Ok(text);
     }

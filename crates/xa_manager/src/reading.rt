@@ -10,7 +10,7 @@ use xa_lines::{is_comment, number_in, split_word};
 use xa_statement::read_statement;
 use xa_xid::{Statement, skip_blanks};
 
-/// The number in the text's first word, and the text after that word and its blanks.
+/// The number in the text's first word, and the text after that word and its blanks. None if that word is no number.
 fn number_then(text: &[u8]) -> Option<(u64, &[u8])>
     ensures { MatchOption result
         (number_of_word (first_word text.now) ≡ None)
@@ -23,7 +23,7 @@ fn number_then(text: &[u8]) -> Option<(u64, &[u8])>
     }
 }
 
-/// The number that is all of the text, except for blanks after it.
+/// The number that is all of the text, except for blanks after it. None if the text is anything else.
 #[tactic(auto, unfolding(crate::specs::Calls::lone_number))]
 fn number_alone(text: &[u8]) -> Option<u64>
     ensures { result ≡ lone_number text.now }
@@ -50,7 +50,7 @@ fn is_row(statement: &Statement) -> bool
     }
 }
 
-/// The call, if nothing comes after it.
+/// The call, if nothing comes after its word; else `Unread`. `rest` is what comes after it, without the blanks between.
 fn alone(call: Call, rest: &[u8]) -> Call
     requires { IsWritten call }
     ensures call { result ≡ alone_call call rest.now }
@@ -63,7 +63,8 @@ fn alone(call: Call, rest: &[u8]) -> Call
     }
 }
 
-/// The call of a line WORK n k STATEMENT, by what stands behind WORK.
+/// The call of a line WORK n k STATEMENT, by what stands behind WORK. If it can't be read, `Unread`: with the byte of
+/// STATEMENT at which that is wrong, or 0 if anything else is.
 #[tactic(auto, unfolding(crate::specs::Calls::work_of))]
 fn work(text: &[u8]) -> Call
     ensures call { result ≡ work_of text.now }
@@ -84,6 +85,7 @@ fn work(text: &[u8]) -> Call
                     statement,
                 }
             } else {
+                // No byte of the statement is wrong: `WORK` doesn't take it.
                 Call::Unread(0)
             }
         }
@@ -91,7 +93,8 @@ fn work(text: &[u8]) -> Call
     }
 }
 
-/// The call of a line AT k STATEMENT, by what stands behind AT.
+/// The call of a line AT k STATEMENT, by what stands behind AT. If it can't be read, `Unread`: with the byte of
+/// STATEMENT at which that is wrong, or 0 if k is.
 #[tactic(auto, unfolding(crate::specs::Calls::at_of))]
 fn at(text: &[u8]) -> Call
     ensures call { result ≡ at_of text.now }
@@ -106,7 +109,7 @@ fn at(text: &[u8]) -> Call
     }
 }
 
-/// The call of a line FAIL k AFTER j, by what stands behind FAIL.
+/// The call of a line FAIL k AFTER j, by what stands behind FAIL. `Unread` if that isn't k AFTER j.
 #[tactic(auto, unfolding(crate::specs::Calls::fail_of))]
 fn fail(text: &[u8]) -> Call
     ensures call { result ≡ fail_of text.now }
@@ -125,7 +128,8 @@ fn fail(text: &[u8]) -> Call
     }
 }
 
-/// Reads a call that is about no transaction.
+/// Reads a call that is about no transaction, by its first word and the text after that word and its blanks. `Unread`
+/// if the word names none.
 #[tactic(auto, unfolding(crate::specs::Calls::plain_call))]
 fn plain(word: &[u8], rest: &[u8]) -> Call
     ensures call { result ≡ plain_call word.now rest.now }
@@ -148,7 +152,7 @@ fn plain(word: &[u8], rest: &[u8]) -> Call
     }
 }
 
-/// The call of a line PREPARE n, by what stands behind PREPARE.
+/// The call of a line PREPARE n, by what stands behind PREPARE. `Unread` if that is no number alone.
 fn prepare(text: &[u8]) -> Call
     ensures call { result ≡ numbered (λ number. Call.Prepare number) (lone_number text.now) }
     ensures written { IsWritten result }
@@ -159,7 +163,7 @@ fn prepare(text: &[u8]) -> Call
     }
 }
 
-/// The call of a line DECIDE n, by what stands behind DECIDE.
+/// The call of a line DECIDE n, by what stands behind DECIDE. `Unread` if that is no number alone.
 fn decide(text: &[u8]) -> Call
     ensures call { result ≡ numbered (λ number. Call.Decide number) (lone_number text.now) }
     ensures written { IsWritten result }
@@ -170,7 +174,7 @@ fn decide(text: &[u8]) -> Call
     }
 }
 
-/// The call of a line FINISH n, by what stands behind FINISH.
+/// The call of a line FINISH n, by what stands behind FINISH. `Unread` if that is no number alone.
 fn finish(text: &[u8]) -> Call
     ensures call { result ≡ numbered (λ number. Call.Finish number) (lone_number text.now) }
     ensures written { IsWritten result }
@@ -181,7 +185,7 @@ fn finish(text: &[u8]) -> Call
     }
 }
 
-/// The call of a line ABANDON n, by what stands behind ABANDON.
+/// The call of a line ABANDON n, by what stands behind ABANDON. `Unread` if that is no number alone.
 fn abandon(text: &[u8]) -> Call
     ensures call { result ≡ numbered (λ number. Call.Abandon number) (lone_number text.now) }
     ensures written { IsWritten result }
@@ -192,7 +196,7 @@ fn abandon(text: &[u8]) -> Call
     }
 }
 
-/// Reads a call by its first word.
+/// Reads a call by its first word and the text after that word and its blanks. `Unread` if the word names none.
 #[tactic(auto, unfolding(crate::specs::Calls::call_named))]
 fn named(word: &[u8], rest: &[u8]) -> Call
     ensures call { result ≡ call_named word.now rest.now }

@@ -10,7 +10,7 @@ use xa_session::Fault;
 pub enum Response {
     /// The line is no call, and has no answer.
     Silent,
-    /// The line can't be read. It has the byte at which it is wrong.
+    /// The line can't be read. It has the byte at which its statement is wrong, or 0 if another part is.
     Unread(u64),
     /// There is no store of this number.
     UnknownStore(u64),

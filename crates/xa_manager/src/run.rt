@@ -21,7 +21,8 @@ use xa_session::Session;
 use xa_store::{Log, Pass, Store};
 use xa_xid::NoMemory;
 
-/// Opens a store, and returns it with the passes of its two sessions.
+/// Opens a store, and returns it with the passes of its sessions 1 and 2. `NoMemory` also if it can't be opened with
+/// this capacity.
 fn open_store(alloc: Global, capacity: u64) -> Result<(Store, Pass, Pass), NoMemory>
     ensures logs { IfOk result (λ opened. (log_of opened.1 ≡ identity_of opened.0.log)
         × (log_of opened.2 ≡ identity_of opened.0.log)) }
@@ -32,6 +33,7 @@ fn open_store(alloc: Global, capacity: u64) -> Result<(Store, Pass, Pass), NoMem
     let Ok((store, mut passes)) = Store::open(alloc, capacity, 2) else {
         return Err(AllocError);
     };
+    // There is one for each of the two sessions, in their order, so the last one is session 2's.
     let (Some(second), Some(first)) = (passes.pop(), passes.pop()) else {
         return Err(AllocError);
     };
@@ -76,7 +78,7 @@ pub fn open_stores(
     Ok((stores, firsts, seconds))
 }
 
-/// A session of each store, of these passes.
+/// A session of each store, of the pass at the store's place.
 fn connect_each<'a>(
     alloc: Global,
     stores: &'a [Store],
@@ -90,7 +92,9 @@ fn connect_each<'a>(
 {
     let mut sessions = Vec::new(alloc);
     for pass in passes {
+        // So many passes came before this one, which is of the store at the same place.
         let store = &stores[sessions.len()];
+        // Only an allocation can fail here: the pass is of this store.
         let Ok(session) = store.connect(pass) else {
             return Err(AllocError);
         };
@@ -99,7 +103,7 @@ fn connect_each<'a>(
     Ok(sessions)
 }
 
-/// The sessions, each with a limit that lets every call through.
+/// The sessions, each with a limit of 2^64 - 1 calls, which no run reaches.
 fn fuse_each<S: Speak + Drop>(alloc: Global, sessions: Vec<S>) -> Result<Vec<Fused<S>>, NoMemory>
     ensures count { IfOk result (λ fused. vec_len fused ≡ vec_len sessions) }
     ensures within { IfOk result (λ fused. map (λ session. session.inner) fused.items ≡ sessions.items) }

@@ -5,6 +5,6 @@
 pub enum Ended {
     /// All stops are written.
     Done,
-    /// Lines are faulty.
+    /// Lines are refused, and only these are written.
     Faulty,
 }

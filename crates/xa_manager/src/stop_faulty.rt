@@ -15,7 +15,8 @@ use xa_coordinator::{Decisions, Fused, LastingStore};
 use xa_lines::push_number;
 use xa_xid::NoMemory;
 
-/// Whether a call was refused.
+/// Whether a call was refused: it can't be read, or there is no such store or transaction, or the transaction's stage
+/// doesn't allow it. A refusal by a store isn't meant.
 fn is_refusal(response: &Response) -> bool
     ensures { result ≡ is_refusal_of response.now }
 {
@@ -28,7 +29,8 @@ fn is_refusal(response: &Response) -> bool
     }
 }
 
-/// Appends `LINE`, the number, and why the line of this number is refused. Only other answers show `decisions`.
+/// Appends `LINE`, the number, and why the line of this number is refused. `decisions` isn't shown in a refusal;
+/// `write_response` wants it for other answers.
 fn push_cause(
     faults: &mut Vec<u8>,
     alloc: Global,
@@ -39,6 +41,7 @@ fn push_cause(
     requires { is_refusal_of response.now ≡ true }
     ensures { OnOk result (faults.new.items ≡ faults.old.items ++ cause_text number response.now) }
 {
+    // The text of the response ends the line: it has its line feed.
     let cause = write_response(alloc, Vec::new(alloc), decisions, response)?;
     faults.extend_from_slice(b"LINE ")?;
     push_number(faults, number)?;
@@ -64,7 +67,8 @@ fn push_fault(
     }
 }
 
-/// Carries out the call on the line of this number, and appends why it is refused, if it is.
+/// Carries out the call on the line of this number, and appends why it is refused, if it is. Errors: `NoMemory`, also
+/// if a session didn't answer a statement.
 fn carry_line<R: Wait>(
     rt: &R,
     alloc: Global,
@@ -80,7 +84,7 @@ fn carry_line<R: Wait>(
         × (is_unanswered_of response ≡ false)) }
 {
     let response = manager.answer_beside(rt, alloc, call)?;
-    // No session of these stores fails, so memory was refused.
+    // No session of these stores reaches its limit, so memory was refused.
     if is_unanswered(&response) {
         return Err(AllocError);
     }
@@ -88,7 +92,8 @@ fn carry_line<R: Wait>(
     Ok(())
 }
 
-/// Carries all calls out, and returns the text for those that are refused.
+/// Carries all calls out on so many new stores, and returns the text for those that are refused: an empty one if none
+/// is.
 pub fn faulty_lines<R: Wait>(
     rt: &R,
     alloc: Global,
@@ -103,6 +108,7 @@ pub fn faulty_lines<R: Wait>(
     let mut manager = fresh_manager(alloc, stores)?;
     let mut faults = Vec::new(alloc);
     for place in 0..calls.len() {
+        // Lines are numbered from 1.
         carry_line(
             rt,
             alloc,

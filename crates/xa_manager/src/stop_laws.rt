@@ -1,4 +1,4 @@
-//! Laws about what a recovery leaves after a stop.
+//! Laws about what a recovery leaves after a stop, and about which entries change committed values.
 ghost use Rattle.std.specs.Prelude.{◌≡◌, Some, slice_get, ◌++◌, ◌∷◌, [], Ok, List, ℕ, All};
 ghost use Rattle.xa_coordinator.specs.declared.report.Report.{Report};
 ghost use Rattle.xa_manager.specs.declared.call.Call.{Call};
@@ -35,7 +35,8 @@ pub fn recovery_keeps_to_decisions()
         → KeepsToDecisions last }
 {}
 
-/// States that each transaction then is in all stores in which it has a branch, or in none.
+/// States that each transaction is in all stores in which it has a branch, or in none, after calls, none of them
+/// `RECOVER`, and a completed recovery.
 ///
 /// A decided one was committed in each; one that isn't decided in none, or by ONE PHASE in the only store in
 /// which it has a branch. The condition is that no call has another client end a branch of the coordinator's
@@ -55,9 +56,10 @@ pub fn transactions_stand_whole_or_not_at_all()
         → AllOrNone last }
 {}
 
-/// States the same after each stop that is shown of a script, and after all its lines, if `RECOVERED` is
-/// written.
+/// States that all that was added goes with the decisions, and each transaction is in all of its stores or in none,
+/// after each stop that is shown of a script, and after all its lines, if `RECOVERED` is written there.
 ///
+/// The condition is that no line has another client end a branch of the coordinator's naming.
 /// Own rule: docs/COORDINATOR.md#stops.
 pub fn each_stop_leaves_all_or_none()
     // Proved (scripts, stops-whole): After each stop of a coordinator's script whose recovery was answered

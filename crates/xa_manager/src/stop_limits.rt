@@ -13,6 +13,7 @@ pub fn limits_for(alloc: Global, made: &[u64], calls: u64) -> Result<Vec<u64>, N
     let mut limits = Vec::new(alloc);
     let mut left = calls;
     for there in made {
+        // A store gets all its calls before the next one gets any.
         let limit = (*there).min(left);
         limits.push(limit)?;
         left -= limit;

@@ -9,7 +9,7 @@ use std::alloc::Global;
 use std::collections::BTreeSet;
 use xa_xid::{Key, NoMemory, Statement};
 
-/// The key that a statement names.
+/// The key that a statement names. None if it isn't `GET`, `PUT` or `DEL`.
 fn key_in(statement: &Statement) -> Option<Key>
     ensures { result ≡ key_of_statement statement.now }
 {
@@ -21,7 +21,8 @@ fn key_in(statement: &Statement) -> Option<Key>
     }
 }
 
-/// The key that a statement names, if it is for this store.
+/// The key that a statement names in `store`; None if it names none, or goes to another store. `there` is the store
+/// that it goes to.
 fn key_there(there: u64, statement: &Statement, store: u64) -> Option<Key>
     ensures { result ≡ if nat_eq there store then key_of_statement statement.now else None }
 {
@@ -32,7 +33,7 @@ fn key_there(there: u64, statement: &Statement, store: u64) -> Option<Key>
     }
 }
 
-/// The key that a call names in a store.
+/// The key that a call names in a store. None if it names none there.
 fn key_named(call: &Call, store: u64) -> Option<Key>
     ensures { result ≡ key_of_call call.now store }
 {
@@ -50,7 +51,7 @@ fn key_named(call: &Call, store: u64) -> Option<Key>
     }
 }
 
-/// Adds a key to a set.
+/// Adds a key to a set. Without a key the set stays.
 fn add_key(found: &mut BTreeSet<Key>, key: Option<Key>) -> Result<(), NoMemory>
     ensures { OnOk result (keys found.new ≡ with_key (keys found.old) key) }
 {

@@ -7,7 +7,9 @@ use crate::{Call, Stop};
 use std::alloc::{AllocError, Global};
 use xa_xid::NoMemory;
 
-/// Whether a call is one of the coordinator's.
+/// Whether the coordinator carries the call out: it isn't another client's, nor a blank line or a comment. An `Unread`
+/// counts too, but stops are shown only of a script without one; `FAIL`, `STOP`, `RECOVER` and `SHOW` are read as
+/// `Unread` there.
 fn is_own(call: &Call) -> bool
     ensures { result ≡ is_own_call call.now }
 {
@@ -18,7 +20,8 @@ fn is_own(call: &Call) -> bool
     }
 }
 
-/// How many calls of sessions a line makes.
+/// How many calls of sessions a line makes in all stores. `NoMemory` if they are 2^64 or more: as many stops couldn't
+/// be kept.
 fn total(made: &[u64]) -> Result<u64, NoMemory>
     ensures { IfOk result (λ calls. calls ≡ sum made.now) }
 {
@@ -33,13 +36,14 @@ fn total(made: &[u64]) -> Result<u64, NoMemory>
 fn add_stops(stops: &mut Vec<Stop>, place: usize, calls: u64) -> Result<(), NoMemory>
     ensures { OnOk result (stops.new.items ≡ stops.old.items ++ stops_below place (stop_count calls)) }
 {
+    // A coordinator can also be stopped before a line that makes no call.
     for made in 0..calls.max(1) {
         stops.push(Stop { place, calls: made })?;
     }
     Ok(())
 }
 
-/// Adds the stops in the line of a call that makes so many calls in each store.
+/// Adds the stops in a line. `made` has how many calls of sessions it makes in each store.
 fn add_line_stops(
     stops: &mut Vec<Stop>,
     place: usize,

@@ -8,7 +8,7 @@ use std::alloc::Global;
 use xa_lines::{LINE_BYTES, split_line};
 use xa_xid::NoMemory;
 
-/// The call, but unread if it is one that stops a coordinator or looks at it.
+/// The call, but unread if it is one that stops a coordinator or looks at it: `FAIL`, `STOP`, `RECOVER`, `SHOW`.
 fn taken(call: Call) -> Call
     requires { IsWritten call }
     ensures call { result ≡ taken_of call }

@@ -25,7 +25,7 @@ fn with_value(mut text: Vec<u8>, value: Option<Bytes>) -> Result<Vec<u8>, NoMemo
     }
 }
 
-/// Appends the line of a row to a text.
+/// Appends the line of a row to a text: its store, its key, and its committed value.
 fn with_row(mut text: Vec<u8>, store: u64, server: &Server, key: &Key) -> Result<Vec<u8>, NoMemory>
     ensures { IfOk result (λ longer. longer.items ≡ text.items ++ row_line store server.now key.now) }
 {
@@ -50,7 +50,7 @@ fn with_rows(text: Vec<u8>, store: u64, server: &Server, keys: &[Key]) -> Result
     Ok(longer)
 }
 
-/// Appends the lines of the rows of each store.
+/// Appends the lines of the rows of each store. `keys` has the keys of those rows, store by store.
 pub fn with_rows_of_each(
     text: Vec<u8>,
     stores: &[CountedStore],

@@ -33,7 +33,8 @@ pub struct Told {
     pub text: Vec<u8>,
 }
 
-/// Appends the head of a stop to a text.
+/// Appends the line `STOP l j` of a stop to a text: l is the number of the stopped line, from 1, and j says how many
+/// calls of sessions were made in it.
 fn with_head(mut text: Vec<u8>, stop: Stop) -> Result<Vec<u8>, NoMemory>
     requires { stop.place < 2 ^ 64 - 1 }
     ensures { IfOk result (λ longer. longer.items ≡ text.items ++ stop_line stop) }
@@ -46,7 +47,7 @@ fn with_head(mut text: Vec<u8>, stop: Stop) -> Result<Vec<u8>, NoMemory>
     Ok(text)
 }
 
-/// The line with the number of stops.
+/// The line `STOPS m`, with the number of stops.
 fn with_count(alloc: Global, count: usize) -> Result<Vec<u8>, NoMemory>
     ensures { IfOk result (λ text. text.items ≡ count_line count) }
 {
@@ -65,7 +66,10 @@ fn stop_at(stops: &[Stop], place: usize) -> Stop
     stops[place]
 }
 
-/// Appends each stop to a text.
+/// Appends to a text, for each stop, its line and what a recovery leaves after it.
+///
+/// `made` has for each call how many calls of sessions it makes in each store, `keys` for each store the keys of its
+/// rows that are shown. So there are as many stores as lists of keys.
 fn with_stops<R: Wait>(
     rt: &R,
     alloc: Global,
@@ -95,7 +99,8 @@ fn with_stops<R: Wait>(
     Ok(longer)
 }
 
-/// The text for calls of which none is faulty.
+/// The text for calls of which none is faulty: how many stops there are, each stop, and behind `STOP END` what a
+/// recovery leaves after all calls.
 fn shown_stops<R: Wait>(
     rt: &R,
     alloc: Global,
@@ -153,6 +158,7 @@ pub fn stops_text<R: Wait>(
 {
     let calls = read_calls(alloc, text)?;
     let faults = faulty_lines(rt, alloc, calls.as_slice(), stores)?;
+    // Stops are shown only of a script of which no call is refused.
     if !faults.is_empty() {
         return Ok(Told {
             ended: Ended::Faulty,

@@ -1,4 +1,4 @@
-//! A manager over stores that note when memory was refused.
+//! A manager over stores that note when memory was refused: how it begins, and what is taken from it after its calls.
 ghost use Rattle.std.specs.Prelude.{◌≡◌, ◌≤◌, ◌<◌, ◌-◌, ◌^◌, ℕ, false, All, length, map, vec_len, IfOk};
 ghost use Rattle.xa_manager.specs.Limits.{Passes};
 ghost use Rattle.xa_manager.specs.Managed.{whole_of};
@@ -12,7 +12,7 @@ use xa_coordinator::{Fused, LastingStore};
 use xa_server::Server;
 use xa_xid::NoMemory;
 
-/// A store that holds nothing and whose session doesn't fail.
+/// A store that holds nothing and was refused no memory, and whose session passes on 2^64 - 1 calls.
 fn fresh_session(alloc: Global) -> Fused<CountedStore>
     ensures pair { IsPair (own_of result.inner) (other_of result.inner) }
     ensures left { result.left ≡ 2 ^ 64 - 1 }
@@ -24,7 +24,10 @@ fn fresh_session(alloc: Global) -> Fused<CountedStore>
     Fused::new(store, u64::MAX)
 }
 
-/// Stores that hold nothing and never fail, and as many more that get no statement.
+/// Opens `count` unbounded stores that hold nothing and were refused no memory yet, and as many more.
+///
+/// The sessions of the first list pass on 2^64 - 1 calls. Such a store holds its other client's session itself
+/// (`Beside`). The second list only fills the place of `Manager`'s other clients: its stores get no statement.
 fn open_each(
     alloc: Global,
     count: u64,
@@ -46,7 +49,8 @@ fn open_each(
     Ok((sessions, nobody))
 }
 
-/// A manager over stores that hold nothing: nothing has begun, and no session fails.
+/// A manager over `count` stores that hold nothing: nothing has begun, and each of the coordinator's sessions passes on
+/// 2^64 - 1 calls.
 pub fn fresh_manager(
     alloc: Global,
     count: u64,
@@ -61,7 +65,7 @@ pub fn fresh_manager(
 
 /// The stores of a manager, none of which was refused memory.
 ///
-/// Errors: `NoMemory`, also if one of them was.
+/// Errors: `NoMemory` if an allocation fails, or if memory was refused for a statement in one of them.
 pub fn fed_stores(
     alloc: Global,
     manager: Manager<Fused<CountedStore>, LastingStore>,
@@ -72,7 +76,7 @@ pub fn fed_stores(
     let mut stores = Vec::new(alloc);
     for session in manager.into_sessions() {
         let store = session.into_inner();
-        // The calls were cut short there.
+        // A statement wasn't carried out there, so the store isn't what the calls leave.
         if store.starved {
             return Err(AllocError);
         }
@@ -81,10 +85,9 @@ pub fn fed_stores(
     Ok(stores)
 }
 
-/// How many calls each session of a manager has passed on, whose limit was 2^64 - 1 at first. Memory was refused for
-/// no statement.
+/// How many calls the coordinator's session of each store has passed on since its limit was 2^64 - 1.
 ///
-/// Errors: `NoMemory`, also if it was.
+/// Errors: `NoMemory` if an allocation fails, or if memory was refused for a statement.
 pub fn passed_by(
     alloc: Global,
     manager: Manager<Fused<CountedStore>, LastingStore>,
@@ -96,7 +99,7 @@ pub fn passed_by(
     for session in manager.into_sessions() {
         let left = session.left();
         let store = session.into_inner();
-        // The calls were cut short there, so what was passed on isn't theirs.
+        // A statement wasn't carried out there, so the calls might have given more or other statements.
         if store.starved {
             return Err(AllocError);
         }

@@ -10,8 +10,8 @@ ghost use Rattle.xa_manager.specs.declared.response.Response.{Response as Respon
 ghost use Rattle.xa_manager.specs.Rows.{AreNamed, rows_text};
 ghost use Rattle.xa_manager.specs.Counted.{state_in};
 ghost use Rattle.xa_manager.specs.Runs.{IsAnswered, HasCarried};
-ghost use Rattle.xa_manager.specs.Stops.{IsRecovered, IsLeft, limits_for as limits_of, fails_from, stopped_calls, ended_calls};
-ghost use Rattle.xa_manager.specs.Stops.{IsWhole, IsCutShort, IsCutAt};
+ghost use Rattle.xa_manager.specs.Stops.{IsRecovered, IsLeft, limits_for as limits_of, fails_from, stopped_calls};
+ghost use Rattle.xa_manager.specs.Stops.{ended_calls, IsWhole, IsCutShort, IsCutAt};
 
 use crate::carrying::{carry_out, is_unanswered, limit_each};
 use crate::stop_limits::limits_for;
@@ -24,7 +24,7 @@ use xa_coordinator::{Fused, LastingStore};
 use xa_lines::Answer;
 use xa_xid::{Key, NoMemory};
 
-/// Stops the coordinator.
+/// Replaces the coordinator by a new one, whose sessions pass on 2^64 - 1 calls again.
 fn stop<R: Wait>(
     rt: &R,
     alloc: Global,
@@ -64,7 +64,7 @@ fn recovered<R: Wait>(
     write_response(alloc, Vec::new(alloc), manager.decisions(), &response)
 }
 
-/// Appends an answer and the rows to a text.
+/// Appends an answer and the rows to a text. `keys` is as of `with_lines`.
 fn with_shown(
     mut text: Vec<u8>,
     answer: &[u8],
@@ -79,7 +79,8 @@ fn with_shown(
     with_rows_of_each(text, stores, keys)
 }
 
-/// Stops the coordinator, has a new one recover, and appends its answer and the rows to a text.
+/// Stops the coordinator, has a new one recover, and appends its answer and the rows to a text. Errors: `NoMemory`,
+/// also if memory was ever refused for a statement in one of these stores. `keys` is as of `with_lines`.
 fn with_recovery<R: Wait>(
     rt: &R,
     alloc: Global,
@@ -100,7 +101,8 @@ fn with_recovery<R: Wait>(
     Ok(longer)
 }
 
-/// Appends what a recovery leaves after these lines to a text.
+/// Appends what a recovery leaves after these lines to a text. They are carried out on new stores, as many as `keys`
+/// has lists: the keys of the rows that are shown of each store.
 pub fn with_lines<R: Wait>(
     rt: &R,
     alloc: Global,
@@ -122,7 +124,10 @@ pub fn with_lines<R: Wait>(
     Ok(longer)
 }
 
-/// Appends what a recovery leaves if the coordinator was stopped in a line, after its first call, to a text.
+/// Appends to a text what a recovery leaves if the coordinator was stopped in the line at a place, after so many
+/// calls in each store as `limits` has. `keys` is as of `with_lines`.
+///
+/// Errors: `NoMemory`, also if a session answered each call of the line, so that it wasn't cut short.
 fn with_cut_line<R: Wait>(
     rt: &R,
     alloc: Global,
@@ -145,9 +150,11 @@ fn with_cut_line<R: Wait>(
 {
     let mut manager = fresh_manager(alloc, keys.len() as u64)?;
     carry_out(rt, alloc, &mut manager, &calls[..place])?;
+    // The lines before mustn't use up any of the limits, so these are set after them.
     limit_each(rt, alloc, &mut manager, limits)?;
     let response = manager.answer_beside(rt, alloc, &calls[place])?;
-    // The line makes more calls than these, so one of them wasn't passed on.
+    // A stop lies before a call of the line, which its session doesn't answer. If all were answered, the line wasn't
+    // stopped there, and what is left isn't what a stop leaves.
     if !is_unanswered(&response) {
         return Err(AllocError);
     }
@@ -155,7 +162,8 @@ fn with_cut_line<R: Wait>(
     Ok(longer)
 }
 
-/// Appends what a recovery leaves after a stop, in a line that makes so many calls in each store, to a text.
+/// Appends what a recovery leaves after a stop to a text. `made` has how many calls of sessions the stop's line makes
+/// in each store. `keys` is as of `with_lines`.
 pub fn with_stop<R: Wait>(
     rt: &R,
     alloc: Global,
@@ -175,7 +183,8 @@ pub fn with_stop<R: Wait>(
         × IsCutAt stop.place stop.calls (limits_of made.now stop.calls) left.responses
         × (longer.items ≡ text.items ++ rest)) }
 {
-    // Nothing of the line itself is carried out then.
+    // No call was made in the stop's own line, so only the lines before it are carried out. `with_cut_line` would fail
+    // for a line that makes no call.
     if stop.calls == 0 {
         let longer = with_lines(rt, alloc, text, &calls[..stop.place], keys)?;
         return Ok(longer);

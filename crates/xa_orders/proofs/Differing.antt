@@ -1,7 +1,7 @@
 -- Ways that are counted by their numbers.
 --     Chosen           as many of a list as were counted, no two of which have come to the same
 --     chosen_none      of none
---     chosen_same, chosen_new      one more was looked at, whose number was there;  or wasn't
+--     chosen_same, chosen_new      a number is noted, and no more are chosen;  one more is, whose number is new
 --     chosen_differ    so many of the list differ
 --     wide_next        more than allowed of those that a turn leads to
 use Rattle.std.proofs.Common.{◌≡◌, ◌≢◌, ℕ, ◌+◌, ◌<◌, Bool, true, false, not, cond, List, [], ◌∷◌, length, get_or, take}
@@ -56,7 +56,7 @@ all_still_marked keys old new added chosen updates marked =
     (λ one. contains nat_cmp new (mark keys (config_of one)) ≡ true)
     (λ one had. still_marked old new added (mark keys (config_of one)) updates had) chosen marked
 
--- a way whose number was noted before isn't chosen
+-- the chosen ways stay a choice when any number is noted (used for one that was there already)
 pub chosen_same : (known : List Way) (keys : List (List ℕ)) (old new : BTreeSet ℕ) (count added : ℕ)
     → Updates nat_cmp old new added true
     → Chosen known keys old count → Chosen known keys new count
@@ -94,7 +94,7 @@ not_there : (b : Bool) → not b ≡ true → b ≡ false
 not_there true e = absurd (false≢true e)
 not_there false e = refl
 
--- the number of the way at a place was new
+-- the way at a place is chosen too, if its number wasn't noted before and now is
 pub chosen_new : (known : List Way) (keys : List (List ℕ)) (old new : BTreeSet ℕ) (count place number : ℕ) (one : Way)
     (added : Bool)
     → place < length known → one ≡ get_or known place one → number ≡ mark keys (config_of one)
@@ -112,7 +112,8 @@ pub chosen_differ : (known : List Way) (keys : List (List ℕ)) (marks : BTreeSe
 chosen_differ known keys marks count c =
     record { many = c.chosen; counted = c.counted; differ = c.differ; among = c.among }
 
--- of the ways to which one more turn leads, more than allowed differ
+-- if the list of what the first ways lead to has more than allowed that differ, one more turn of all ways leads to
+-- more
 pub wide_next : (lines : List Told) (ways list same : List Way) (limit count : ℕ)
     → IsNextOf lines (take count ways) list → same ≡ list → IsSpread limit same
     → IsWideNext lines ways limit

@@ -26,7 +26,7 @@ unfolding told_text
 told_text-more state lines index line below at =
     ap (told_text state) (drop_more lines index line below ∙ ap (λ l. l ∷ drop (index + 1) lines) (sym at))
 
--- the lines from a place on: the one there, and then the others
+-- the state after the lines from a place on: the one there is carried out, and then the others
 pub told_state-more : (state : State) (lines : List Told) (index : ℕ) (line : Told) → index < length lines
     → line ≡ get_or lines index line
     → told_state state (drop index lines) ≡ told_state (state_then state line.session (read_of line.text))
@@ -47,7 +47,7 @@ pub told_state-end : (state : State) (lines : List Told) (index : ℕ) → lengt
 unfolding told_state
 told_state-end state lines index past = ap (told_state state) (drop_all index lines past)
 
--- a line is carried out, and its answer is appended
+-- the loop over lines: one more is carried out, and its answer appended; what is written in all stays the same
 pub told_step : (state new : State) (lines : List Told) (index : ℕ) (line : Told) (session : ℕ)
     (said whole out answer more : List ℕ) → index < length lines
     → line ≡ get_or lines index line
@@ -67,7 +67,7 @@ told_step state new lines index line session said whole out answer more below at
     ∙ ap (λ s. out ++ (answer ++ told_text s rest)) (sym next)
     ∙ sym (append_assoc out answer (told_text new rest)) ∙ ap (λ t. t ++ told_text new rest) (sym appended)
 
--- the loop's step: a line is carried out
+-- the loop over lines: one more is carried out; the state after all of them stays the same
 pub told_state_step : (first state new : State) (lines : List Told) (index : ℕ) (line : Told) (session : ℕ)
     (said : List ℕ) (last : State)
     → index < length lines
@@ -92,6 +92,7 @@ HasOutcome text_of outcomes way =
 
 module _ (text_of : Way → List ℕ) (front : List Way) (way : Way) (old : List Outcome) (precede : AllPrecede front way)
     (are : AreOutcomes text_of front old) where
+  -- each outcome so far is that of a way before this one, so of one of the ways up to it
   more_each : All (IsOf text_of (front ++ way ∷ [])) old
   more_each =
       All-weaker (IsOf text_of front) (IsOf text_of (front ++ way ∷ []))
@@ -106,6 +107,7 @@ module _ (text_of : Way → List ℕ) (front : List Way) (way : Way) (old : List
       (Precedes one.order.items way.order.items) (λ w less is. subst (λ order. Precedes order way.order.items)
       (sym is.0) less) front precede any
 
+  -- if an outcome with the way's text is there, the outcomes are those of the ways up to this one
   outcome_there : (text : List ℕ) → text ≡ text_of way → Any (λ one. one.text.items ≡ text) old
       → AreOutcomes text_of (front ++ way ∷ []) old
   outcome_there text text_is there = record {
@@ -119,6 +121,7 @@ module _ (text_of : Way → List ℕ) (front : List Way) (way : Way) (old : List
     ascending = are.ascending;
   }
 
+  -- if none has the way's text, and its outcome is added, the outcomes are those of the ways up to this one
   outcome_added : (text : List ℕ) (next : Outcome) → text ≡ text_of way → next.order.items ≡ way.order.items
       → next.text.items ≡ text
       → All (λ one. one.text.items ≢ text) old
@@ -145,6 +148,7 @@ module _ (text_of : Way → List ℕ) (front : List Way) (way : Way) (old : List
         (λ one from. subst (Precedes one.order.items) (sym order_is) (before_way one from)) old are.each);
   }
 
+  -- after the way's outcome is added, unless it was there, the outcomes are those of the ways up to this one
   pub outcome_more : (new : List Outcome) (text : List ℕ) → text ≡ text_of way
       → IsOutcomeAdded way.order.items text old new
       → AreOutcomes text_of (front ++ way ∷ []) new

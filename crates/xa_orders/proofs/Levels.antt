@@ -1,4 +1,4 @@
--- Ways with one turn more, each place once.
+-- Ways with one turn more: each configuration to which they come is listed, with its least order.
 use Rattle.std.proofs.Common.{◌≡◌, ◌⊎◌, ℕ, ◌+◌, ◌<◌, Option, Some, None, Vec, Global, IfSome, List, [], ◌∷◌, ◌++◌}
 use Rattle.std.proofs.Common.{length, take, get_or, refl, sym, ap, ◌∙◌, subst, inl, inr, arith}
 use Rattle.std.specs.List.{All}
@@ -33,7 +33,7 @@ leads_last lines old new (first ∷ order) session leads =
     let rest = leads_last lines leads.0 new order session leads.3 in
     (rest.0, (leads.0, leads.1, leads.2, rest.1), rest.2, rest.3)
 
--- what was in a list stays in it when a way is added
+-- a configuration that a list had, with an order at most as great, it still has when a way is added
 pub has_kept : (old new : List Way) (one : Way) (config : Config) (order : List ℕ) → AddsUnlessThere old one new
     → HasBy old config order → HasBy new config order
 has_kept old new one config order (inl was) has = subst (λ l. HasBy l config order) (sym was.1) has
@@ -55,7 +55,7 @@ pub record IsHalfway (lines : List Told) (front : List Way) (way : Way) (number 
   pub own : Covers lines number way list
   pub ascending : IsAscending order_of list
 
--- before the first session no turn was taken
+-- if the list is what one more turn of the ways before this one leads to, `IsHalfway` holds of it up to session 1
 pub halfway_first : (lines : List Told) (front : List Way) (way : Way) (list : List Way) → IsNextOf lines front list
     → IsHalfway lines front way 1 list
 halfway_first lines front way list next = record {
@@ -66,7 +66,7 @@ halfway_first lines front way list next = record {
   ascending = next.ascending;
 }
 
--- what was found so far comes before the way's next turn
+-- what was found before a session's turn comes before the way's order with that turn
 before_turn : (lines : List Told) (front : List Way) (way : Way) (number : ℕ) (new : Way) → AllPrecede front way
     → IsFrom lines front way number new
     → Precedes new.order.items (way.order.items ++ number ∷ [])
@@ -80,12 +80,12 @@ before_turn lines front way number new precede (inr own) =
     subst (λ l. Precedes l (way.order.items ++ number ∷ [])) (sym own.2.order_is)
     (precedes_last way.order.items own.0 number own.1)
 
--- what is below the number after one is below that, or is it
+-- a session below the number after another is below that one, or is it
 below_more : (session number : ℕ) → session < number + 1 → (session < number) ⊎ (session ≡ number)
 below_more session number below =
     elim (cases_lt session number) [ inl less ↦ inl less | inr most ↦ inr (omega (arith, below, most)) ]
 
--- a way that a session up to this number leads to is one of sessions up to the next
+-- a way that was found by sessions below a number was found by those below the next one
 from_more : (lines : List Told) (front : List Way) (way : Way) (number : ℕ) (new : Way)
     → IsFrom lines front way number new
     → IsFrom lines front way (number + 1) new
@@ -94,11 +94,12 @@ from_more lines front way number new (inr own) = inr (own.0, omega (arith, own.1
 
 module _ (lines : List Told) (front : List Way) (way : Way) (number : ℕ) (old : List Way)
     (half : IsHalfway lines front way number old) where
+  -- each way that was found by sessions below the number was found by those below the next one
   more_each : All (IsFrom lines front way (number + 1)) old
   more_each = All-weaker (IsFrom lines front way number) (IsFrom lines front way (number + 1))
       (from_more lines front way number) old half.each
 
-  -- the session has no turn
+  -- if the session of this number has no turn, `IsHalfway` holds of the list up to the next number
   halfway_none : (IsSession number → turn lines (config_of way) number ≡ None)
       → IsHalfway lines front way (number + 1) old
   halfway_none none = record {
@@ -116,7 +117,7 @@ module _ (lines : List Told) (front : List Way) (way : Way) (number : ℕ) (old 
           absurd (none-some config (sym (none (subst IsSession same is)) ∙ ap (turn lines (config_of way)) (sym same)
           ∙ at))
 
-  -- what the turn leads to is there
+  -- if its turn leads to a configuration that the list has, `IsHalfway` holds of the list up to the next number
   halfway_there : (next : Way) → AllPrecede front way → IsTurn lines number way next
       → Any (λ one. config_of one ≡ config_of next) old
       → IsHalfway lines front way (number + 1) old
@@ -143,7 +144,7 @@ module _ (lines : List Told) (front : List Way) (way : Way) (number : ℕ) (old 
           ))
           old half.each there
 
-  -- or it is added
+  -- if the way to which its turn leads is added, `IsHalfway` holds of the new list up to the next number
   halfway_added : (next : Way) → AllPrecede front way → IsTurn lines number way next
       → IsHalfway lines front way (number + 1) (old ++ next ∷ [])
   halfway_added next precede is_turn = record {
@@ -176,6 +177,8 @@ module _ (lines : List Told) (front : List Way) (way : Way) (number : ℕ) (old 
             inl (is_turn.order_is ∙ ap (λ n. way.order.items ++ n ∷ []) (sym same)),
           )
 
+  -- the loop over sessions: after the turn of this number's session, `IsHalfway` holds of the list up to the next
+  -- number
   pub halfway_more : (new : List Way) → AllPrecede front way → IsTurnAdded lines way number old new
       → IsHalfway lines front way (number + 1) new
   halfway_more new precede (inl none) =
@@ -189,7 +192,7 @@ module _ (lines : List Told) (front : List Way) (way : Way) (number : ℕ) (old 
       added next is_turn (inr is) =
           subst (IsHalfway lines front way (number + 1)) (sym is) (halfway_added next precede is_turn)
 
--- after session 16 all turns were taken
+-- after session 16 all turns of the way were taken: the list is what one more turn of the ways up to it leads to
 pub halfway_done : (lines : List Told) (front : List Way) (way : Way) (list : List Way)
     → IsHalfway lines front way 17 list
     → IsNextOf lines (front ++ way ∷ []) list
@@ -270,7 +273,7 @@ level_next lines base count ways list level next = record {
         (by split.0 split.1 config (ap length (sym split.2) ∙ count_is)
         (subst (λ order. LeadsTo lines base order config) split.2 leads))
 
--- with no turn there is one way
+-- the one way that has taken no turn, in the first configuration, is the level of no turns
 pub level_first : (lines : List Told) (base : Config) (list : List Way) (one : Way) → list ≡ one ∷ []
     → config_of one ≡ base → one.order.items ≡ []
     → IsLevel lines base 0 list
@@ -309,7 +312,7 @@ level_step lines ways list new index way below at ascending step next =
     (pairwise_front (λ one other. Precedes (order_of one) (order_of other)) ways index way below ascending))
     next)
 
--- too many ways with a turn more: the search is too wide
+-- if one more turn of a level leads to more ways than allowed that differ, orders of one length do
 pub wide_level : (lines : List Told) (base : Config) (count limit : ℕ) (ways same : List Way)
     → IsLevel lines base count ways → same ≡ ways
     → IsWideNext lines same limit
@@ -324,7 +327,7 @@ wide_level lines base count limit ways same level is wide =
       reached = each_reached lines base count ways now.many level.each now.each;
     }
 
--- if they aren't too many, they are the next level
+-- the ways that are found with one more turn of a level, if any are returned, are the next level
 pub level_found : (lines : List Told) (base : Config) (count : ℕ) (ways same : List Way)
     (found : Option (Vec Way Global)) (next : Vec Way Global)
     → IsLevel lines base count ways → same ≡ ways → found ≡ Some next
@@ -333,7 +336,7 @@ level_found lines base count ways same found next level is some by =
     level_next lines base count ways next.items level
     (subst (λ w. IsNextOf lines w next.items) is (subst (λ o. IfSome o (λ n. IsNextOf lines same n.items)) some by))
 
--- the ways that a search opens with are the first level
+-- the ways that a search opens with are the level of no turns
 pub level_opening : (lines : List Told) (state : State) (ways : List Way) → IsOpening lines state ways
     → IsLevel lines (opening lines state) 0 ways
 level_opening lines state ways is = level_first lines (opening lines state) ways is.0 is.1 is.2 is.3

@@ -11,7 +11,7 @@ is_empty_length : (text : List ℕ) → (length text == 0) ≡ is_empty_line tex
 is_empty_length [] = grind (arith, nat_tests)
 is_empty_length (byte ∷ text) = grind (arith, nat_tests)
 
--- two tests that are the same find the same place
+-- if two tests agree on each element, as many elements at the front of a list fail one as fail the other
 prefix_same : {A : Type 0} (p q : A → Bool) (xs : List A) → ((x : A) → p x ≡ q x)
     → prefix_len (λ x. not (p x)) xs ≡ prefix_len (λ x. not (q x)) xs
 prefix_same p q [] same = refl

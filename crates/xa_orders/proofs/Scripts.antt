@@ -21,7 +21,7 @@ pub read_lines_cut : (read : Reading) (number : ℕ) (text line rest : List ℕ)
 unfolding read_lines
 read_lines_cut read number text line rest cut = ap (read_lines read number) cut
 
--- no line is left
+-- the loop over lines ends: no line is left, and no more is read
 pub read_lines_end : (read : Reading) (number : ℕ) (text : List ℕ) → (length text == 0) ≡ true
     → read_lines read number (lines_of text) ≡ read
 unfolding read_lines lines_of
@@ -64,7 +64,7 @@ outcomes_step outcomes index number one whole out more below at count appended b
     ∙ sym (append_assoc out (outcome_lines number one) (outcomes_text (number + 1) (drop (index + 1) outcomes)))
     ∙ ap (λ t. t ++ outcomes_text (number + 1) (drop (index + 1) outcomes)) (sym appended)
 
--- past the last outcome nothing is
+-- past the last outcome nothing is written
 pub outcomes_end : (outcomes : List Outcome) (index number : ℕ) → length outcomes ≤ index
     → outcomes_text number (drop index outcomes) ≡ []
 unfolding outcomes_text
@@ -88,7 +88,7 @@ explored_written limit (Ok e) ended text given input rest old new read end is sa
     (text, subst (λ x. IsExploredText given limit x text) (sym same) is, written)
 explored_written limit (Err fault) ended text given input rest old new read end is same written = tt
 
--- writing failed: a prefix of the text was written, which is what it promises after that fault
+-- writing failed: a prefix of the text was written, which is what `explore` promises after that fault
 pub explored_faulted : (limit : ℕ) (result : Result Ended ScriptFault) (ended : Ended) (text given : List ℕ)
     (input rest old new : Option (List ℕ))
     → Consumes input rest given → IsAtEnd rest → IsExploredText given limit ended text

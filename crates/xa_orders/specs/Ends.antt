@@ -1,6 +1,6 @@
 -- What ways come to after the later lines are carried out.
 --     text_from          what all lines are answered on a way
---     IsOutcomeAdded     an outcome is there, or is added
+--     IsOutcomeAdded     an outcome is added, unless one with its text is there
 --     AreOutcomes        these are the outcomes of ways, each once
 use Rattle.std.specs.Prelude.{◌≡◌, ◌≢◌, ◌⊎◌, ℕ, List, [], ◌∷◌, ◌++◌}
 use Rattle.std.specs.List.{All, concat}

@@ -2,14 +2,14 @@
 --     config_of            the configuration to which a way has come
 --     IsReached            a way's order leads there
 --     HasBy                a list has a way with this configuration, and an order that is at most this one
---     IsLevel              the ways that have carried out equally many lines: each configuration once, with the
---                          least order
---     IsTurn, IsNextOf     a way is another one with one more turn;  ways are all that one more turn leads
---                          to, each configuration once
+--     IsLevel              the ways that have carried out equally many lines: each configuration to which so many
+--                          turns lead, with its least order
+--     IsTurn, IsNextOf     a way is another one with one more turn;  ways are what one more turn leads to, each
+--                          configuration with its least order
 --     IsTurnAdded          the way to which a session's turn leads is added
 --     AreDifferent         no two ways of a list have come to the same
 --     HasDifferent         a list has so many ways of which no two have come to the same
---     IsSpread             it has more of them than allowed
+--     IsSpread             it has more than allowed of which no two have come to the same
 --     IsWideNext, IsWide   one more turn leads to more ways than allowed;  orders of one length do
 use Rattle.std.specs.Prelude.{◌≡◌, ◌≢◌, ◌⊎◌, ℕ, ◌<◌, Some, None, List, [], ◌∷◌, ◌++◌, length}
 use Rattle.std.specs.List.{All}
@@ -35,7 +35,8 @@ pub record IsReached (lines : List Told) (base : Config) (count : ℕ) (way : Wa
 abbrev pub HasBy : List Way → Config → List ℕ → Type 0
 HasBy ways config order = Any (λ way. (config_of way ≡ config) × AtMost way.order.items order) ways
 
--- the ways are all those with this many turns, each place once
+-- each way has this many turns; wherever so many turns lead, one of the ways has come there by an order that is at
+-- most theirs; and the orders of the ways ascend
 pub record IsLevel (lines : List Told) (base : Config) (count : ℕ) (ways : List Way) : Type 0 where
   pub each : All (IsReached lines base count) ways
   pub all : (order : List ℕ) (config : Config) → length order ≡ count → LeadsTo lines base order config
@@ -48,20 +49,22 @@ pub record IsTurn (lines : List Told) (session : ℕ) (way new : Way) : Type 0 w
   pub leads : turn lines (config_of way) session ≡ Some (config_of new)
   pub order_is : new.order.items ≡ way.order.items ++ session ∷ []
 
--- the list has what each turn of a session below the number leads to
+-- the list has each configuration to which the way's turn of a session below the number leads, with an order that is
+-- at most the way's and that turn
 abbrev pub Covers : List Told → ℕ → Way → List Way → Type 0
 Covers lines number way list =
     (session : ℕ) (config : Config) → session < number → IsSession session
     → turn lines (config_of way) session ≡ Some config
     → HasBy list config (way.order.items ++ session ∷ [])
 
--- the list is what one more turn of the ways leads to
+-- each of the list is one of the ways with one more turn; the list has what each turn of each of the ways leads to;
+-- and its orders ascend
 pub record IsNextOf (lines : List Told) (ways list : List Way) : Type 0 where
   pub each : All (λ new. Any (λ way. (session : ℕ) × IsTurn lines session way new) ways) list
   pub all : All (λ way. Covers lines 17 way list) ways
   pub ascending : IsAscending order_of list
 
--- each of the list comes before this way
+-- the order of each of the list comes before this way's
 abbrev pub AllPrecede : List Way → Way → Type 0
 AllPrecede ways way = All (λ one. Precedes one.order.items way.order.items) ways
 
@@ -69,7 +72,8 @@ AllPrecede ways way = All (λ one. Precedes one.order.items way.order.items) way
 abbrev pub AddsUnlessThere : List Way → Way → List Way → Type 0
 AddsUnlessThere old one new = (Any (λ way. config_of way ≡ config_of one) old × (new ≡ old)) ⊎ (new ≡ old ++ one ∷ [])
 
--- the session has no turn, and the list is as it was; or the way to which its turn leads is added
+-- the session has no turn, and the list is as it was; or the way to which its turn leads is added, unless the list
+-- has a way with its configuration
 abbrev pub IsTurnAdded : List Told → Way → ℕ → List Way → List Way → Type 0
 IsTurnAdded lines way session old new =
     ((IsSession session → turn lines (config_of way) session ≡ None) × (new ≡ old))
@@ -91,7 +95,7 @@ pub record HasDifferent (count : ℕ) (ways : List Way) : Type 0 where
   pub differ : AreDifferent many
   pub among : All (λ one. Any (λ way. way ≡ one) ways) many
 
--- the list has more of them than allowed
+-- the list has more ways than allowed of which no two have come to the same
 pub record IsSpread (limit : ℕ) (ways : List Way) : Type 0 where
   pub count : ℕ
   pub over : limit < count

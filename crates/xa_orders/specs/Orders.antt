@@ -52,7 +52,7 @@ pub record Config : Type 0 where
 abbrev pub opening : List Told → State → Config
 opening lines state = record { state = state; answers = replicate (length lines) [] }
 
--- the session's line wasn't carried out
+-- whether the line is the session's, and wasn't carried out: its answer is empty
 abbrev pub is_left : ℕ → Told × List ℕ → Bool
 is_left session pair = (pair.0.session == session) && is_empty_line pair.1
 
@@ -103,7 +103,7 @@ pub record Gives (parts : Parts) (order text : List ℕ) : Type 0 where
   pub leads : LeadsTo parts.beside (base_of parts) order config
   pub text_is : text ≡ outcome_text parts config
 
--- at the first place at which two orders differ, the first one has the smaller session
+-- two orders differ at a place that both have, and at the first such place the first one has the smaller session
 abbrev pub Precedes : List ℕ → List ℕ → Type 0
 Precedes (one ∷ order) (other ∷ others) = (one < other) ⊎ ((one ≡ other) × Precedes order others)
 Precedes order others = ⊥

@@ -70,7 +70,7 @@ abbrev pub with_statement : Reading → ℕ → Told → Result Statement ℕ �
 with_statement read number told (Ok statement) = with_told read.stage read told
 with_statement read number told (Err place) = blamed read number place
 
--- a line that is no comment and none of the two words
+-- a line that is no comment and neither BESIDE nor AFTER: a blank one changes nothing, a bad one is faulty at byte 0
 abbrev pub with_line : Reading → ℕ → Line → Reading
 with_line read number Blank = read
 with_line read number Bad = blamed read number 0
@@ -91,7 +91,7 @@ read_more read number line =
     else (if is_word (codes "AFTER") line then with_after read.stage read number else with_line read number
     (line_of line)))
 
--- lines one after another, of which the first has this number
+-- what was read after these lines, of which the first has this number
 unfoldable pub read_lines : Reading → ℕ → List (List ℕ) → Reading
 read_lines read number [] = read
 read_lines read number (line ∷ lines) = read_lines (read_more read number line) (number + 1) lines
@@ -124,7 +124,7 @@ outcomes_text number (one ∷ outcomes) = outcome_lines number one ++ outcomes_t
 abbrev pub explored_text : List Outcome → List ℕ
 explored_text outcomes = codes "OUTCOMES " ++ decimal (length outcomes) ++ codes "\n" ++ outcomes_text 1 outcomes
 
--- all outcomes are written; or that there are too many ways
+-- all outcomes are written; or UNDECIDED, and orders of one length lead to more ways than allowed
 abbrev pub IsPartsText : Parts → ℕ → Ended → List ℕ → Type 0
 IsPartsText parts limit Done text =
     (outcomes : List Outcome) × IsExplored parts outcomes × (text ≡ explored_text outcomes)
@@ -155,7 +155,7 @@ abbrev pub AppendsExploredPrefix : ℕ → List ℕ → Option (List ℕ) → Op
 AppendsExploredPrefix limit script old new =
     (ended : Ended) × (text : List ℕ) × IsExploredText script limit ended text × AppendsPrefix old new text
 
--- a fault of exploring a script that was read
+-- once a script is read, making its text fails only for want of memory
 abbrev pub IsFaultOfExploring : List ℕ → ScriptFault → Type 0
 IsFaultOfExploring script fault = fault ≡ NoMemory
 

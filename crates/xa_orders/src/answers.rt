@@ -15,8 +15,9 @@ use xa_xid::{NoMemory, SessionNo};
 /// What each of a number of lines was answered: a text, which is empty if the line wasn't carried out.
 #[derive(Drop)]
 pub struct Answers {
+    /// The text of each line.
     texts: Vec<SharedText>,
-    /// A number made of the texts and their places.
+    /// A number made of the texts of the lines that were carried out, and of their places.
     mark: u64,
 }
 
@@ -28,7 +29,7 @@ impl Model for Answers {
     ghost view = { λ answers. answers.texts.items };
 }
 
-/// The place of the session's first line that has no text.
+/// The place of the session's first line that has no text. None if there is none.
 fn first_left(lines: &[Line<'_>], texts: &[SharedText], session: SessionNo) -> Option<usize>
     ensures place { result ≡ position (λ pair. (pair.0.session == session) && (length pair.1 == 0))
         (zip lines.now texts.now) }
@@ -39,7 +40,7 @@ fn first_left(lines: &[Line<'_>], texts: &[SharedText], session: SessionNo) -> O
         && text.text().is_empty())
 }
 
-/// The place of the session's first line that wasn't carried out.
+/// The place of the session's first line that wasn't carried out, which has no text. None if there is none.
 fn next_place(lines: &[Line<'_>], texts: &[SharedText], session: SessionNo) -> Option<usize>
     ensures place { result ≡ place_of_next session lines.now texts.now }
     ensures line { IfSome result (λ place. place < length lines.now) }
@@ -56,7 +57,7 @@ pub fn is_same_text(left: &[u8], right: &[u8]) -> bool
     left == right
 }
 
-/// Whether two lists have the same texts.
+/// Whether two lists are known to have the same texts. It never says so of different ones.
 fn is_same_texts(left: &[SharedText], right: &[SharedText]) -> bool
     ensures { result ≡ true → left.now ≡ right.now }
 {
@@ -71,7 +72,7 @@ fn is_same_texts(left: &[SharedText], right: &[SharedText]) -> bool
     true
 }
 
-/// A copy of a list of texts.
+/// A copy of a list, in which each text has one more owner and isn't copied itself.
 fn copy_of_texts(alloc: Global, texts: &[SharedText]) -> Result<Vec<SharedText>, NoMemory>
     ensures { IfOk result (λ copy. copy.items ≡ texts.now) }
 {
@@ -148,14 +149,15 @@ impl Answers {
         is_same_texts(self.texts.as_slice(), other.texts.as_slice())
     }
 
-    /// Adds all of them to a mark. Answers with different marks differ.
+    /// Adds all texts to a mark. Answers that turn the same mark into different ones differ.
     pub fn add_to(&self, mark: u64) -> u64
         ensures { result ≡ fold with_text_of mark self.now }
     {
         with_texts(mark, self.texts.as_slice())
     }
 
-    /// Returns a number made of the texts and their places, by which equal answers are found.
+    /// Returns a number made of the texts of the lines that were carried out, and of the places of these lines. Equal
+    /// answers are found by it.
     pub fn mark(&self) -> u64 {
         self.mark
     }
@@ -174,11 +176,12 @@ impl Answers {
         requires { place < length self.old }
         ensures { self.new ≡ slice_set self.old place text }
     {
+        // By exclusive or, so that the order in which lines are answered doesn't matter. Each is answered once.
         self.mark ^= with(place as u64, text.mark());
         self.texts[place] = text;
     }
 
-    /// Appends all of them to `out`.
+    /// Appends all texts to `out`, in the order of the lines.
     ///
     /// May return `NoMemory`.
     pub fn push_to(&self, out: &mut Vec<u8>) -> Result<(), NoMemory>

@@ -17,6 +17,7 @@ fn mark_of(way: &Way, keys: &[Key]) -> Result<u64, NoMemory>
     let answers = way.answers.add_to(0);
     match way.server.own() {
         Some(server) => Ok(with_values(answers, server, keys)),
+        // It is kept as statements, so it has to be made for its values.
         None => Ok(with_values(answers, &way.server.made()?, keys)),
     }
 }
@@ -41,8 +42,9 @@ fn count_different(alloc: Global, known: &[Way], keys: &[Key]) -> Result<usize, 
 /// Tells whether more than `limit` ways of the list are known to differ, each from each other. `keys` are those of
 /// the rows that lines write.
 ///
-/// `most`: a list that is no longer isn't looked through, since it has no more ways that differ than `limit`. It
-/// begins as `limit`, and grows where ways of the list may have come to the same.
+/// `most`: a list that is no longer isn't looked through, since no more than `limit` of its ways are known to differ.
+/// It begins as `limit`, and grows if ways of the list have the same number. Until it begins anew, ways are only added
+/// to the list.
 /// May return `NoMemory`.
 pub fn is_wide(
     alloc: Global,
@@ -61,6 +63,8 @@ pub fn is_wide(
     if limit < different {
         return Ok(true);
     }
+    // Each way that is added makes at most one more number, so up to this length they aren't more than the limit. If
+    // the sum were cut, no list could be longer than it.
     *most = known.len().saturating_add(limit - different);
     Ok(false)
 }

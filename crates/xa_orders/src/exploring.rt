@@ -13,15 +13,14 @@ use xa_server::Server;
 use xa_xid::{Key, NoMemory};
 
 /// Returns every outcome of the lines `beside` each other, each once with its least order, or None if more
-/// than `limit` different ways were found.
+/// than `limit` ways that have carried out equally many lines are known to differ.
 ///
 /// The lines `before` are carried out first and the lines `later` last, each list in order, by a server that
-/// holds nothing at first. `written` has the rows that lines write; a row that is missing there makes the
-/// search slower, or lets it keep more ways than `limit`, and changes no outcome. None means that for some number
+/// holds nothing at first. `written` has the rows that lines write; if a row is missing there, the search may be
+/// slower, take more memory or keep more ways than `limit`, and no outcome changes. None means that for some number
 /// of lines more than `limit` ways have carried out that many, and each two of these ways differ: a line was
 /// answered otherwise, or the servers aren't the same.
-/// Errors: `NoMemory` if an allocation failed.
-/// May return `NoMemory`. Doesn't wait.
+/// Error: `NoMemory` if an allocation failed. Doesn't wait.
 /// Own rule: docs/COMMANDS.md#explore.
 pub fn explore(
     alloc: Global,
@@ -44,6 +43,7 @@ pub fn explore(
 {
     let mut server = Server::new(alloc);
     let mut first = Vec::new(alloc);
+    // `first` is then what the lines before are answered, and `server` is as they leave it.
     push_told(alloc, &mut first, &mut server, before)?;
     match every_way(alloc, beside, written, server, limit)? {
         None => Ok(None),

@@ -33,7 +33,7 @@ impl FingerprintIndex {
 
     /// Takes up the next place of the list, for a way with this fingerprint.
     ///
-    /// May return `NoMemory`.
+    /// May return `NoMemory`; the index is of no use then.
     pub fn push(&mut self, fingerprint: u64) -> Result<(), NoMemory> {
         let place = self.before.len();
         let before = self.last.insert(fingerprint, place)?;
@@ -46,7 +46,8 @@ impl FingerprintIndex {
         self.last.get(&fingerprint).copied()
     }
 
-    /// Returns the place before this one that has the same fingerprint, if one has.
+    /// Returns the last place before this one that has the same fingerprint. None if there is none, and also if `place`
+    /// isn't in the list.
     pub fn before(&self, place: usize) -> Option<usize> {
         self.before.get(place).copied().flatten()
     }

@@ -38,12 +38,13 @@ impl Keeper {
         })
     }
 
-    /// Returns the fingerprint of a way whose server is kept as itself: made of its answers and of the
-    /// committed values of the rows.
+    /// Returns the fingerprint of a way: made of its answers and of the committed values of the rows that lines
+    /// write; or of its answers alone, if its server isn't kept as itself.
     pub fn mark_of(&self, way: &Way) -> u64 {
         let mark = way.answers.mark();
         match way.server.own() {
             Some(server) => with_values(mark, server, self.packing.written()),
+            // A way is looked for before it is packed, so its server is kept as itself then.
             None => mark,
         }
     }

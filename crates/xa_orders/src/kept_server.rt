@@ -13,7 +13,9 @@ use xa_xid::NoMemory;
 /// sees its state.
 #[derive(Drop)]
 pub struct KeptServer {
+    /// The server itself, if `since` is empty; else one that several share.
     base: Arc<Server>,
+    /// The statements that lead from `base` to the server, in order.
     since: Vec<Done>,
 }
 
@@ -65,7 +67,7 @@ impl KeptServer {
         })
     }
 
-    /// Returns the server if it is kept as itself.
+    /// Returns the server if it is kept as itself. None if it is kept as statements.
     pub fn own(&self) -> Option<&Server>
         ensures { IfSome result (λ server. server.now ≡ self.now) }
     {

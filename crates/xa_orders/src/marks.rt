@@ -15,11 +15,13 @@ const MULTIPLIER: u64 = 0x9e37_79b9_7f4a_7c15;
 pub fn with(mark: u64, word: u64) -> u64
     ensures { result ≡ with_word mark word }
 {
+    // One is added since a 0 would stay 0, and the shift lets high bits change low ones.
     let product = (mark ^ word).wrapping_add(1).wrapping_mul(MULTIPLIER);
     product ^ (product >> 29)
 }
 
-/// Adds the bytes of a text to a mark.
+/// Adds a text to a mark: first its length, so that it matters where one text ends and the next begins, then its
+/// bytes.
 pub fn with_text(mark: u64, text: &[u8]) -> u64
     ensures { result ≡ with_text_of mark text.now }
 {

@@ -35,7 +35,7 @@ pub fn push_told(
     Ok(())
 }
 
-/// What all lines are answered on this way, the later lines included.
+/// What all lines are answered on this way: those before, which is `first`, those side by side, and the later ones.
 fn text_of(alloc: Global, first: &[u8], way: &Way, later: &[Line<'_>]) -> Result<Vec<u8>, NoMemory>
     ensures { IfOk result (λ text. text.items ≡ text_from first.now later.now way.now) }
 {
@@ -59,7 +59,7 @@ fn is_listed(outcomes: &[Outcome], text: &[u8]) -> bool
     false
 }
 
-/// Adds the outcome to which a way has come, unless it is there.
+/// Adds the outcome of a way, on which all lines are answered with this text, unless there is one with that text.
 fn add_outcome(
     alloc: Global,
     outcomes: &mut Vec<Outcome>,
@@ -76,8 +76,9 @@ fn add_outcome(
     Ok(())
 }
 
-/// Returns the outcomes of these ways, each once.
+/// Returns the outcomes of these ways, each once, with the order of its first way.
 ///
+/// `first`: what the lines before were answered. The orders of the ways ascend, so each outcome has its least order.
 /// May return `NoMemory`.
 pub fn outcomes_of(
     alloc: Global,

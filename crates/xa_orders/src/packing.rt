@@ -1,4 +1,4 @@
-//! Servers kept as the fewest statements that lead to them.
+//! Servers kept as a few statements that lead to them.
 ghost use Rattle.std.specs.Prelude.{◌≡◌, IfOk, OnOk, IfSome};
 
 use crate::done::Done;
@@ -32,9 +32,10 @@ pub struct Packing {
     alloc: Global,
 }
 
-/// A session that owns none of these branches, if there is one.
+/// A session that owns none of these branches. None if each of the 16 sessions owns one.
 fn free_session(branches: &[BranchEntry]) -> Option<SessionNo> {
     for number in 1..17 {
+        // A prepared branch has no owner, so it leaves each session free.
         let session = SessionNo::of(number);
         if !branches.iter().any(|branch| branch.owner == session) {
             return session;
@@ -54,7 +55,7 @@ fn has(statements: &[SharedStatement], statement: &Statement) -> bool {
     statements.iter().any(|one| one.statement() == statement)
 }
 
-/// The statements of the lines, each once.
+/// The statements of the lines, each once. A line that can't be read has none.
 fn statements_of(alloc: Global, lines: &[Line<'_>]) -> Result<Vec<SharedStatement>, NoMemory> {
     let mut statements = Vec::new(alloc);
     for line in lines {
@@ -93,7 +94,8 @@ impl Packing {
         self.written.as_slice()
     }
 
-    /// Adds a statement of the session that does what is wanted, if a line has one.
+    /// Adds the lines' first statement that does what is wanted, given by the session. Nothing is added if no line has
+    /// one: then the statements may not lead to the server, which `packed` sees.
     fn add(
         &self,
         since: &mut Vec<Done>,
@@ -110,7 +112,8 @@ impl Packing {
         Ok(())
     }
 
-    /// Adds statements that give all rows the values that they have.
+    /// Adds statements that give each row its value in `server`, if that isn't the one in the shared server. The
+    /// session has no branch, so they take effect at once.
     fn add_rows(
         &self,
         since: &mut Vec<Done>,
@@ -143,7 +146,8 @@ impl Packing {
         Ok(())
     }
 
-    /// Adds statements that make the branch as it is.
+    /// Adds statements that make a branch as it is in `server`. `session` starts it: its owner, or a free session if
+    /// it is prepared.
     fn add_branch(
         &self,
         since: &mut Vec<Done>,
@@ -165,8 +169,10 @@ impl Packing {
         Ok(())
     }
 
-    /// Statements that are meant to lead to the server. Those of prepared branches come before those of open
-    /// ones.
+    /// Statements that are meant to lead to the server. Whether they do is seen by carrying them out.
+    ///
+    /// First come those for rows and prepared branches, which need a session without a branch: `free` may own an open
+    /// branch in the end. A prepared branch leaves `free` without one again.
     fn since(&self, free: SessionNo, server: &Server) -> Result<Vec<Done>, NoMemory> {
         let mut since = Vec::new(self.alloc);
         self.add_rows(&mut since, free, server)?;
@@ -184,7 +190,8 @@ impl Packing {
         Ok(since)
     }
 
-    /// The server, kept as few statements, if such statements are found.
+    /// The server, kept as few statements. None if no session is free, they are too many, or they aren't known to lead
+    /// to it.
     fn packed(&self, own: &Server) -> Result<Option<KeptServer>, NoMemory>
         ensures { IfOk result (λ found. IfSome found (λ packed. packed ≡ own.now)) }
     {
@@ -197,6 +204,7 @@ impl Packing {
             return Ok(None);
         }
         let packed = KeptServer::since(&self.base, since)?;
+        // The statements were only meant to lead there, so they are carried out and compared.
         if packed.is_like(own)? {
             Ok(Some(packed))
         } else {

@@ -26,7 +26,7 @@ pub struct Explored {
 
 /// Explores the script of this text.
 ///
-/// At most `limit` different ways are kept at once. If more are found, the end is `Undecided`.
+/// If more than `limit` ways that have carried out equally many lines are known to differ, the end is `Undecided`.
 /// Errors: `NoMemory` if an allocation failed.
 /// May return `NoMemory`. Doesn't wait.
 /// Own rule: docs/COMMANDS.md#explore.
@@ -63,7 +63,7 @@ pub fn explore_text(alloc: Global, text: &[u8], limit: usize) -> Result<Explored
     }
 }
 
-/// Writes the text, and returns how exploring ended.
+/// Writes the text, and returns how exploring ended. Error: `Write`; a prefix of the text was then written.
 fn write_explored<W: PieceWriter>(writer: &mut W, explored: &Explored) -> Result<Ended, ScriptFault>
     ensures ended { IfOk result (λ ended. ended ≡ explored.now.ended) }
     ensures all { OnOk result (Appends (W.contents writer.old) (W.contents writer.new) explored.now.text.items) }
@@ -82,8 +82,8 @@ fn write_explored<W: PieceWriter>(writer: &mut W, explored: &Explored) -> Result
 /// or its faulty lines.
 ///
 /// A script has at most 1,048,576 bytes, and takes at most 2,097,152 reads. The server holds nothing at
-/// first. At most `limit` different ways are kept at once; if more are found, `UNDECIDED` is written. Nothing
-/// is written before all outcomes are found. The writer isn't flushed.
+/// first. If more than `limit` ways that have carried out equally many lines are known to differ, `UNDECIDED` is
+/// written instead. Nothing is written before the whole text is known. The writer isn't flushed.
 /// Errors: `Read` if a read failed, or the script needs more reads; `TooLong` if the script is longer;
 /// `NoMemory` if an allocation failed; `Write` if a write failed or took no byte.
 /// After `Write` a prefix of the text was written, after any other error nothing. A reader or a writer that

@@ -34,7 +34,7 @@ pub struct Script<'a> {
     pub written: Vec<Key>,
 }
 
-/// Whether the line has only this word.
+/// Whether the line has only this word, with or without blanks around it.
 fn is_word(word: &[u8], line: &[u8]) -> bool
     ensures { result ≡ is_word_of word.now line.now }
 {
@@ -42,7 +42,7 @@ fn is_word(word: &[u8], line: &[u8]) -> bool
     first == word && skip_blanks(rest).is_empty()
 }
 
-/// Notes the row that a statement writes, if it writes one.
+/// Notes the row that a statement writes, if it writes one, and that isn't noted yet.
 fn note_row(written: &mut Vec<Key>, statement: &Statement) -> Result<(), NoMemory> {
     match statement {
         Statement::Put(key, _) | Statement::Del(key) => {
@@ -51,6 +51,7 @@ fn note_row(written: &mut Vec<Key>, statement: &Statement) -> Result<(), NoMemor
             }
             Ok(())
         }
+        // No other statement writes a row by itself.
         _ => Ok(()),
     }
 }
@@ -70,7 +71,8 @@ impl<'a> Script<'a> {
         }
     }
 
-    /// Notes that the line of this number is faulty at `place`.
+    /// Notes that the line of this number is faulty. `place` is the byte of its statement at which that goes wrong,
+    /// from 0; it is 0 if the line has no statement.
     fn blame(&mut self, number: u64, place: u64) -> Result<(), NoMemory>
         ensures { OnOk result (read_kept self.new ≡ blamed (read_kept self.old) number place) }
     {
@@ -81,12 +83,14 @@ impl<'a> Script<'a> {
         self.faults.extend_from_slice(b"\n")
     }
 
-    /// Takes a line BESIDE: the lines before it are carried out first. A second one is faulty at its first byte.
+    /// Takes a line BESIDE: the lines before it are carried out first. A second one, or one after AFTER, is faulty at
+    /// its first byte.
     fn take_beside(&mut self, alloc: Global, number: u64) -> Result<(), NoMemory>
         ensures { OnOk result (read_kept self.new ≡ with_beside self.old.stage (read_kept self.old) number) }
     {
         match self.stage {
             Stage::First => {
+                // Up to here lines counted as side by side.
                 self.before = mem::replace(&mut self.beside, Vec::new(alloc));
                 self.stage = Stage::Beside;
                 Ok(())
@@ -96,7 +100,8 @@ impl<'a> Script<'a> {
         }
     }
 
-    /// Takes a line AFTER: the lines behind it are carried out last. A second one is faulty at its first byte.
+    /// Takes a line AFTER: the lines behind it are carried out last. Those before it, from BESIDE on if there was one,
+    /// stay side by side. A second AFTER is faulty at its first byte.
     fn take_after(&mut self, number: u64) -> Result<(), NoMemory>
         ensures { OnOk result (read_kept self.new ≡ with_after self.old.stage (read_kept self.old) number) }
     {
@@ -113,7 +118,8 @@ impl<'a> Script<'a> {
         }
     }
 
-    /// Takes the line of a session whose statement is read.
+    /// Takes the line of a session whose statement was read: side by side, or behind AFTER to those that are carried
+    /// out last.
     fn take_told(&mut self, session: SessionNo, text: &'a [u8]) -> Result<(), NoMemory>
         ensures { OnOk result (read_kept self.new ≡ with_told self.old.stage (read_kept self.old)
             (record { session = session; text = text.entry.now })) }
@@ -134,7 +140,7 @@ impl<'a> Script<'a> {
         }
     }
 
-    /// Takes a line that names a session.
+    /// Takes a line that names a session. It is faulty if its statement can't be read.
     fn take_given(
         &mut self,
         number: u64,
@@ -155,7 +161,8 @@ impl<'a> Script<'a> {
         }
     }
 
-    /// Takes a line that is no comment and none of the two words.
+    /// Takes a line that is no comment and neither BESIDE nor AFTER. A blank one changes nothing, and one that names no
+    /// session is faulty at byte 0.
     fn take_line(&mut self, number: u64, line: &'a [u8]) -> Result<(), NoMemory>
         ensures { OnOk result (read_kept self.new ≡ with_line (read_kept self.old) number (line_of line.entry.now)) }
     {
@@ -166,7 +173,8 @@ impl<'a> Script<'a> {
         }
     }
 
-    /// Takes the line of this number.
+    /// Takes the line of this number. A comment changes nothing, BESIDE and AFTER begin a part, any other line is a
+    /// session's, blank or faulty.
     #[tactic(auto, unfolding(crate::specs::Scripts::read_more))]
     fn take(&mut self, alloc: Global, number: u64, line: &'a [u8]) -> Result<(), NoMemory>
         ensures { OnOk result (read_kept self.new ≡ read_more (read_kept self.old) number line.entry.now) }
@@ -185,8 +193,8 @@ impl<'a> Script<'a> {
 
 /// Reads a script.
 ///
-/// Blank lines and comments say nothing. What is written for faulty lines is in `faults`; these lines are in
-/// no part.
+/// Blank lines and comments say nothing, but lines are counted with them, from 1. What is written for faulty lines is
+/// in `faults`; these lines are in no part.
 /// Errors: `NoMemory` if an allocation failed.
 /// May return `NoMemory`. Doesn't wait.
 /// Own rule: docs/COMMANDS.md#explore.

@@ -76,6 +76,7 @@ impl SharedText {
     pub fn is_same(&self, other: &SharedText) -> bool
         ensures { result ≡ true → self.now ≡ other.now }
     {
+        // The marks are compared first: of different texts they seldom are the same.
         self.mark() == other.mark() && is_same_bytes(self.text(), other.text())
     }
 }

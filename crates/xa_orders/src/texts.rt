@@ -8,13 +8,13 @@ use xa_xid::NoMemory;
 /// The greatest number of texts that are kept: to look through more would take longer than it saves.
 const MOST: usize = 64;
 
-/// Texts that came, each kept once, so that ways share them.
+/// The first `MOST` different texts that came, each kept once, so that ways share them.
 #[derive(Drop)]
 pub struct Texts {
     known: Vec<SharedText>,
 }
 
-/// The text of the list that is known to be the same, if there is one.
+/// The text of the list that is known to be the same. None if there is none.
 fn same_in(known: &[SharedText], text: &[u8]) -> Result<Option<SharedText>, NoMemory>
     ensures { IfOk result (λ found. IfSome found (λ same. same ≡ text.now)) }
 {
@@ -51,6 +51,7 @@ impl Texts {
             Some(same) => Ok(same),
             None => {
                 let text = SharedText::of(alloc, text)?;
+                // If the list is full, the text isn't shared with equal ones that come later.
                 if self.known.len() < MOST {
                     self.known.push(text.try_clone()?)?;
                 }

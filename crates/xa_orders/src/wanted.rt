@@ -3,7 +3,7 @@
 use xa_server::{HeldRow, Hold};
 use xa_xid::{Bytes, Key, Statement, Xid};
 
-/// What a statement is to do.
+/// What a statement is to do that helps to lead to a server (`Packing`).
 #[derive(Clone, Copy)]
 pub enum Wanted<'a> {
     /// Give a row this value.

@@ -16,7 +16,7 @@ use xa_xid::{NoMemory, SessionNo};
 /// An order of turns, and what it has come to.
 #[derive(Drop)]
 pub struct Way {
-    /// The server.
+    /// The server after these turns.
     pub server: KeptServer,
     /// What the lines were answered.
     pub answers: Answers,
@@ -39,7 +39,7 @@ impl Way {
         })
     }
 
-    /// Keeps it in less memory, if that is possible.
+    /// Keeps its server in less memory, if that is possible.
     ///
     /// May return `NoMemory`.
     pub fn pack(&mut self, packing: &Packing) -> Result<(), NoMemory>
@@ -68,13 +68,15 @@ impl Way {
     fn order_with(&self, alloc: Global, session: SessionNo) -> Result<Vec<SessionNo>, NoMemory>
         ensures { IfOk result (λ order. order.items ≡ self.now.order.items ++ session ∷ []) }
     {
+        // No list is so long that the sum is cut.
         let mut order = Vec::with_capacity(alloc, self.order.len().saturating_add(1))?;
         order.extend_from_slice(self.order.as_slice())?;
         order.push(session)?;
         Ok(order)
     }
 
-    /// The way after the server has carried out the session's statement of this text, on the line at `place`.
+    /// The way after the server has carried out the session's statement of this text, on the line at `place`. `server`
+    /// is a copy of the way's; `texts` has answers that ways share.
     fn carried_out(
         &self,
         alloc: Global,
@@ -99,8 +101,8 @@ impl Way {
         })
     }
 
-    /// Returns the way after the session's next line is carried out, if the session has one left. `server` is
-    /// the way's.
+    /// Returns the way after the session's next line is carried out, or None if the session has none left. `server`
+    /// is the way's; `texts` has answers that ways share.
     ///
     /// May return `NoMemory`.
     #[tactic(auto, unfolding(crate::specs::Orders::turn))]
@@ -120,6 +122,7 @@ impl Way {
             None => Ok(None),
             Some(place) => {
                 let text = lines[place].text();
+                // The turns of the other sessions begin with the same server.
                 let server = server.copy()?;
                 let way = self.carried_out(alloc, texts, server, session, text, place)?;
                 Ok(Some(way))

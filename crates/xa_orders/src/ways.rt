@@ -1,4 +1,4 @@
-//! Lists of ways, in which each configuration is kept once.
+//! Lists of ways, in which each configuration is kept once, as far as equal ones are known as such.
 ghost use Rattle.std.specs.Prelude.{◌≡◌, ◌++◌, ◌∷◌, [], ◌<◌, List, true, None, length, IfOk, OnOk, IfSome};
 ghost use Rattle.xa_orders.specs.declared.way.Way.{Way as Found};
 ghost use Rattle.xa_orders.specs.Orders.{Any, IsAscending};
@@ -19,7 +19,7 @@ use xa_xid::{NoMemory, SessionNo};
 /// mostly among the last.
 const WHOLE: usize = 256;
 
-/// Whether the list has this place, and the way there is known to have come to the same.
+/// Whether the list has this place, and the way there is known to have come to the same as `one`.
 fn is_at(known: &[Way], place: usize, one: &Way) -> Result<bool, NoMemory>
     ensures { IfOk result (λ there. there ≡ true → Any (λ way. config_of way ≡ config_of one.now) known.now) }
 {
@@ -29,7 +29,7 @@ fn is_at(known: &[Way], place: usize, one: &Way) -> Result<bool, NoMemory>
     }
 }
 
-/// Whether a way of the list, of this fingerprint, is known to have come to the same.
+/// Whether a way of the list, of this fingerprint, is known to have come to the same as `one`.
 fn is_known(
     known: &[Way],
     index: &FingerprintIndex,
@@ -38,6 +38,7 @@ fn is_known(
 ) -> Result<bool, NoMemory>
     ensures { IfOk result (λ there. there ≡ true → Any (λ way. config_of way ≡ config_of one.now) known.now) }
 {
+    // A fingerprint has at most as many places as the list, so this many steps look at all of them.
     let mut next = index.last_of(fingerprint);
     for _ in 0..known.len() {
         match next {
@@ -63,6 +64,7 @@ fn pack_before(known: &mut Vec<Way>, packing: &Packing) -> Result<(), NoMemory>
         return Ok(());
     }
     match known.get_mut(count - 1 - WHOLE) {
+        // The list is longer than `WHOLE`, so it has this place.
         None => Ok(()),
         Some(way) => way.pack(packing),
     }
@@ -77,12 +79,13 @@ fn add(known: &mut Vec<Way>, keeper: &mut Keeper, one: Way) -> Result<(), NoMemo
     if is_there {
         return Ok(());
     }
+    // The index gives the fingerprint the next place, at which the list gets the way.
     keeper.index.push(fingerprint)?;
     known.push(one)?;
     pack_before(known, &keeper.packing)
 }
 
-/// Adds the way to which the session's turn leads, if it has one. `server` is the way's.
+/// Adds the way to which the session's turn leads, if the session has a line left. `server` is that of `way`.
 fn add_turn(
     alloc: Global,
     next: &mut Vec<Way>,
@@ -104,8 +107,8 @@ fn add_turn(
     }
 }
 
-/// Adds the way to which the turn of the session of this number leads, if there is such a session and it has
-/// a turn. `server` is the way's.
+/// Adds the way to which the turn of the session of this number leads, if there is such a session and it has a line
+/// left. `server` is that of `way`.
 fn add_number(
     alloc: Global,
     next: &mut Vec<Way>,
@@ -127,7 +130,7 @@ fn add_number(
     }
 }
 
-/// Adds the ways to which the turns of all sessions lead.
+/// Adds the ways to which one more turn leads from `way`, of each session that has a line left.
 fn add_turns(
     alloc: Global,
     next: &mut Vec<Way>,
@@ -141,17 +144,20 @@ fn add_turns(
         → IsNextOf lines.now front next.old.items
         → IsNextOf lines.now (front ++ way.now ∷ []) next.new.items) }
 {
+    // Made once for all sessions, since a packed server has statements to carry out again.
     let server = way.server.made()?;
+    // Sessions have the numbers 1 to 16.
     for number in 1..17 {
         add_number(alloc, next, keeper, lines, way, &server, number)?;
     }
     Ok(())
 }
 
-/// Returns the ways to which one more turn leads, each configuration once; or None if those are more than
-/// `limit`.
+/// Returns the ways to which one more turn leads, each configuration with its least order; or None if more than
+/// `limit` of them are known to differ.
 ///
-/// Where two of the list may have come to the same, it grows beyond `limit` until so many are known to differ.
+/// The orders of `ways` ascend. A configuration is listed once, unless equal ways weren't known as such. So the list
+/// may have more than `limit` ways.
 /// May return `NoMemory`.
 pub fn next_level(
     alloc: Global,
@@ -164,8 +170,10 @@ pub fn next_level(
     ensures next { IfOk result (λ found. IfSome found (λ next. IsNextOf lines.now ways.now next.items)) }
     ensures wide { IfOk result (λ found. found ≡ None → IsWideNext lines.now ways.now limit) }
 {
+    // The index is that of the list that begins here.
     keeper.index.clear();
     let mut next = Vec::new(alloc);
+    // A list that is no longer than this has at most `limit` ways that are known to differ (`is_wide`).
     let mut most = limit;
     for way in ways {
         add_turns(alloc, &mut next, keeper, lines, way)?;

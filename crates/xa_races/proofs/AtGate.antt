@@ -28,7 +28,8 @@ use Rattle.xa_races.specs.declared.long_run.LongRun.{LongRun}
 use Rattle.xa_races.proofs.Earlier.{earlier, legal_earlier}
 use Rattle.xa_races.proofs.CountedRaced.{given_none}
 
--- the gate can let in each line of the session of each run
+-- runs of sessions with the numbers n, n + 1, .., whose statements are those of the lines: if the gate can let in each
+-- statement of each run, it can let in each line of each of these sessions
 pub opened_each : (gate : ℕ → ℕ → Bool → Type 0) (n : ℕ) (lines : List Told) (sessions : List EndlessSession)
     (runs : List LongRun) → AreRunsOf n lines sessions runs → AreNumbered n sessions
     → All (λ run. LetsIn gate (known_in run.session).number (length run.lines.items)) runs
@@ -51,7 +52,8 @@ opened_each gate n lines (session ∷ sessions) (run ∷ runs) are numbered all 
     (opened_each gate (n + 1) lines sessions runs are.2 numbered.1 (All-tail Opened run runs all) index
     (omega (arith, below)))
 
--- a session above those of all lines gives none
+-- if the lines are of the sessions 1 to `count`, and the gate can let each of these in at each of its lines, it can
+-- let in each line of every session: one above `count` gives none
 pub all_opened : (gate : ℕ → ℕ → Bool → Type 0) (count : ℕ) (lines : List Told) → AreWithin count lines
     → ((index : ℕ) → index < count → LetsIn gate (index + 1) (length (statements_of (index + 1) lines)))
     → AllOpened gate lines
@@ -70,7 +72,7 @@ all_opened gate count lines within each (suc index) is_session =
         (sym (given_none count (suc index) lines within (omega (arith, past))))
         (λ line low. absurd (omega (arith, low)))
 
--- the run at a place is that of the session of its number
+-- the run is that of session `index + n`: it has its number, the statements that it gives, and has seen `first`
 record IsRunAt (first : List Entry) (n : ℕ) (lines : List Told) (count index : ℕ) (run : LongRun) : Type 0 where
   pub below : index < count
   pub number : (known_in run.session).number ≡ index + n
@@ -107,7 +109,8 @@ run_at first n lines (session ∷ sessions) (r ∷ runs) (suc index) run are num
       holds = rest.holds;
     }
 
--- a run that the gate stopped is that of a session of the lines
+-- if the gate stopped one of the runs of the sessions `before`, it can stop a session at one of these lines, in the
+-- state after all that the last of these sessions had seen
 pub shut_beside : (gate : ℕ → ℕ → Bool → Type 0) (lines : List Told) (before : List EndlessSession)
     (runs : List LongRun) (session line : ℕ) → AreRunsOf 1 lines before runs → AreNumbered 1 before
     → length before ≤ 16 → All (λ session. HoldsAll (seen_by_last before) (known_in session)) before

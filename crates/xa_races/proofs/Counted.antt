@@ -1,6 +1,6 @@
 -- Races that are counted, and what is written for them.
-use Rattle.std.proofs.Common.{◌≡◌, ℕ, ◌+◌, ◌≤◌, Bool, true, false, List, [], ◌∷◌, ◌++◌, length, map, codes, decimal, refl, ap, sym, ◌∙◌}
-use Rattle.std.proofs.Common.{subst, inl, inr, arith}
+use Rattle.std.proofs.Common.{◌≡◌, ℕ, ◌+◌, ◌≤◌, Bool, true, false, List, [], ◌∷◌, ◌++◌, length, map, codes}
+use Rattle.std.proofs.Common.{decimal, refl, ap, sym, ◌∙◌, subst, inl, inr, arith}
 use Rattle.std.specs.Prelude.{nat_lt, count_by}
 use Rattle.std.specs.List.{All, Contains}
 use Rattle.std.proofs.lemmas.List.{length_push, length-map}
@@ -38,7 +38,8 @@ counted_none parts xs none = record {
   only = λ empty. subst (λ (l : List (List ℕ)). All (Contains []) l) (sym empty) (All-nil (Contains []));
 }
 
--- after one race more, which came to a text, the counts are right again if that text was counted
+-- after one race more, which came to this text, the races are counted if `new` is `mid` with the text counted: the
+-- four premises on `mid` and `new` are what `note` promises
 pub counted_next : (parts : Parts) (runs : ℕ) (came : List (List ℕ)) (old mid new : List CameTally) (text : List ℕ)
     → IsCounted parts runs came old mid → HasCome parts text
     → ((came : List (List ℕ)) → Tallied came mid → Tallied (came ++ text ∷ []) new)
@@ -67,7 +68,8 @@ pub counted_within : (parts : Parts) (runs : ℕ) (came : List (List ℕ)) (old 
 counted_within parts runs came old new few counted =
     counts_within came new 1000000 (omega (arith, counted.raced.count, few)) counted.tallied
 
--- the program's counts are those of the races that were held
+-- if each tally has how often its text came, the program writes this number of each listed text, and how many of them
+-- came
 head_is : (came : List (List ℕ)) (xs : List CameTally) → Tallied came xs
     → counted_head xs ≡ came_texts 1 came (texts_of xs) ++ codes "SEEN " ++ decimal (count_seen came (texts_of xs))
 head_is came xs tallied =
@@ -75,7 +77,7 @@ head_is came xs tallied =
     (came_texts_are came 1 xs tallied.counts)
     ∙ ap (λ n. came_texts 1 came (texts_of xs) ++ codes "SEEN " ++ decimal n) (count_seen_is came xs tallied.counts)
 
--- if all outcomes are listed, each of them has its count
+-- each text that came in a race that was counted is that of one of all outcomes
 all_there : (parts : Parts) (runs : ℕ) (came : List (List ℕ)) (outcomes : List Outcome) (old new : List CameTally)
     → IsExplored parts outcomes → IsCounted parts runs came old new
     → All (Contains (map (λ one. one.text.items) outcomes)) came
@@ -99,7 +101,7 @@ text_of_all parts runs came outcomes old new text explored listed counted is =
     (head_is came new counted.tallied)
     ∙ ap (λ (l : List (List ℕ)). seen_text came l) same
 
--- what is written if all outcomes are listed, as the clause about a script's races states it
+-- what is written if all outcomes are listed, as `IsSeenOfAll` states it
 seen_all : (parts : Parts) (runs : ℕ) (came : List (List ℕ)) (outcomes : List Outcome) (old new : List CameTally)
     (text : List ℕ) → IsExplored parts outcomes → texts_of old ≡ map (λ one. one.text.items) outcomes
     → IsCounted parts runs came old new → text ≡ counted_head new ++ codes " OF " ++ decimal (length new)
@@ -113,7 +115,7 @@ seen_all parts runs came outcomes old new text explored listed counted is = reco
   text_is = text_of_all parts runs came outcomes old new text explored listed counted is;
 }
 
--- what is written if all outcomes are listed, as the clause about any races states it
+-- what is written if all outcomes are listed, as `IsSeenOf` states it
 seen_of_all : (parts : Parts) (runs : ℕ) (came : List (List ℕ)) (outcomes : List Outcome)
     (old new : List CameTally) (text : List ℕ) → IsExplored parts outcomes
     → texts_of old ≡ map (λ one. one.text.items) outcomes
@@ -132,7 +134,7 @@ text_of_some : (parts : Parts) (runs : ℕ) (came : List (List ℕ)) (old new : 
 text_of_some parts runs came old new text counted is =
     is ∙ ap (λ h. h ++ codes "\n") (head_is came new counted.tallied)
 
--- if there are too many ways to list the outcomes, only those that came are listed
+-- what is written if there are too many ways to list all outcomes, and the list was empty at first: `IsSeenOfSome`
 seen_some : (parts : Parts) (runs : ℕ) (came : List (List ℕ)) (old new : List CameTally) (text : List ℕ)
     → IsWide parts.beside (base_of parts) ways_limit → old ≡ []
     → IsCounted parts runs came old new
@@ -150,7 +152,7 @@ seen_some parts runs came old new text wide empty counted is =
       text_is = text_of_some parts runs came old new text counted is;
     }
 
--- what is written if not all outcomes can be listed, as the clause about any races states it
+-- what is written if not all outcomes can be listed, as `IsSeenOf` states it
 seen_of_some : (parts : Parts) (runs : ℕ) (came : List (List ℕ)) (old new : List CameTally) (text : List ℕ)
     → IsCounted parts runs came old new → text ≡ counted_head new ++ codes "\n" → IsSeenOf came text
 seen_of_some parts runs came old new text counted is = record {
@@ -159,7 +161,7 @@ seen_of_some parts runs came old new text counted is = record {
   text_is = inr (text_of_some parts runs came old new text counted is);
 }
 
--- what is written, as the clause about a script's races states it, whether or not all outcomes are known
+-- what is written, whether or not all outcomes are known, as `IsPartsCome` states it
 pub come_either : (parts : Parts) (runs : ℕ) (came : List (List ℕ)) (known : Bool) (old new : List CameTally)
     (text : List ℕ) → AreFirst parts known old → IsCounted parts runs came old new → text ≡ counted_text known new
     → IsPartsCome parts runs text
@@ -168,7 +170,7 @@ come_either parts runs came true old new text first counted is =
 come_either parts runs came false old new text first counted is =
     inr (seen_some parts runs came old new text first.0 first.1 counted is)
 
--- the same, as the clause about any races states it
+-- what is written, whether or not all outcomes are known, as `IsSeenOf` states it
 pub seen_either : (parts : Parts) (runs : ℕ) (came : List (List ℕ)) (known : Bool) (old new : List CameTally)
     (text : List ℕ) → AreFirst parts known old → IsCounted parts runs came old new → text ≡ counted_text known new
     → IsSeenOf came text

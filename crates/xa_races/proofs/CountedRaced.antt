@@ -53,6 +53,8 @@ none_of count session (entry ∷ list) within above =
 pred : (index : ℕ) → suc index - 1 ≡ index
 pred index = omega arith
 
+-- lines of the sessions 1 to `count`, and for each of these its answers, which are legal in a history of entries of
+-- these sessions, from the state `base` on
 module _ (base new : State) (history : List Entry) (lines : List Told) (answers : List (List Answer)) (count : ℕ)
     (few : count ≤ 16)
     (long : length answers ≡ count) (within : AreWithin count lines) (read : All IsReadLine lines)
@@ -60,6 +62,7 @@ module _ (base new : State) (history : List Entry) (lines : List Told) (answers 
     (legal_at : (index : ℕ) → index < count → IsLegal base history (newcomer (suc index))
     (statements_of (suc index) lines) (list_at answers index))
     (is : new ≡ state_after base history) where
+  -- a session above `count` gives no statement and has no answer: so its answers are legal in the history, too
   legal_past : (index : ℕ) → count ≤ index → IsLegal base history (newcomer (suc index))
       (statements_of (suc index) lines) (list_at answers index)
   legal_past index past =
@@ -70,6 +73,7 @@ module _ (base new : State) (history : List Entry) (lines : List Told) (answers 
       (sym (given_none count (suc index) lines within above))
       (record { seen = refl; answered = tt; mine = none_of count (suc index) history own above }))
 
+  -- each session's answers to its statements are legal in the history
   all_legal : (session : ℕ) → IsSession session → IsLegal base history (newcomer session) (statements_of session lines)
       (answers_of answers session)
   all_legal zero is_session = absurd (omega (arith, is_session.0))
@@ -78,6 +82,7 @@ module _ (base new : State) (history : List Entry) (lines : List Told) (answers 
       (list_at answers n)) (sym (pred index))
       (elim (cases_lt index count) [ inl below ↦ legal_at index below | inr past ↦ legal_past index past ])
 
+  -- a text that has the answers laid out along the lines is given by a race of the lines, with this history
   pub gives_raced : (text : List ℕ) → text ≡ concat (laid_texts [] (answers_of answers) lines)
       → (gives : GivesRaced base lines text new) × (gives.1.history ≡ history)
   gives_raced text text_is = (

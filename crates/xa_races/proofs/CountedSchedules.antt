@@ -1,6 +1,6 @@
 -- The order in which the lines of a race that is counted have their turns.
 --     itself            what a line says
---     counted_goes      their turns lead to the end
+--     counted_goes      turns of all lines lead to the end of the history
 use Rattle.std.proofs.Common.{◌≡◌, ℕ, Some, List, [], length, refl, ap, sym, ◌∙◌, arith}
 use Rattle.std.specs.Prelude.{slice_get}
 use Rattle.std.specs.List.{All}
@@ -13,10 +13,11 @@ use Rattle.xa_races.proofs.Histories.{Said, Remains}
 use Rattle.xa_races.proofs.Schedules.{goes}
 use Rattle.xa_races.proofs.Turns.{Lines, Stands, Goes, emits, all_filled, owed_by}
 
--- what a line of a session says: the line itself
+-- what a line of a session says and is answered: the line itself, which is both
 abbrev pub itself : Said → Said
 itself said = said
 
+-- lines, what is to be written for each, and the history that explains their answers from the state `base` on
 module _ (told : List Told) (texts : List (List ℕ)) (within : All (λ one. IsSession one.session) told) (base : State)
     (history : List Entry) where
   abbrev end : State
@@ -38,7 +39,8 @@ module _ (told : List Told) (texts : List (List ℕ)) (within : All (λ one. IsS
         count = sym filled.1;
       }
 
-  -- so it is with all lines of a history, from its beginning on
+  -- if the lines that each session has left explain its entries of the whole history, and nothing was carried out yet,
+  -- turns lead from there to the end
   pub counted_goes : ((at : ℕ) (entry : Entry) → slice_get history at ≡ Some entry → IsSession entry.session)
       → (lines : Lines) (config : Config)
       → ((session : ℕ) → IsSession session → Remains itself base history 0 session (lines session))

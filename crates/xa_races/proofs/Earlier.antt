@@ -1,5 +1,6 @@
 -- Answers of a race, as those of a history that begins with it.
 --     earlier          an answer, so many places earlier
+--     state_over       the state after two histories
 --     legal_earlier    a session that has seen all of a history is answered legally in what comes behind
 --     laid_earlier     what is written for answers has no place
 use Rattle.std.proofs.Common.{◌≡◌, ℕ, zero, suc, Bool, true, false, cond, ◌+◌, ◌-◌, ◌≤◌, List, [], ◌∷◌, ◌++◌, length}
@@ -60,12 +61,16 @@ same_rest : (xs ys zs : List Entry) → xs ++ ys ≡ xs ++ zs → ys ≡ zs
 same_rest [] ys zs is = is
 same_rest (x ∷ xs) ys zs is = same_rest xs ys zs cc
 
+-- what a session is answered in the history `first ++ second`, at places from the end of `first` on, it is answered in
+-- `second` from the state after `first` on, at places that are less by the length of `first`
 module _ (base : State) (first second : List Entry) (session : ℕ) where
+  -- the state at a place from the end of `first` on is that at the earlier place of `second`
   state_at_over : (place : ℕ) → length first ≤ place → state_at base (first ++ second) place
       ≡ state_at (state_after base first) second (place - length first)
   state_at_over place low = ap (state_after base) (take_over first second place low)
       ∙ state_over base first (take (place - length first) second)
 
+  -- an answer that is right at a place from the end of `first` on is right at the earlier place of `second`
   answers_earlier : (statement : Statement) (answer : Answer) → length first ≤ answer.place
       → AnswersAt base (first ++ second) session statement answer.place answer.reply
       → AnswersAt (state_after base first) second session statement (answer.place - length first) answer.reply
@@ -78,6 +83,7 @@ module _ (base : State) (first second : List Entry) (session : ℕ) where
             ∙ at.next (ap (λ s. enters s session statement) same ∙ entering);
       }
 
+  -- the first place at which the next answer can be is earlier by the length of `first`, too
   next_earlier : (statement : Statement) (answer : Answer) → length first ≤ answer.place →
       next_place (state_after base first) second session statement (earlier (length first) answer)
       ≡ next_place base (first ++ second) session statement answer - length first
@@ -91,6 +97,7 @@ module _ (base : State) (first second : List Entry) (session : ℕ) where
       shift true = omega (arith, low)
       shift false = refl
 
+  -- the first place at which the next answer can be is from the end of `first` on
   next_low : (statement : Statement) (answer : Answer) → length first ≤ answer.place
       → length first ≤ next_place base (first ++ second) session statement answer
   next_low statement answer low = at (enters (state_at base (first ++ second) answer.place) session statement)
@@ -99,6 +106,7 @@ module _ (base : State) (first second : List Entry) (session : ℕ) where
       at true = omega (arith, low)
       at false = low
 
+  -- answers in order are still in order with their places counted from the end of `first`
   answered_earlier : (from : ℕ) (statements : List Statement) (answers : List Answer) → length first ≤ from
       → Answered base (first ++ second) session from statements answers
       → Answered (state_after base first) second session (from - length first) statements
@@ -116,6 +124,7 @@ module _ (base : State) (first second : List Entry) (session : ℕ) where
             (next_low s a here) before.2),
       )
 
+  -- of statements that are answered from the end of `first` on, the same ones enter with the earlier places
   entered_earlier : (from : ℕ) (statements : List Statement) (answers : List Answer) → length first ≤ from
       → Answered base (first ++ second) session from statements answers
       → entered (state_after base first) second session statements (map (earlier (length first)) answers)
@@ -133,7 +142,7 @@ module _ (base : State) (first second : List Entry) (session : ℕ) where
       (first ++ second) session statements answers)
       (entered base (first ++ second) session statements answers)) (sym (state_at_over a.place here))
 
-  -- what may stand from one place on may stand from any before it
+  -- answers that are in order from some place on are so from place 0 on
   answered_low : (from : ℕ) (statements : List Statement) (answers : List Answer)
       → Answered (state_after base first) second session from statements answers
       → Answered (state_after base first) second session 0 statements answers
@@ -142,7 +151,9 @@ module _ (base : State) (first second : List Entry) (session : ℕ) where
   answered_low from (s ∷ statements) [] before = absurd before
   answered_low from (s ∷ statements) (a ∷ answers) before = (omega arith, before.1, before.2)
 
--- answers that are right after a history `first` are right for a store whose base is the state after it
+-- a session has seen all of the history `first`, which has all entries that it knows as its own. What is legal for it
+-- in `first ++ second` is legal in `second` for a newcomer of its number, from the state after `first` on, with the
+-- places counted from there
 pub legal_earlier : (base : State) (first second : List Entry) (known : Known) (statements : List Statement)
     (answers : List Answer) → HoldsAll first known
     → IsLegal base (first ++ second) known statements answers
@@ -179,7 +190,7 @@ list_mapped f none [] index = sym none
 list_mapped f none (list ∷ lists) zero = refl
 list_mapped f none (list ∷ lists) (suc index) = list_mapped f none lists index
 
--- counting places of answers from the race's beginning changes no printed line
+-- answers with other places are laid out along lines as the same text
 pub laid_earlier : (count : ℕ) (front lines : List Told) (lists : List (List Answer))
     → laid_texts front (answers_of (map (map (earlier count)) lists)) lines ≡ laid_texts front (answers_of lists) lines
 unfolding laid_texts

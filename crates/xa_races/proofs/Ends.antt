@@ -57,7 +57,7 @@ all_mapped P f [] all = All-nil P
 all_mapped P f (x ∷ xs) all = All-cons P (f x) (map f xs) (All-head (λ y. P (f y)) x xs all)
     (all_mapped P f xs (All-tail (λ y. P (f y)) x xs all))
 
--- an entry of the history is in what is left of it
+-- an entry that is listed at its place in the whole history fits into what is left of it from the place `from` on
 pub listed_within : (whole : List Entry) (limit from : ℕ) (added : Added) → IsListed whole limit added
     → IsWithin (drop from whole) limit from added
 listed_within whole limit from added is low =
@@ -91,7 +91,7 @@ zip_beside R P [] (y ∷ ys) zip all = absurd zip
 zip_beside R P (x ∷ xs) [] zip all = absurd zip
 zip_beside R P (x ∷ xs) (y ∷ ys) zip all = ((zip.0, all.0), zip_beside R P xs ys zip.1 all.1)
 
--- what holds of each second, by its first
+-- what holds of each pair gives what holds of its second element
 pub zip_second : {A B : Type 0} (R : A → B → Type 0) (P : B → Type 0) → ((a : A) (b : B) → R a b → P b)
     → (xs : List A) (ys : List B) → AllZip R xs ys
     → AllByRecursion P ys
@@ -100,7 +100,7 @@ zip_second R P keep [] (y ∷ ys) zip = absurd zip
 zip_second R P keep (x ∷ xs) [] zip = absurd zip
 zip_second R P keep (x ∷ xs) (y ∷ ys) zip = (keep x y zip.0, zip_second R P keep xs ys zip.1)
 
--- the sessions are of the log that their store's is
+-- sessions that raced over one store are of one log
 pub of_one : (gate : ℕ → ℕ → Bool → Type 0) (store : EndlessStore) (runs : List LongRun) (raced : List Raced)
     → All (λ run. run.session.store.value ≡ store) runs
     → AllZip (λ run one. HasRaced gate run.session run.lines.items one) runs raced
@@ -127,7 +127,7 @@ answered_of gate run one none is =
     subst (λ (fault : Option RaceFault). EndsAt gate (known_in run.session) run.lines.items one.said.answers.items fault
     is.mid) none is.ends
 
--- what was added is in the history, if all of it is taken in
+-- if a history has all that the session knows, each entry that its thread noted is listed there
 listed_of : (gate : ℕ → ℕ → Bool → Type 0) (whole : List Entry) (limit : ℕ) (run : LongRun) (one : Raced)
     → HasRaced gate run.session run.lines.items one
     → IsTakenIn whole (known_in one.session) → 1 ≤ (known_in run.session).number → (known_in run.session).number ≤ limit
@@ -157,10 +157,12 @@ few_of : (runs : List LongRun) (bound : ℕ) → total runs ≤ bound
 few_of [] bound le = tt
 few_of (run ∷ runs) bound le = (omega (arith, le), few_of runs bound (omega (arith, le)))
 
+-- the threads of the runs have ended, none with a fault, and the sessions have met
 module _ (gate : ℕ → ℕ → Bool → Type 0) (from : ℕ) (runs : List LongRun) (raced : List Raced) (outcome : LongOutcome)
     (went : AllZip (λ run one. HasRaced gate run.session run.lines.items one) runs raced)
     (none : All (λ one. one.fault ≡ None) raced)
     (settles : Settles from raced outcome) where
+  -- what is known of each run and of what its thread returned, side by side
   all : AllZip (λ run one. (HasRaced gate run.session run.lines.items one × (one.fault ≡ None))
       × IsTakenIn (seen_by_last outcome.sessions.items) (known_in one.session))
       runs raced
@@ -173,6 +175,7 @@ module _ (gate : ℕ → ℕ → Bool → Type 0) (from : ℕ) (runs : List Long
       (recursion_from_All (λ one. IsTakenIn (seen_by_last outcome.sessions.items)
       (known_in one.session)) raced settles.taken)
 
+  -- each run's answers are legal in what the last session has seen
   legal : AllZip (λ run answers. IsLegal no_state (seen_by_last outcome.sessions.items)
       (known_in run.session) run.lines.items answers) runs
       (map (λ one. one.said.answers.items) raced)
@@ -195,6 +198,7 @@ module _ (gate : ℕ → ℕ → Bool → Type 0) (from : ℕ) (runs : List Long
         zip_to_map runs raced zip.1,
       )
 
+  -- each entry that was noted is at its place in what the last session has seen, and is of a session up to the limit
   listed : (limit : ℕ) → All (λ run. (known_in run.session).number ≤ limit) runs
       → All (λ one. All (IsListed (seen_by_last outcome.sessions.items) limit) one.said.added.items) raced
   listed limit few =
@@ -211,10 +215,12 @@ module _ (gate : ℕ → ℕ → Bool → Type 0) (from : ℕ) (runs : List Long
       (λ run. (known_in run.session).number ≤ limit) runs raced all
       (recursion_from_All (λ run. (known_in run.session).number ≤ limit) runs few)))
 
+  -- the total is a limit for the numbers of all sessions
   few_always : All (λ run. (known_in run.session).number ≤ total runs) runs
   few_always = All-from_recursion (λ run. (known_in run.session).number ≤ total runs) runs
       (few_of runs (total runs) (omega arith))
 
+  -- the outcome that the sessions settle on is one of a race of these runs
   pub is_outcome : IsLongOutcome gate from runs outcome
   is_outcome = record {
     whole = seen_by_last outcome.sessions.items;
@@ -252,7 +258,7 @@ module _ (gate : ℕ → ℕ → Bool → Type 0) (from : ℕ) (runs : List Long
         (recursion_from_All (λ (one : Raced). one.fault ≡ None) raced none)));
   }
 
--- a session that stopped is blamed
+-- the fault at which one of the sessions stopped is one that the race is blamed for
 pub blames_one : (gate : ℕ → ℕ → Bool → Type 0) (runs : List LongRun) (raced : List Raced) (place : ℕ) (one : Raced)
     (fault : RaceFault)
     → AllZip (λ run one. HasRaced gate run.session run.lines.items one) runs raced → slice_get raced place ≡ Some one

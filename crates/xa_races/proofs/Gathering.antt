@@ -17,11 +17,11 @@ use Rattle.xa_races.proofs.Statements.{own_part}
 abbrev pub Meets : EndlessSession → EndlessSession → Type 0
 Meets old new = (new.store.value ≡ old.store.value) × MeetsFirst (known_in old) (known_in new)
 
--- a session that does nothing has met others no less than before
+-- a session that does nothing has changed as `Meets` says
 pub meets_itself : (session : EndlessSession) → Meets session session
 meets_itself session = (refl, meets_nobody (known_in session))
 
--- two meetings, one after the other, are one
+-- two changes such as `Meets` allows, one after the other, are one
 pub meets_through : (old now new : EndlessSession) → Meets old now → Meets now new → Meets old new
 meets_through old now new s t = (t.0 ∙ s.0, meets_again (known_in old) (known_in now) (known_in new) s.1 t.1)
 
@@ -58,7 +58,9 @@ all_back R P Q back before now zip all k d below =
     back (get_or before k d) (get_or now k d) (AllZip-get_or R before now k d d zip below)
     (All-get_or Q now k d (omega (arith, below, long)) all)
 
--- others meet the last, once and again, and then it tells them what it has seen
+-- sessions: the others and a last one. The others meet the last, once (m1 to l1) and again (m2 to l2), and then it
+-- tells them what it has seen (k3 to f3). `first`, `once`, `twice` and `told` are the others before and after each of
+-- these, and `last` to `last3` the last one
 module _ (first once twice told : List EndlessSession) (last last1 last2 last3 : EndlessSession)
     (m1 : AllZip Meets first once)
     (s1 : All (λ session. Begins (known_in session).seen (known_in last1).seen) once)
@@ -68,6 +70,7 @@ module _ (first once twice told : List EndlessSession) (last last1 last2 last3 :
     (l2 : AddsNothing (known_in last1) (known_in last2)) (k3 : AllZip Keeps twice told)
     (t3 : All (λ session. Begins (known_in last3).seen (known_in session).seen) told)
     (f3 : MeetsFirst (known_in last2) (known_in last3)) where
+  -- each of the others has added nothing from the first meeting on, and may have seen more
   pub others_keep : AllZip Keeps first told
   others_keep =
       zip_through Keeps stays_through first twice told
@@ -76,18 +79,21 @@ module _ (first once twice told : List EndlessSession) (last last1 last2 last3 :
       first twice (zip_through Meets meets_through first once twice m1 m2))
       k3
 
+  -- the last one has added nothing from the first meeting on, and may have seen more
   pub last_keeps : AddsNothing (known_in last) (known_in last3)
   last_keeps =
       keeps_again (known_in last) (known_in last1) (known_in last3) l1
       (keeps_again (known_in last1) (known_in last2) (known_in last3) l2
       (meets_keeps (known_in last2) (known_in last3) f3))
 
+  -- what the last one has seen in the end has all that each of the others knew after the second meeting
   taken_twice : All (λ session. IsTakenIn (known_in last3).seen (known_in session)) twice
   taken_twice k d below = record {
     seen = subst (λ list. Begins (known_in (get_or twice k d)).seen list) (sym f3.seen) (s2 k d below);
     mine = ap (entries_of (known_in (get_or twice k d)).number) f3.seen ∙ w2 k d below;
   }
 
+  -- what the last one has seen in the end has all that each of the others knew at first
   pub others_taken : All (λ session. IsTakenIn (known_in last3).seen (known_in session)) first
   others_taken =
       all_back Meets (λ session. IsTakenIn (known_in last3).seen (known_in session))
@@ -98,12 +104,14 @@ module _ (first once twice told : List EndlessSession) (last last1 last2 last3 :
       })
       first twice (zip_through Meets meets_through first once twice m1 m2) taken_twice
 
+  -- what the last one has seen in the end has all that it knew at first
   pub last_taken : IsTakenIn (known_in last3).seen (known_in last)
   last_taken = record {
     seen = last_keeps.seen;
     mine = ap (λ n. entries_of n (known_in last3).seen) (sym last_keeps.number) ∙ own_part last3 ∙ last_keeps.mine;
   }
 
+  -- what the last one has seen in the end has of each other session's number just the entries that this session knows
   mines : All (λ session. entries_of (known_in session).number (known_in last3).seen ≡ (known_in session).mine) told
   mines =
       all_kept Keeps (λ session. IsTakenIn (known_in last3).seen (known_in session))
@@ -112,8 +120,10 @@ module _ (first once twice told : List EndlessSession) (last last1 last2 last3 :
       ∙ sym is.adds_nothing.mine) twice told k3
       taken_twice
 
+  -- each of the others has seen all that the last one has, with its own entries there
   pub others_hold : All (λ session. HoldsAll (known_in last3).seen (known_in session)) told
   others_hold k d below = record { seen = t3 k d below; mine = mines k d below }
 
+  -- the last one has seen all that it has, with its own entries there
   pub last_holds : HoldsAll (known_in last3).seen (known_in last3)
   last_holds = record { seen = begins_itself (known_in last3).seen; mine = own_part last3 }

@@ -68,7 +68,8 @@ ends_same gate capacity renews base new lines others f state same ends =
     subst (λ (s : State). EndsBeside gate capacity renews s others f) state
     (subst (λ (l : List Told). EndsBeside gate capacity renews base l f) same ends)
 
--- how races of a script that was read ended, as a fact on the whole script
+-- if all input was read, and a fault of the races of what was read has its cause, it has it for all that the reader
+-- had
 pub ends_read : {A : Type 0} (gate : ℕ → ℕ → Bool → Type 0) (capacity : ℕ) (renews : Bool)
     (result : Result A ScriptFault) (passed cause : ScriptFault) (input rest : Option (List ℕ)) (slice given : List ℕ)
     → result ≡ Err passed

@@ -1,9 +1,9 @@
 -- A history from a place on, and what a session has left to say there.
 --     Said              a statement, and what it was answered
 --     Remains           the session's lines that are left explain its entries from the place on
---     Drained           the first of them doesn't stand at the place without entering there
---     skipped, entering, waiting      what is left behind a line that doesn't enter, one that does, and another
---                                     session's entry
+--     Drained           the first line that is left doesn't stand at the place without entering there
+--     skipped, entering, waiting      what is left behind a line that doesn't enter;  behind one that enters;  behind
+--                                     another session's entry
 --     due               the session of the next entry has a line left at the place
 --     ended             at the end of the history no line is left
 use Rattle.std.proofs.Common.{◌≡◌, ◌≢◌, ℕ, zero, suc, ◌+◌, ◌-◌, ◌≤◌, Bool, true, false, cond, Some, List, [], ◌∷◌}
@@ -28,7 +28,7 @@ pub record Said : Type 0 where
   pub statement : Statement
   pub answer : Answer
 
--- the session's entries of a history whose first entry is its own
+-- the session's entries of a history whose first entry is its own: that one, and then those of the rest
 entries_of-own : (session : ℕ) (entry : Entry) (list : List Entry) → entry.session ≡ session
     → entries_of session (entry ∷ list) ≡ entry ∷ entries_of session list
 entries_of-own session entry list own =
@@ -57,7 +57,7 @@ own_from history place session entry is own =
     ap (entries_of session) (from_place history place entry is)
     ∙ entries_of-own session entry (drop (suc place) history) own
 
--- if it is another session's: those from the next place
+-- the session's entries from a place on, if the entry there is another session's: those from the next place
 other_from : (history : List Entry) (place session : ℕ) (entry : Entry) → slice_get history place ≡ Some entry
     → entry.session ≢ session
     → entries_of session (drop place history) ≡ entries_of session (drop (suc place) history)
@@ -108,7 +108,7 @@ fits_one base history session from statement answer statements answers true orde
 fits_one base history session from statement answer statements answers false order next rest fit =
     omega (arith, fit answer.place rest, count_from session history from answer.place order)
 
--- what enters of a session's statements are no more than its entries from there on
+-- of statements that are answered from a place on no more enter than the session has entries from there on
 fits : (base : State) (history : List Entry) (session from : ℕ) (statements : List Statement) (answers : List Answer)
     → Answered base history session from statements answers
     → length (entered base history session statements answers) ≤ length (entries_of session (drop from history))
@@ -259,8 +259,8 @@ module _ {L : Type 0} (spoken : L → Said) where
           let many = ap length (sym (own_from history place session entry is own) ∙ left.mine) in
           omega (arith, few, many)
 
-  -- at the end of the history a session has no line left, unless one stands there without entering (`Drained` excludes
-  -- it)
+  -- at the end of the history a session that is drained has no line left: none can enter any more, and drained means
+  -- that none stands there without entering
   pub ended : (base : State) (history : List Entry) (place session : ℕ) (lines : List L)
       → Remains base history place session lines
       → Drained base history place session lines → place ≡ length history → lines ≡ []

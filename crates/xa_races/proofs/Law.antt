@@ -1,6 +1,6 @@
 -- What lines were answered in a race, some order of them gives.
 --     Leads            turns lead to these texts
---     raced_leads      those of lines that raced are led to
+--     raced_leads      turns lead to what lines that raced were answered
 --     one_line         one line that raced is answered as a run answers it
 --     came_given       what came of parts is given by an order
 use Rattle.std.proofs.Common.{◌≡◌, ℕ, suc, ◌+◌, ◌≤◌, ◌==◌, ◌&&◌, Bool, true, false, not, cond, Option, Some, None, List}
@@ -66,16 +66,20 @@ said_answers (statement ∷ statements) [] long = absurd (omega arith)
 said_answers (statement ∷ statements) (answer ∷ answers) long =
     ap (λ l. answer ∷ l) (said_answers statements answers (omega (arith, long)))
 
+-- lines raced from the state `base` to the state `new`, and `texts` was written for them
 module _ (base : State) (lines : List Told) (texts : List (List ℕ)) (new : State)
     (raced : IsRaced base lines texts new) where
+  -- each session has as many answers as statements
   long : (session : ℕ) → IsSession session → length (raced.answers session) ≡ length (statements_of session lines)
   long session is =
       answered_long base raced.history session (statements_of session lines) (raced.answers session) 0
       (raced.legal session is).answered
 
+  -- the statements of each session, each with its answer
   abbrev all_said : Lines
   all_said = λ session. said_of (statements_of session lines) (raced.answers session)
 
+  -- each session's statements with their answers are what remains of it at the beginning of the race's history
   remain : (session : ℕ) → IsSession session → Remains itself base raced.history 0 session (all_said session)
   remain session is =
       let legal : IsLegal base raced.history (newcomer session) (statements_of session lines) (raced.answers session) =
@@ -98,6 +102,7 @@ module _ (base : State) (lines : List Told) (texts : List (List ℕ)) (new : Sta
             (sym answers);
       }
 
+  -- before any turn no line has an answer, and each session has its statements with their answers left to say
   stands : Stands lines (laid_texts [] raced.answers lines) (state_after base raced.history) all_said
       (opening lines base)
   stands = record {
@@ -106,6 +111,7 @@ module _ (base : State) (lines : List Told) (texts : List (List ℕ)) (new : Sta
         (let same = long session is in omega (arith, same));
   }
 
+  -- turns of all lines lead to the texts and the state of the race
   pub raced_leads : Leads base lines texts new
   raced_leads =
       let all : Goes lines (laid_texts [] raced.answers lines) (state_after base raced.history) (opening lines base) =
@@ -122,7 +128,7 @@ module _ (base : State) (lines : List Told) (texts : List (List ℕ)) (new : Sta
         count = all.count ∙ all_empty lines;
       }
 
--- the one line of the session that has a turn
+-- if a session can have a turn at a single line, the line is its own, and the turn carries it out
 turn_one : (base : State) (told : Told) (session : ℕ) (mid : Config)
     → turn (told ∷ []) (opening (told ∷ []) base) session ≡ Some mid
     → (told.session ≡ session) × (mid ≡ carried_out session told.text (opening (told ∷ []) base) 0)

@@ -56,7 +56,7 @@ new_long store n [] (run ∷ runs) are = absurd are
 new_long store n (l ∷ lists) [] are = absurd are
 new_long store n (l ∷ lists) (run ∷ runs) are = ap suc (new_long store (n + 1) lists runs are.1)
 
--- no session of a new race has a number above that of the last
+-- if the last of new runs that are numbered from n on has at most the number `count`, none has a greater one
 new_low : (store : EndlessStore) (n count : ℕ) (lists : List (List Statement)) (runs : List LongRun)
     → AreNewRuns store n lists runs
     → n + length lists ≤ count + 1 → All (λ run. (known_in run.session).number ≤ count) runs
@@ -84,7 +84,7 @@ legal_new base history n known statements answers number seen mine legal = recor
       (legal.mine ∙ ap (λ (l : List Entry). l ++ entered base history known.number statements answers) mine);
 }
 
--- runs that were answered legally, as an answer to each list of statements
+-- if all new runs were answered legally, the lists of statements were
 answered_new : (store : EndlessStore) (history : List Entry) (n : ℕ) (lists : List (List Statement))
     (runs : List LongRun) (answers : List (List Answer))
     → AreNewRuns store n lists runs

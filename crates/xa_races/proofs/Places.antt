@@ -44,7 +44,7 @@ pub only_none : (list : List Entry) (limit : ℕ) (places : List (Option Entry))
 only_none list limit places all place entry is =
     absurd (empty_get places (recursion_from_All (λ one. one ≡ None) places all) place entry is)
 
--- places that are all filled have the entries of the list
+-- places that are filled with the entries of a list have the same entry at each place
 get_some : (entries : List Entry) (place : ℕ) (entry : Entry) → slice_get entries place ≡ Some entry
     → slice_get (map Some entries) place ≡ Some (Some entry)
 get_some [] place entry is = absurd (none-some entry is)
@@ -68,7 +68,8 @@ length_some : (entries : List Entry) → length (map Some entries) ≡ length en
 length_some [] = refl
 length_some (entry ∷ entries) = ap suc (length_some entries)
 
--- if each place has an entry that fits, they are the list
+-- if each place is filled with an entry that fits, and there are as many places as the list has entries, the entries
+-- are those of the list
 pub same_entries : (entries list : List Entry) (limit : ℕ) (places : List (Option Entry)) → map Some entries ≡ places
     → length places ≡ length list
     → HasOnly list limit places → (entries ≡ list) × AllOf limit entries

@@ -14,27 +14,27 @@ use Rattle.xa_races.specs.Race.{fault_place, fault_text, faults_text, session_in
 use Rattle.xa_races.specs.Race.{statements_of}
 use Rattle.xa_races.specs.Outcome.{entry_text, entries_text, placed_text, session_text, answers_text}
 
--- what is told of the faults, when one more line was cut off
+-- what is written for the faulty lines of a text: for the first line, and then for the rest
 pub faults_text-line : (number : ℕ) (text line rest : List ℕ) → lines_of text ≡ line ∷ lines_of rest
     → faults_text number (lines_of text) ≡ fault_text number (fault_place (line_of line))
     ++ faults_text (number + 1) (lines_of rest)
 unfolding faults_text
 faults_text-line number text line rest cut = rw cut refl
 
--- no line is left: no fault is
+-- of a text without lines no fault is written
 pub faults_text-end : (number : ℕ) (text : List ℕ) → (length text == 0) ≡ true → faults_text number (lines_of text) ≡ []
 unfolding faults_text lines_of
 faults_text-end number [] empty = refl
 faults_text-end number (x ∷ xs) empty =
     absurd (let none : length (x ∷ xs) ≡ 0 = grind (arith, common_steps) in omega arith)
 
--- the greatest session, when one more line was cut off
+-- the greatest session of a text: that of the first line, or of the rest
 pub last_session-line : (text line rest : List ℕ) → lines_of text ≡ line ∷ lines_of rest
     → last_session (lines_of text) ≡ max (session_in (line_of line)) (last_session (lines_of rest))
 unfolding last_session
 last_session-line text line rest cut = rw cut refl
 
--- no line is left: no session is named
+-- a text without lines names no session
 pub last_session-end : (text : List ℕ) → (length text == 0) ≡ true → last_session (lines_of text) ≡ 0
 unfolding last_session lines_of
 last_session-end [] empty = refl
@@ -46,7 +46,7 @@ cons_option-list : {A : Type 0} (first : Option A) (rest : List A)
 cons_option-list None rest = refl
 cons_option-list (Some x) rest = refl
 
--- a session's statements, when one more line was cut off
+-- a session's statements of a text: that of the first line, if it gives one, and then those of the rest
 pub statements_of-line : (session : ℕ) (text line rest : List ℕ) → lines_of text ≡ line ∷ lines_of rest
     → statements_of session (lines_of text) ≡ option_to_list (statement_by session (line_of line))
     ++ statements_of session (lines_of rest)
@@ -55,7 +55,7 @@ statements_of-line session text line rest cut =
     rw cut (cons_option-list (statement_by session (line_of line))
     (filter_map (λ l. statement_by session (line_of l)) (lines_of rest)))
 
--- no line is left: no statement is
+-- a text without lines gives no statement
 pub statements_of-end : (session : ℕ) (text : List ℕ) → (length text == 0) ≡ true
     → statements_of session (lines_of text) ≡ []
 unfolding statements_of lines_of
@@ -122,7 +122,7 @@ session_text-more session (x ∷ statements) (y ∷ answers) (suc i) s a below b
     ∙ sym (append_assoc (placed_text session x y) (session_text session (take i statements) (take i answers))
     (placed_text session s a)))
 
--- the answers to statements, as many as there are of both
+-- if `n` is at least the length of the shorter list, the first `n` of both give the whole text
 pub session_text-whole : (session : ℕ) (statements : List Bool) (answers : List Answer) (n : ℕ)
     → min (length statements) (length answers) ≤ n
     → session_text session (take n statements) (take n answers) ≡ session_text session statements answers
@@ -193,7 +193,7 @@ length_map_take f (x ∷ xs) zero below = refl
 length_map_take f (x ∷ xs) (suc i) below = ap suc (length_map_take f xs i (omega (arith, below)))
 
 module _ {S : Type 0} (answers_of : S → List Answer) where
-  -- one session's answers more
+  -- the loop over sessions: the text of one more session's answers is written
   pub answers_text-more : (lines : List (List ℕ)) (all : List S) (i : ℕ) (answers : S) (session : ℕ) → i < length all
       → answers ≡ get_or all i answers
       → session ≡ i + 1

@@ -75,7 +75,8 @@ abbrev tail_of : {A : Type 0} → List A → List A
 tail_of [] = []
 tail_of (x ∷ xs) = xs
 
--- the runs of passes and lists, one after another
+-- new passes with the numbers from `session` on, each paired with what its session gives, are the runs of these
+-- sessions
 pub runs_from : (session : ℕ) (lines : List (List ℕ)) (runs : List Run) (passes : List Pass)
     (lists : List (Vec Statement Global))
     → map (λ run. (run.pass, run.lines)) runs ≡ zip passes lists
@@ -117,7 +118,7 @@ passes_of (run ∷ runs) (pass ∷ passes) (list ∷ lists) zipped enough =
     ap (λ p. p ∷ map (λ r. r.pass) runs) (ap (λ (p : Pass × Vec Statement Global). p.0) first)
     ∙ ap (λ l. pass ∷ l) (passes_of runs passes lists rest (omega (arith, enough)))
 
--- the list at a place, where there is one, or there is none
+-- within the lists, the list at a place is that of the element there
 pub part_within : {V A : Type 0} (items : V → List A) (lists : List V) (index : ℕ) (d : V) → index < length lists
     → items (get_or lists index d) ≡ part_at (map items lists) index
 part_within items [] index d below = absurd (omega arith)
@@ -150,7 +151,8 @@ pub map_same : {A B : Type 0} (pairs : List (A × B)) → map (λ p. (p.0, p.1))
 map_same [] = refl
 map_same (pair ∷ pairs) = ap (λ l. pair ∷ l) (map_same pairs)
 
--- there are as many runs as passes that were kept: as many as sessions are named, and at least one
+-- there are as many runs as sessions are named, also if that is none: of the passes, which are at least one, so many
+-- are kept
 pub runs_count : (n : ℕ) (passes taken : List Pass) (runs : List Run) → length passes ≡ max n 1 → taken ≡ take n passes
     → map (λ run. run.pass) runs ≡ taken
     → length runs ≡ n
@@ -159,7 +161,8 @@ runs_count n passes taken runs count cut are =
     ∙ ap length cut in
     omega (arith, all, length-take n passes, count)
 
--- what each pass keeps of its log is true of what the last one knows
+-- `P` holds of what every pass knows of its log. If it holds of a newcomer, it holds of what the last pass of a race
+-- knows, also if there is no pass
 module _ (P : LogIdentity → Known → Type 0) (kept : (pass : Pass) → P (log_of pass) (known_of pass)) where
   last_keeps : (identity : LogIdentity) (history : List Entry) (runs : List Run) (passes : List Pass)
       → P identity (newcomer 0)
@@ -181,7 +184,7 @@ module _ (P : LogIdentity → Known → Type 0) (kept : (pass : Pass) → P (log
       last_keeps identity history (other ∷ runs) (other' ∷ passes) none
       (All-tail Belongs run (other ∷ runs) belong) zip.1
 
--- the history has entries of the runs' sessions alone
+-- the history has entries of the sessions 1 to the number of runs alone
 pub own_sessions : (identity : LogIdentity) (history : List Entry) (runs : List Run) (passes : List Pass)
     → identity.sessions ≡ max (length runs) 1
     → All (λ run. log_of run.pass ≡ identity) runs

@@ -66,7 +66,7 @@ gains items lists new session place list d statement some at below now is index 
     ∙ ap (λ b. part_at (map items lists) index ++ option_to_list (cond b (Some statement) None))
     (ap (λ n. n == index) at ∙ same_place session index some)
 
--- a fault of reading a line's text, as the reader of statements reports it
+-- if the reader of statements reports this fault, reading stopped at the place that the fault names
 pub unread_at : (read : Result Statement ℕ) (fault : SyntaxFault) → Err fault ≡ seen_of read → read ≡ Err fault.at
 unread_at (Ok statement) fault is = cc
 unread_at (Err place) fault is = cc
@@ -100,7 +100,7 @@ pub record IsReadUpTo (script rest : List ℕ) (number : ℕ) (given : RaceScrip
   pub lists : (index : ℕ) → statements_of (index + 1) (lines_of script)
       ≡ part_at (map (λ list. list.items) given.lists.items) index ++ statements_of (index + 1) (lines_of rest)
 
--- before the first line nothing was read
+-- without a fault, a session and a statement, what is given is what is read of no lines
 pub has_read_nothing : (given : RaceScript) → given.faults.items ≡ [] → given.greatest ≡ 0
     → ((index : ℕ) → part_at (map (λ list. list.items) given.lists.items) index ≡ []) → HasRead [] given
 unfolding faults_text last_session statements_of

@@ -1,7 +1,8 @@
 -- The order in which the lines of a race have their turns: place by place of the history, at each first those that
 -- don't enter there, and then the one that does. What a turn is, the module is told.
 --     Ready             the lines that are left at a place, and how things stand
---     goes              their turns lead to the end
+--     Leads             turns lead to the end once a session is drained
+--     goes              turns of the lines that are left at a place lead to the end
 use Rattle.std.proofs.Common.{◌≡◌, ◌≢◌, ℕ, zero, suc, ◌+◌, ◌<◌, ◌≤◌, Bool, true, false, Some, List, [], ◌∷◌, length}
 use Rattle.std.proofs.Common.{refl, ap, sym, ◌∙◌, subst, inl}
 use Rattle.std.proofs.Common.{inr, arith, add-one}
@@ -32,13 +33,14 @@ module _ {L C : Type 0} (spoken : L → Said) (state_of : C → State) (Stands G
     (ends : (lines : ℕ → List L) (config : C) → Stands lines config
     → state_of config ≡ state_at base history (length history)
     → ((session : ℕ) → IsSession session → lines session ≡ []) → Goes lines config) where
-  -- each session's lines that are left at a place
+  -- at a place, `lines` are what remains of each session's lines, and the configuration has the state there
   pub record Ready (place : ℕ) (lines : ℕ → List L) (config : C) : Type 0 where
     pub remain : (session : ℕ) → IsSession session → Remains spoken base history place session (lines session)
     pub state : state_of config ≡ state_at base history place
     pub stands : Stands lines config
 
-  -- the lines of one session were changed
+  -- if the new lines of one session are what remains of it, and the others' lines are as well, so are all lines once
+  -- that session's are replaced
   remain_with : (next : ℕ) (lines : ℕ → List L) (session : ℕ) (rest : List L)
       → Remains spoken base history next session rest
       → ((other : ℕ) → IsSession other → other ≢ session → Remains spoken base history next other (lines other))
@@ -50,6 +52,7 @@ module _ {L C : Type 0} (spoken : L → Said) (state_of : C → State) (Stands G
         (others other is apart)
   ]
 
+  -- the reply to a line that stands at the place is the server's in the configuration there
   reply_there : (place session : ℕ) (line : L) (rest : List L) (config : C)
       → Remains spoken base history place session (line ∷ rest)
       → (spoken line).answer.place ≡ place → state_of config ≡ state_at base history place
@@ -58,13 +61,14 @@ module _ {L C : Type 0} (spoken : L → Said) (state_of : C → State) (Stands G
       left.answered.1.reply_is ∙ ap (λ (s : State). reply_to s session (spoken line).statement)
       (ap (state_at base history) at ∙ sym state)
 
-  -- what draining a session's lines leads to
+  -- turns lead to the end from wherever the session is drained at the place and the others' lines are as before
   abbrev pub Leads : ℕ → ℕ → (ℕ → List L) → Type 0
   Leads place session lines =
       (new : ℕ → List L) (later : C) → Ready place new later → Drained spoken base history place session (new session)
       → ((other : ℕ) → other ≢ session → new other ≡ lines other) → Goes new later
 
-  -- a line of a session that stands at the place and doesn't enter there is next
+  -- a session's first line stands at the place and doesn't enter there: it has its turn, and the rest of the session's
+  -- lines are drained
   skip_one : (place session : ℕ) → IsSession session → (line : L) (rest : List L) (lines : ℕ → List L)
       (config : C) → lines session ≡ line ∷ rest
       → Ready place lines config → (spoken line).answer.place ≡ place
@@ -91,6 +95,7 @@ module _ {L C : Type 0} (spoken : L → Said) (state_of : C → State) (Stands G
       (λ last end there drained others. go last end there drained
       (λ other apart. others other apart ∙ lines_other lines session other rest apart)))
 
+  -- a session with a first line: it is drained if the line enters or stands at a later place; else the line is skipped
   drain_by : (place session : ℕ) → IsSession session → (line : L) (rest : List L) (lines : ℕ → List L)
       (config : C) → lines session ≡ line ∷ rest
       → Ready place lines config
@@ -109,7 +114,8 @@ module _ {L C : Type 0} (spoken : L → Said) (state_of : C → State) (Stands G
             (λ other else'. refl)
       ]
 
-  -- the lines of a session that stand at the place and don't enter there are next
+  -- the lines of a session that stand at the place and don't enter there have their turns, until the session is
+  -- drained
   drain : (place session : ℕ) → IsSession session → (own : List L) (lines : ℕ → List L) (config : C)
       → lines session ≡ own → Ready place lines config
       → Leads place session lines → Goes lines config
@@ -120,7 +126,8 @@ module _ {L C : Type 0} (spoken : L → Said) (state_of : C → State) (Stands G
       (enters (state_at base history place) session (spoken line).statement) refl
       (λ new later at there leads. drain place session is rest new later at there leads) go
 
-  -- the sessions from a number on
+  -- if the sessions above `count + 1` were drained, that session now is, and the others' lines are as before, all
+  -- above `count` are drained
   drained_above : (place count : ℕ) (lines new : ℕ → List L)
       → ((session : ℕ) → IsSession session → suc count < session
       → Drained spoken base history place session (lines session))
@@ -134,7 +141,7 @@ module _ {L C : Type 0} (spoken : L → Said) (state_of : C → State) (Stands G
         (above session is (omega arith))
   ]
 
-  -- those of all sessions
+  -- the sessions up to `count` are drained one after another, if those above are drained already
   drain_all : (place count : ℕ) → count ≤ 16 → (lines : ℕ → List L) (config : C) → Ready place lines config
       → ((session : ℕ) → IsSession session → count < session
       → Drained spoken base history place session (lines session))
@@ -148,7 +155,7 @@ module _ {L C : Type 0} (spoken : L → Said) (state_of : C → State) (Stands G
       (λ new later there own others. drain_all place count (omega arith) new later there
       (drained_above place count lines new above own others) go)
 
-  -- the line that is the entry at the place is next
+  -- all sessions are drained at a place: the line that is the entry there has its turn, and the next place is reached
   enter : (place : ℕ) (entry : Entry) → slice_get history place ≡ Some entry → IsSession entry.session
       → (lines : ℕ → List L) (config : C)
       → Ready place lines config
@@ -182,7 +189,7 @@ module _ {L C : Type 0} (spoken : L → Said) (state_of : C → State) (Stands G
         stands = stands;
       }))
 
-  -- at the end of the history all lines are done
+  -- at the end of the history, once all sessions are drained, no line is left
   done : (place : ℕ) → place ≡ length history → (lines : ℕ → List L) (config : C) → Ready place lines config
       → ((session : ℕ) → IsSession session → Drained spoken base history place session (lines session))
       → Goes lines config

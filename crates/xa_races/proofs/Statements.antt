@@ -45,7 +45,7 @@ pub own_part : (session : EndlessSession) → entries_of (known_in session).numb
     ≡ (known_in session).mine
 own_part session = session.member.pass.state.part
 
--- why a run stops at one of its statements
+-- the statements before `place` were answered, and the one there halts with the fault: the run stops at it
 module _ (gate : ℕ → ℕ → Bool → Type 0) (before : Known) (now new : EndlessSession) (statements : List Statement)
     (answers : List Answer) (place : ℕ)
     (statement : Statement) where

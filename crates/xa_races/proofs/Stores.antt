@@ -93,7 +93,8 @@ sessions_long n lines (one ∷ before) (run ∷ runs) [] are zip = absurd zip
 sessions_long n lines (one ∷ before) (run ∷ runs) (session ∷ sessions) are zip =
     ap suc (sessions_long (n + 1) lines before runs sessions are.2 zip.1)
 
--- no run has a number above that of the last
+-- if the last of sessions that are numbered from n on has at most the number `count`, none of their runs has a greater
+-- one
 pub runs_low : (n count : ℕ) (lines : List Told) (sessions : List EndlessSession) (runs : List LongRun)
     → AreRunsOf n lines sessions runs → AreNumbered n sessions
     → n + length sessions ≤ count + 1 → All (λ run. (known_in run.session).number ≤ count) runs
@@ -106,7 +107,8 @@ runs_low n count lines (session ∷ sessions) (run ∷ runs) are numbered few =
     All-cons (λ (r : LongRun). (known_in r.session).number ≤ count) run runs (omega (arith, number, few))
     (runs_low (n + 1) count lines sessions runs are.2 numbered.1 (omega (arith, few)))
 
--- each session's answers are legal in what was added, after the state before
+-- all sessions had seen the history `first`, and the runs' answers are legal in `first ++ second`. Each session's
+-- answers are legal in `second`, from the state after `first` on, with the places counted from there
 pub legal_each : (first second : List Entry) (n : ℕ) (lines : List Told) (sessions : List EndlessSession)
     (runs : List LongRun) (answers : List (List Answer))
     → AreRunsOf n lines sessions runs → AreNumbered n sessions
@@ -157,7 +159,8 @@ answers_long first second n lines (session ∷ sessions) (run ∷ runs) [] are l
 answers_long first second n lines (session ∷ sessions) (run ∷ runs) (own ∷ answers) are legal =
     ap suc (answers_long first second (n + 1) lines sessions runs answers are.2 legal.1)
 
--- the whole history begins with what all sessions had seen
+-- if there is a session, all had seen the history `first`, and their answers are legal in the whole one, it begins
+-- with `first`
 pub whole_begins : (first whole : List Entry) (n : ℕ) (lines : List Told) (sessions : List EndlessSession)
     (runs : List LongRun) (answers : List (List Answer))
     → 0 < length sessions → AreRunsOf n lines sessions runs

@@ -33,14 +33,15 @@ below_test : (m n : ℕ) → m < n → nat_lt m n ≡ true
 below_test m n below = grind (arith, nat_tests)
 
 module _ {A : Type 0} (p : A → Bool) where
-  -- the first of the list passes
+  -- the first of the list passes: its place is 0
   pub first_passes : (x : A) (xs : List A) → p x ≡ true → position_or_len p (x ∷ xs) ≡ 0
   first_passes x xs passes = ap (λ b. cond (not b) (1 + prefix_len (λ y. not (p y)) xs) 0) passes
 
-  -- it doesn't
+  -- the first of the list doesn't pass: the place is one more than in the rest
   pub first_fails : (x : A) (xs : List A) → p x ≡ false → position_or_len p (x ∷ xs) ≡ 1 + position_or_len p xs
   first_fails x xs fails = ap (λ b. cond (not b) (1 + prefix_len (λ y. not (p y)) xs) 0) fails
 
+  -- a place that is within the list is found
   pub position_is : (xs : List A) (place : ℕ) → position_or_len p xs ≡ place → place < length xs
       → position p xs ≡ Some place
   position_is xs place is below =
@@ -64,7 +65,7 @@ get_within (y ∷ xs) zero within = (y, refl)
 get_within (y ∷ xs) (suc i) within = get_within xs i (omega arith)
 
 -- what holds of each element holds of the one at a place
-pub all_at : {A : Type 0} (P : A → Type 0) (list : List A) (place : ℕ) (x : A) → All P list → slice_get list place ≡ Some x
-    → P x
+pub all_at : {A : Type 0} (P : A → Type 0) (list : List A) (place : ℕ) (x : A) → All P list
+    → slice_get list place ≡ Some x → P x
 all_at P list place x all found =
     subst P (get_or_from_slice_get list place x x found) (all place x (slice_get_within list place x found))

@@ -2,11 +2,12 @@
 --     Agrees         lines, what they were answered so far, and what they are to be answered in the end
 --     Owed, left     what a line says and is to be answered;  what a session's lines that weren't carried out say, and
 --                    are to be answered
---     empties        how many of the lines weren't
---     next           the session's first line that wasn't is
+--     empties        how many lines weren't carried out
+--     Next, next     what is so once a session's first line without an answer got one;  that line can get it
 --     Stands, Goes   how things stand;  turns lead from there to the end
---     emits          a line of a session is next
---     begins         no line was carried out
+--     emits          a line of a session has its turn
+--     all_filled     no session has a line left, so all lines were carried out
+--     all_empty, opening_agrees, opening_left     no line was carried out yet
 use Rattle.std.proofs.Common.{◌≡◌, ◌≢◌, ◌⊎◌, ℕ, zero, suc, ◌+◌, ◌<◌, ◌≤◌, ◌==◌, ◌&&◌, Bool, true, false, cond, Option}
 use Rattle.std.proofs.Common.{Some, None, Result, Ok, List, [], ◌∷◌, ◌++◌}
 use Rattle.std.proofs.Common.{length, map, drop, replicate, decimal, refl, ap, sym, ◌∙◌, subst, inl, inr, arith}
@@ -55,7 +56,8 @@ abbrev pub empties : List (List ℕ) → ℕ
 empties [] = 0
 empties (answer ∷ answers) = cond (is_empty_line answer) (suc (empties answers)) (empties answers)
 
--- the session's first line that wasn't carried out is
+-- what is so after the first line of the session that has no answer yet got this text: `rest` is what the session has
+-- left then, and the other sessions have left what they had
 pub record Next (session : ℕ) (lines : List Told) (answers texts : List (List ℕ)) (read : Result Statement ℕ)
     (text : List ℕ) (rest : List Owed) : Type 0 where
   pub place : ℕ
@@ -232,6 +234,7 @@ module _ (told : List Told) (texts : List (List ℕ)) (end : State) where
     pub state : new.state ≡ end
     pub count : length order ≡ empties config.answers
 
+  -- a session whose first line without an answer is at this place has its turn there
   taken : (config : Config) (session place : ℕ) → position_or_len (is_left session) (zip told config.answers) ≡ place
       → place < length (zip told config.answers)
       → turn told config session ≡ Some (carried_out session (text_at told place) config place)
@@ -240,7 +243,8 @@ module _ (told : List Told) (texts : List (List ℕ)) (end : State) where
       ap (option_map (λ n. carried_out session (text_at told n) config n))
       (position_is (is_left session) (zip told config.answers) place first below)
 
-  -- a line of a session is next: it has its turn now
+  -- if a session's next line gets the server's reply, turns lead from here to the end if they do so from where the
+  -- line was carried out
   pub emits : (lines : Lines) (session : ℕ) (said : Said) (rest : List Said) (config : Config) → IsSession session
       → lines session ≡ said ∷ rest
       → Stands lines config → said.answer.reply ≡ reply_to config.state session said.statement
@@ -352,7 +356,7 @@ said_of (statement ∷ statements) [] = []
 said_of (statement ∷ statements) (answer ∷ answers) =
     record { statement = statement; answer = answer } ∷ said_of statements answers
 
--- a session's line counts one more of it: the next line of it gets its next answer
+-- a line of the session raises the session's rank by one, so its next line gets its next answer
 rank_own : (front : List Told) (told : Told) (session : ℕ) → (told.session == session) ≡ true
     → rank_in (front ++ told ∷ []) session ≡ rank_in front session + 1
 rank_own front told session its =
@@ -449,7 +453,9 @@ line_said front answers told session statement answer its read found =
     ∙ ap (λ (r : Result Statement ℕ). answer_text (decimal told.session) (reply_text (converts_in r) answer.reply)) read
     ∙ ap (λ n. answer_text (decimal n) (reply_text (converts statement) answer.reply)) its
 
--- before any line is carried out, each session has all its statements to say
+-- before any of these lines is carried out, a session has all its statements of them left, each with its answer: the
+-- first with the one that comes after the answers to its lines in front. There are answers enough, and each line is
+-- read
 pub opening_left : (front : List Told) (answers : ℕ → List Answer) (lines : List Told) (session : ℕ)
     → All IsReadLine lines
     → length (statements_of session lines) + rank_in front session ≤ length (answers session)

@@ -38,7 +38,7 @@ runs_cut renews runs (Err f) ended text given input rest old new read end is cau
     subst (λ x. AfterRunsFault renews runs x input old new) (sym cause)
     (read_whole (λ t. AppendsRunsPrefix runs t old new) input rest given read end (ended, text, is, prefix))
 
--- the races ended by a fault, and nothing was written
+-- all input was read, and the races ended by a fault: nothing was written, which is what the job promises then
 pub runs_ended : (renews : Bool) (runs : ℕ) (f : ScriptFault) (given : List ℕ) (input rest old : Option (List ℕ))
     → Consumes input rest given → IsAtEnd rest
     → Keeps old old
@@ -70,7 +70,7 @@ runs_failed renews runs result passed cause given input rest old is same read en
     (subst (λ (f : ScriptFault). AfterRunsFault renews runs f input old old) (sym same)
     (runs_ended renews runs cause given input rest old read end (keeps_same old) of))
 
--- a fault of a race, where no line goes wrong
+-- if no line is faulty, a fault of a race is one of the races of the script
 pub of_runs : (renews : Bool) (script : List ℕ) (f : ScriptFault) → IsWellRead script → IsOfRace renews f
     → IsOfRuns renews script f
 of_runs renews script fault.Read well of = absurd of

@@ -1,7 +1,7 @@
 -- Entries that are put to their places.
 --     Fits            an entry is that of a list at a place, and is of a session up to a number
 --     HasOnly         each place that has an entry has one that fits there
---     IsWithin        an entry fits at its place, counted from another on
+--     IsWithin        an entry fits at its place, counted from the place where the list begins
 use Rattle.std.specs.Prelude.{◌≡◌, ◌≤◌, ◌-◌, ℕ, Option, Some, List, slice_get}
 use Rattle.xa_words.specs.Entry.{Entry}
 use Rattle.xa_races.specs.declared.added.Added.{Added}
@@ -17,6 +17,7 @@ abbrev pub HasOnly : List Entry → ℕ → List (Option Entry) → Type 0
 HasOnly list limit places = (place : ℕ) (entry : Entry) → slice_get places place ≡ Some (Some entry)
     → Fits list limit place entry
 
--- an entry that was added at a place of the whole history fits at that place of a list that begins at `from`
+-- an entry that was added at a place of the whole history fits into the list that begins at the place `from` of it; of
+-- an entry before that place nothing is said
 abbrev pub IsWithin : List Entry → ℕ → ℕ → Added → Type 0
 IsWithin list limit from added = from ≤ added.place → Fits list limit (added.place - from) added.entry

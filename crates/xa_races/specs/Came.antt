@@ -1,13 +1,23 @@
 -- What is written for several races of a script.
 -- Every rule here is the project's own: docs/COMMANDS.md#race-statistics.
 --     IsRunCount         how many races there may be
+--     ways_limit         how many ways exploring may keep
 --     times              how often a text came
 --     came_text          what is written for an outcome that came so often
 --     came_texts         what is written for the outcomes of a list that came
+--     count_seen         how many texts of a list came
+--     seen_text, some_seen_text     what is written for a list, with how many outcomes there are;  without that
+--     HaveCome           races gave these texts
 --     IsSeenOfAll, IsSeenOfSome     a text is what is written for races, if all outcomes are known;  if they
 --                                   aren't
---     IsRunsText         what is written for races of a script
---     AppendsRuns, AfterRunsFault     what the writer got
+--     IsPartsCome        one of the two
+--     IsRunsTold, IsRunsText     what is written for races of a script, and how they end
+--     IsSomeRunsText     what is written for them, however they end
+--     ComesBefore        a text comes before another one, byte by byte
+--     AppendsRuns, AppendsRunsPrefix     the writer got that text, or a prefix of it
+--     IsWellRead         no line of the script is faulty
+--     IsOfRace, IsOfRuns     a fault with which a race ends;  a fault before anything is written
+--     AfterRunsFault     what the writer got after a fault
 use Rattle.std.specs.Prelude.{◌≡◌, ℕ, zero, suc, ◌+◌, ◌≤◌, nat_lt, nat_eq, Bool, false, count_by, Option, List, [], ◌∷◌}
 use Rattle.std.specs.Prelude.{◌++◌, length, map, codes, decimal, IfSome, ◌⊎◌}
 use Rattle.std.specs.List.{All, Contains}
@@ -96,7 +106,8 @@ pub record IsSeenOfSome (parts : Parts) (runs : ℕ) (text : List ℕ) : Type 0 
 abbrev pub IsPartsCome : Parts → ℕ → List ℕ → Type 0
 IsPartsCome parts runs text = IsSeenOfAll parts runs text ⊎ IsSeenOfSome parts runs text
 
--- if no line is faulty, the parts are raced; else only the faulty lines are written
+-- if no line is faulty, the text is that of races of the parts, and they end with `Done`; else it is that of the faulty
+-- lines, and they end with `Faulty`
 abbrev pub IsRunsTold : List ℕ → Parts → ℕ → Ended → List ℕ → Type 0
 IsRunsTold [] parts runs Done text = IsPartsCome parts runs text
 IsRunsTold [] parts runs Undecided text = ⊥
@@ -125,7 +136,7 @@ AppendsRunsPrefix runs script old new =
 abbrev pub IsWellRead : List ℕ → Type 0
 IsWellRead script = (script_read script).faults ≡ []
 
--- a fault with which a race ends; in rounds no log is full
+-- a fault with which a race ends: no memory, a shut gate, no thread, or `Full` if races don't renew their stores
 abbrev pub IsOfRace : Bool → ScriptFault → Type 0
 IsOfRace renews NoMemory = Unit {0}
 IsOfRace renews GateShut = Unit {0}
@@ -133,12 +144,13 @@ IsOfRace renews ThreadRefused = Unit {0}
 IsOfRace renews Full = renews ≡ false
 IsOfRace renews fault = ⊥
 
--- a fault before anything is written: no memory, or a race's fault, if no line is faulty
+-- a fault before anything is written: no memory; or, only if no line is faulty, a fault with which a race ends
 abbrev pub IsOfRuns : Bool → List ℕ → ScriptFault → Type 0
 IsOfRuns renews script NoMemory = Unit {0}
 IsOfRuns renews script fault = IsOfRace renews fault × IsWellRead script
 
--- what a fault leaves in the writer: a prefix of the text if a write failed, else nothing
+-- what a fault leaves in the writer: a prefix of the text if a write failed, else nothing. After `GateShut`,
+-- `ThreadRefused` and `Full` no line is faulty, and after `Full` races don't renew their stores
 abbrev pub AfterRunsFault : Bool → ℕ → ScriptFault → Option (List ℕ) → Option (List ℕ) → Option (List ℕ) → Type 0
 AfterRunsFault renews runs Write input old new = IfSome input (λ script. AppendsRunsPrefix runs script old new)
 AfterRunsFault renews runs GateShut input old new = Keeps old new × IfSome input IsWellRead

@@ -28,7 +28,7 @@ answers_of lists session = list_at lists (session - 1)
 abbrev pub AreWithin : ℕ → List Told → Type 0
 AreWithin sessions lines = All (λ told. IsSession told.session × (told.session ≤ sessions)) lines
 
--- sessions of consecutive numbers, of which the first has this number
+-- sessions of consecutive numbers; the first session has this number
 abbrev pub AreNumbered : ℕ → List EndlessSession → Type 0
 AreNumbered number [] = Unit {0}
 AreNumbered number (session ∷ sessions) = ((known_in session).number ≡ number) × AreNumbered (number + 1) sessions
@@ -38,7 +38,8 @@ abbrev pub numbers_from : ℕ → ℕ → List ℕ
 numbers_from number zero = []
 numbers_from number (suc count) = number ∷ numbers_from (number + 1) count
 
--- each run is of the session at its place, with the statements that it gives
+-- each run is of the session at its place, and has what a session gives on these lines: the first run what the session
+-- of this number gives, the next one what that of the next number gives
 abbrev pub AreRunsOf : ℕ → List Told → List EndlessSession → List LongRun → Type 0
 AreRunsOf number lines [] [] = Unit {0}
 AreRunsOf number lines [] (run ∷ runs) = ⊥

@@ -2,6 +2,7 @@
 -- Every rule here is the project's own: docs/COMMANDS.md#race-statistics.
 --     statements_of      the statements that a session gives
 --     line_text          what is written for a line with this answer
+--     rank_in            how many lines a session gives
 --     laid_texts         what is written for each line
 --     IsReadLine, AreRead     a line's statement is read;  those of all parts are
 --     IsRaced            lines raced, and this was written for each
@@ -39,7 +40,7 @@ abbrev pub converts_in : Result Statement ℕ → Bool
 converts_in (Ok statement) = converts statement
 converts_in (Err place) = false
 
--- an answer to the line, as a run of a script writes it
+-- an answer to the line, as a run of a script writes it; nothing if there is no answer
 abbrev pub line_text : Told → Option Answer → List ℕ
 line_text told None = []
 line_text told (Some answer) =
@@ -49,7 +50,8 @@ line_text told (Some answer) =
 abbrev pub rank_in : List Told → ℕ → ℕ
 rank_in lines session = count_by (λ told. told.session == session) lines
 
--- each line after the ones in front has the answer that its session got at its turn
+-- what is written for each of these lines, which come after those in front: its session's answer at the place that is
+-- the number of that session's lines before it, or nothing if there is no such answer
 unfoldable pub laid_texts : List Told → (ℕ → List Answer) → List Told → List (List ℕ)
 laid_texts front answers [] = []
 laid_texts front answers (told ∷ lines) =

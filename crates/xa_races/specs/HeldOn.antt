@@ -4,8 +4,8 @@
 --     IsHeldEndless   it is what is written for a race that was held over a store without an end
 --     EndsInLog, EndsEndless     a race was held, and ended with a fault
 --     IsCaused        memory ran out, or such a race ended with this fault
---     AppendsHeld     the writer got such a text
---     IsCausedIn      a fault that a race has is caused by it
+--     AppendsHeld     if no line is faulty, the writer got such a text
+--     IsCausedIn      a fault that only a race has is one with which such a race ended
 use Rattle.std.specs.Prelude.{◌≡◌, ◌⊎◌, ℕ, Bool, Option, List, length, map}
 use Rattle.std.specs.List.{All}
 use Rattle.std.specs.Io.KnownBytes.{Appends}
@@ -50,7 +50,7 @@ pub record IsHeldEndless (gate : ℕ → ℕ → Bool → Type 0) (rows : ℕ) (
   pub held : IsLongRace gate rows lists outcome
   pub text_is : text ≡ outcome_text lines outcome.history.items (map (λ answers. answers.items) outcome.answers.items)
 
--- a race of the script's runs, in a log with that room, ended with this fault, which has its cause
+-- a race of the script's runs, in a log with that room and at the gate, ended with this fault, which has its cause
 pub record EndsInLog (gate : ℕ → ℕ → Bool → Type 0) (capacity : ℕ) (lines : List (List ℕ))
     (fault : ScriptFault) : Type 0 where
   pub runs : List Run
@@ -60,7 +60,8 @@ pub record EndsInLog (gate : ℕ → ℕ → Bool → Type 0) (capacity : ℕ) (
   pub told : fault ≡ script_fault_of raced
   pub blamed : Blames gate no_state runs raced
 
--- a race of what the script's sessions give, over a store without an end, ended with this fault, which has its cause
+-- a race of what the script's sessions give, over a store without an end and at the gate, ended with this fault, which
+-- has its cause
 pub record EndsEndless (gate : ℕ → ℕ → Bool → Type 0) (lines : List (List ℕ)) (fault : ScriptFault) : Type 0 where
   pub lists : List (List Statement)
   pub are_lists : AreLists lines lists
@@ -72,12 +73,13 @@ pub record EndsEndless (gate : ℕ → ℕ → Bool → Type 0) (lines : List (L
 abbrev pub IsCaused : (ScriptFault → Type 0) → ScriptFault → Type 0
 IsCaused Ends fault = (fault ≡ NoMemory) ⊎ Ends fault
 
--- the writer got the text of a race that was held so
+-- if no line is faulty, the writer got a text of a race that was held as `IsHeldText` says
 abbrev pub AppendsHeld : (List (List ℕ) → List ℕ → Type 0) → List ℕ → Option (List ℕ) → Option (List ℕ) → Type 0
 AppendsHeld IsHeldText script old new = IsReadable script
     → (text : List ℕ) × IsHeldText (lines_of script) text × Appends old new text
 
--- why a script's race failed: in a stream, for want of memory, which may be missing anywhere, or in the race itself
+-- why a script's race failed: a race ended with `Full`, `GateShut` or `ThreadRefused` as `Ends` says. Nothing is said
+-- of the other faults: those of a stream aren't a race's, and memory may be missing anywhere
 abbrev pub IsCausedIn : (List (List ℕ) → ScriptFault → Type 0) → List ℕ → ScriptFault → Type 0
 IsCausedIn Ends script Read = Unit {0}
 IsCausedIn Ends script TooLong = Unit {0}

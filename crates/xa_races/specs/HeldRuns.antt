@@ -2,19 +2,19 @@
 -- Every rule here is the project's own: docs/COMMANDS.md#race-statistics.
 --     FitsIn           there is room for what a race adds
 --     AllOpened        the gate can let in each line
---     IsRacedBy        lines raced so
+--     IsRacedBy        lines raced at a gate, with room for so many entries
 --     GivesRacedBy     the same as one text
 --     IsLeftIn         a state is what some sessions of a store with so many rows have seen in the end
 --     IsHeldOnce       a text is what all lines were answered in one race of the parts
 --     AreHeld          so many races gave these texts, one text each
 --     IsSeenOf         what is written for the texts that came
---     AppendsHeldRuns  the writer got that
+--     AppendsHeldRuns  the writer got what is written for races that were held
 --     IsShutBeside     the gate can stop a session at one of its lines
 --     IsOverfull       lines add more than there is room for
 --     EndsBeside       why a race of lines fails
 --     EndsRuns         why races of a script fail
---     IsOverlong, EndsLong     the same of runs
---     IsOfOpen         a fault that a race has at a gate that is always open
+--     IsOverlong, EndsLong     runs add more than there is room for;  why a race of runs fails
+--     IsOfOpen         a fault that a race of one line has at a gate that is always open
 use Rattle.std.specs.Prelude.{◌≡◌, ◌<◌, ◌≤◌, ◌++◌, ◌⊎◌, ℕ, Bool, false, Option, List, length}
 use Rattle.std.specs.List.{All, Contains, concat}
 use Rattle.std.specs.Io.KnownBytes.{Appends}
@@ -67,8 +67,8 @@ pub record IsLeftIn (rows : ℕ) (state : State) : Type 0 where
   pub mine : All (λ session. session.store.value ≡ store) sessions
   pub state_is : state ≡ state_after no_state (seen_by_last sessions)
 
--- the parts were raced over a store with so many rows, the lines side by side at the gate and with room for as many
--- entries, and this is what all lines were answered
+-- the parts were raced over a store with so many rows, the lines side by side at the gate and, unless the race renews
+-- its store, with room for as many entries; and this is what all lines were answered
 pub record IsHeldOnce (gate : ℕ → ℕ → Bool → Type 0) (capacity : ℕ) (renews : Bool) (parts : Parts)
     (text : List ℕ) : Type 0 where
   pub texts : List (List ℕ)
@@ -96,14 +96,14 @@ AppendsHeldRuns gate capacity renews runs script old new = IsWellRead script
     → (came : List (List ℕ)) × (text : List ℕ)
     × AreHeld gate capacity renews runs (parts_of (script_read script)) came × IsSeenOf came text × Appends old new text
 
--- after the lines of a session before one of them were answered, the gate can stop the session
+-- after a session's lines before one of them were answered, the gate can stop the session at that line
 pub record IsShutBeside (gate : ℕ → ℕ → Bool → Type 0) (base : State) (lines : List Told) : Type 0 where
   pub session : ℕ
   pub line : ℕ
   pub is_session : IsSession session
   pub shut : IsShutAt gate base (newcomer session) (statements_of session lines) session line
 
--- all lines were answered, and they added more entries than there is room for
+-- all lines were answered, and added more entries than there is room for; the race doesn't renew its store
 pub record IsOverfull (gate : ℕ → ℕ → Bool → Type 0) (capacity : ℕ) (renews : Bool) (base : State)
     (lines : List Told) : Type 0 where
   pub texts : List (List ℕ)
@@ -113,7 +113,9 @@ pub record IsOverfull (gate : ℕ → ℕ → Bool → Type 0) (capacity : ℕ) 
   pub limited : renews ≡ false
   pub more : capacity < length raced.history
 
--- a fault of a stream isn't a race's, and memory or a thread may be missing anywhere; the others have their cause
+-- why a race of lines fails: `Full` since they add more than there is room for, `GateShut` since the gate can stop a
+-- session. Nothing is said of the other faults: those of a stream aren't a race's, and memory or a thread may be
+-- missing anywhere
 abbrev pub EndsBeside : (ℕ → ℕ → Bool → Type 0) → ℕ → Bool → State → List Told → ScriptFault → Type 0
 EndsBeside gate capacity renews base lines Read = Unit {0}
 EndsBeside gate capacity renews base lines TooLong = Unit {0}
@@ -123,13 +125,13 @@ EndsBeside gate capacity renews base lines Full = IsOverfull gate capacity renew
 EndsBeside gate capacity renews base lines GateShut = IsShutBeside gate base lines
 EndsBeside gate capacity renews base lines ThreadRefused = Unit {0}
 
--- the cause is one of the lines side by side, after those before
+-- why races of a script fail: as `EndsBeside` says of the lines side by side, in the state after the lines before
 abbrev pub EndsRuns : (ℕ → ℕ → Bool → Type 0) → ℕ → Bool → List ℕ → ScriptFault → Type 0
 EndsRuns gate capacity renews script fault =
     EndsBeside gate capacity renews (told_state no_state (parts_of (script_read script)).before)
     (parts_of (script_read script)).beside fault
 
--- all statements of runs were answered, and they added more entries than there is room for
+-- all statements of runs were answered, and added more entries than there is room for; the race doesn't renew its store
 pub record IsOverlong (gate : ℕ → ℕ → Bool → Type 0) (capacity : ℕ) (renews : Bool) (from : ℕ)
     (runs : List LongRun) : Type 0 where
   pub outcome : LongOutcome
@@ -137,7 +139,8 @@ pub record IsOverlong (gate : ℕ → ℕ → Bool → Type 0) (capacity : ℕ) 
   pub limited : renews ≡ false
   pub more : capacity < length outcome.history.items
 
--- why a race of runs fails
+-- why a race of runs fails: `Full` since they add more than there is room for, `GateShut` since a run stopped. Nothing
+-- is said of the other faults
 abbrev pub EndsLong : (ℕ → ℕ → Bool → Type 0) → ℕ → Bool → ℕ → List LongRun → ScriptFault → Type 0
 EndsLong gate capacity renews from runs Read = Unit {0}
 EndsLong gate capacity renews from runs TooLong = Unit {0}
@@ -148,6 +151,7 @@ EndsLong gate capacity renews from runs GateShut =
     (session : ℕ) × (line : ℕ) × IsBlamed gate runs (race.GateShut session line)
 EndsLong gate capacity renews from runs ThreadRefused = Unit {0}
 
--- a gate that is always open stops nobody, and one line has room
+-- a fault that a race of one line has at a gate that is always open: no memory or no thread. Such a gate stops nobody,
+-- and one line always has room
 abbrev pub IsOfOpen : ScriptFault → Type 0
 IsOfOpen fault = (fault ≡ NoMemory) ⊎ (fault ≡ ThreadRefused)

@@ -16,6 +16,7 @@
 --     seen_by_last    what the last of some sessions has seen
 --     Settles         the sessions have met, and the history is put together
 --     IsLongOutcome   what a race over a store without an end gives
+--     IsBlamed        one of the runs stopped with a fault
 --     BlamesLong      why such a race fails
 use Rattle.std.specs.Prelude.{◌≡◌, ◌<◌, ◌≤◌, ◌++◌, [], ◌∷◌, ℕ, Bool, true, false, Option, Some, None, Result, Ok, Err}
 use Rattle.std.specs.Prelude.{List, length, map, drop, slice_get}
@@ -51,14 +52,16 @@ pub record IsAddedBy (history : List Entry) (session : ℕ) (added : Added) : Ty
   pub at : slice_get history added.place ≡ Some added.entry
   pub own : added.entry.session ≡ session
 
--- the gate can have let the session go on, and the session has failed for want of memory
+-- the gate can have let the session go on, and the session has failed for want of memory. `place` is the line, counted
+-- from 0 in the session's own statements
 pub record WantsMemory (gate : ℕ → ℕ → Bool → Type 0) (place : ℕ) (statement : Statement)
     (old new : EndlessSession) : Type 0 where
   pub opened : gate (known_in old).number place true
   pub failed : HasFailed old.store.value.log statement NoMoreMemory new.member.replica old.member.pass new.member.pass
 
--- the fault names the session and the statement that isn't answered; the gate stopped the run, or there is no memory.
--- No history is full
+-- the gate stopped the run, and the fault names the session and the statement that isn't answered; or there is no
+-- memory. No history is full, and no statement needs a thread. `place` is the line, counted from 0 in the session's own
+-- statements
 abbrev pub HaltsAt : (ℕ → ℕ → Bool → Type 0) → ℕ → Statement → RaceFault → EndlessSession → EndlessSession → Type 0
 HaltsAt gate place statement (GateShut session line) old new =
     (session ≡ (known_in old).number) × (line ≡ place) × IsTurnedAway gate session line (known_in old) (known_in new)
@@ -66,14 +69,16 @@ HaltsAt gate place statement (Full session line) old new = ⊥
 HaltsAt gate place statement NoMemory old new = WantsMemory gate place statement old new
 HaltsAt gate place statement ThreadRefused old new = ⊥
 
--- the statement was answered, or the run stops at it
+-- the statement was answered, or the run stops at it. `place` is the line, counted from 0 in the session's own
+-- statements
 abbrev pub EndsOne : (ℕ → ℕ → Bool → Type 0) → ℕ → Statement → Result Answer RaceFault → EndlessSession → EndlessSession
     → Type 0
 EndsOne gate place statement (Ok answer) old new =
     IsLetIn gate no_state statement place answer (known_in old) (known_in new)
 EndsOne gate place statement (Err fault) old new = HaltsAt gate place statement fault old new
 
--- the answer is noted, and the entry, if the statement was logged
+-- the answer is noted, and at most one entry: the session's own, at its place in what the session has seen. Whether an
+-- entry is noted isn't said. The parameter `place` is the line, counted from 0 in the session's own statements
 pub record SaysOne (gate : ℕ → ℕ → Bool → Type 0) (place : ℕ) (statement : Statement) (old new : EndlessSession)
     (before after : Said) : Type 0 where
   pub answer : Answer
@@ -95,8 +100,9 @@ pub record RunsOut (gate : ℕ → ℕ → Bool → Type 0) (before : Known) (st
   pub opened : gate before.number line true
   pub cause : IsCaused session.store.value.log statement NoMoreMemory session.member.replica session.member.pass
 
--- in all that the session has seen, the statements before the named one were answered, and none after it; the gate can
--- stop it there, or it has no memory
+-- all that the session has seen explains the answers to its statements before the one at which it stops, and has
+-- nothing more of the session. For `GateShut` the fault names that statement, and the gate can stop the session there;
+-- for `NoMemory` see `RunsOut`. There is no other fault
 abbrev pub StopsAt : (ℕ → ℕ → Bool → Type 0) → Known → List Statement → RaceFault → EndlessSession → Type 0
 StopsAt gate before statements (GateShut session line) after =
     IsReachedInRun no_state (known_in after).seen before statements session line × gate session line false
@@ -104,13 +110,14 @@ StopsAt gate before statements (Full session line) after = ⊥
 StopsAt gate before statements NoMemory after = RunsOut gate before statements after
 StopsAt gate before statements ThreadRefused after = ⊥
 
--- all statements were answered, or the run stopped
+-- without a fault, all statements were answered; else the run stopped with the fault
 abbrev pub EndsAt : (ℕ → ℕ → Bool → Type 0) → Known → List Statement → List Answer → Option RaceFault → EndlessSession
     → Type 0
 EndsAt gate before statements answers None after = HasAnswered gate no_state before (known_in after) statements answers
 EndsAt gate before statements answers (Some fault) after = StopsAt gate before statements fault after
 
--- the session ended its run, or stopped; it has added nothing since
+-- the session ended its run, or stopped with the fault; it has added nothing since. The entries that are noted are its
+-- own, each at its place in what it had seen then
 pub record HasRaced (gate : ℕ → ℕ → Bool → Type 0) (old : EndlessSession) (statements : List Statement)
     (raced : Raced) : Type 0 where
   pub store : raced.session.store.value ≡ old.store.value
@@ -144,7 +151,8 @@ pub record IsListed (history : List Entry) (limit : ℕ) (added : Added) : Type 
 abbrev pub seen_by_last : List EndlessSession → List Entry
 seen_by_last sessions = (last_known (map known_in sessions)).seen
 
--- once their threads ended, the sessions have met, and the entries that they added are put together
+-- after their threads have ended, the sessions have met. If each entry that was noted is at its place in what the last
+-- one has seen, the outcome's history is that from the place `from` on
 pub record Settles (from : ℕ) (raced : List Raced) (outcome : LongOutcome) : Type 0 where
   pub taken : All (λ one. IsTakenIn (seen_by_last outcome.sessions.items) (known_in one.session)) raced
   pub keeps : AllZip (λ one session. Keeps one.session session) raced outcome.sessions.items
@@ -155,7 +163,8 @@ pub record Settles (from : ℕ) (raced : List Raced) (outcome : LongOutcome) : T
       → (outcome.history.items ≡ drop from (seen_by_last outcome.sessions.items)) × AllOf limit outcome.history.items
 
 -- one history, from the store's first entry on, explains all answers. From the place `from` on it is what the outcome
--- tells; its entries there are of the runs' sessions
+-- tells; its entries there are of sessions up to the greatest that has a run. All sessions have seen it, and the gate
+-- can let in each statement
 pub record IsLongOutcome (gate : ℕ → ℕ → Bool → Type 0) (from : ℕ) (runs : List LongRun)
     (outcome : LongOutcome) : Type 0 where
   pub whole : List Entry
@@ -170,7 +179,7 @@ pub record IsLongOutcome (gate : ℕ → ℕ → Bool → Type 0) (from : ℕ) (
   pub holds : All (λ session. HoldsAll whole (known_in session)) outcome.sessions.items
   pub opened : All (λ run. LetsIn gate (known_in run.session).number (length run.lines.items)) runs
 
--- a run stopped at a statement
+-- one of the runs stopped with this fault
 pub record IsBlamed (gate : ℕ → ℕ → Bool → Type 0) (runs : List LongRun) (fault : RaceFault) : Type 0 where
   pub index : ℕ
   pub run : LongRun
@@ -178,7 +187,8 @@ pub record IsBlamed (gate : ℕ → ℕ → Bool → Type 0) (runs : List LongRu
   pub session : EndlessSession
   pub stops : StopsAt gate (known_in run.session) run.lines.items fault session
 
--- a fault that names a session is one of a run. No history is full, and a thread is refused only to a run
+-- `GateShut` is the fault of one of the runs. No history is full, memory may be missing anywhere, and a thread is
+-- refused only if there is a run
 abbrev pub BlamesLong : (ℕ → ℕ → Bool → Type 0) → List LongRun → RaceFault → Type 0
 BlamesLong gate runs (GateShut session line) = IsBlamed gate runs (GateShut session line)
 BlamesLong gate runs (Full session line) = ⊥

@@ -50,7 +50,7 @@ AllLetIn gate session [] = Unit {0}
 AllLetIn gate session (statements ∷ lists) = LetsIn gate session (length statements) × AllLetIn gate (session + 1) lists
 
 -- one history, from the first entry of a store with so many rows on, explains all answers, and has entries of these
--- sessions alone
+-- sessions alone. All sessions are of that store, and the gate can let in each statement
 pub record IsLongRace (gate : ℕ → ℕ → Bool → Type 0) (rows : ℕ) (lists : List (List Statement))
     (outcome : LongOutcome) : Type 0 where
   pub store : EndlessStore
@@ -60,14 +60,14 @@ pub record IsLongRace (gate : ℕ → ℕ → Bool → Type 0) (rows : ℕ) (lis
   pub own : AllOf (length lists) outcome.history.items
   pub opened : AllLetIn gate 1 lists
 
--- after the statements before one of a session's were answered, the gate can stop the session
+-- after a session's statements before the one at `line` were answered, the gate can stop the session there
 pub record IsShutIn (gate : ℕ → ℕ → Bool → Type 0) (lists : List (List Statement)) (session line : ℕ) : Type 0 where
   pub index : ℕ
   pub statements : List Statement
   pub found : slice_get lists index ≡ Some statements
   pub shut : IsShutAt gate no_state (newcomer (index + 1)) statements session line
 
--- there is no memory or no thread, or the gate stopped one of the sessions; no history is full
+-- there is no memory, no thread for one of the lists, or the gate can stop one of the sessions; no history is full
 abbrev pub BlamesRace : (ℕ → ℕ → Bool → Type 0) → List (List Statement) → RaceFault → Type 0
 BlamesRace gate lists (GateShut session line) = IsShutIn gate lists session line
 BlamesRace gate lists (Full session line) = ⊥

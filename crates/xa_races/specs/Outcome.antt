@@ -3,13 +3,16 @@
 -- `room` is `Some` number of entries for a race in one log, and `None` for a race over a store without an end, whose
 -- history has any length.
 --     history_text, answers_text   how a history and the answers are printed
+--     AreAsked                     whether statements ask for identifiers in digits
 --     outcome_text                 how an outcome is printed
 --     IsHeld                       what a race of runs in one log gives
 --     AreLists                     the statements of the sessions 1 to the last
 --     IsRacedInLog, IsRacedOn      a text is what is written for a race in one log;  over a store without an end
 --     IsRaced                      one of the two
 --     IsRaceText                   a text is what is written for a script
+--     IsRaceTold                   a text is what is written for lines, by what is written for the faulty ones of them
 --     AppendsRace, AppendsRacePrefix      the writer got that text, or a prefix of it
+--     IsOfText, IsOfRace           a fault before anything is written;  a fault with which a race ends
 --     script_fault_of              the fault that is returned for a race's fault
 --     AfterRaceFault               what a fault leaves in the writer
 use Rattle.std.specs.Prelude.{◌≡◌, ◌≤◌, ◌⊎◌, ℕ, Bool, ◌+◌, Option, Some, None, List, [], ◌∷◌, ◌++◌, length, map, codes}
@@ -53,7 +56,7 @@ abbrev pub placed_text : ℕ → Bool → Answer → List ℕ
 placed_text session convert answer =
     decimal session ++ codes " " ++ decimal answer.place ++ codes " " ++ reply_text convert answer.reply ++ codes "\n"
 
--- a session's answers, each with whether its statement asks for digits
+-- a session's answers, each with whether its statement asks for digits, as far as both lists go
 unfoldable pub session_text : ℕ → List Bool → List Answer → List ℕ
 session_text session (convert ∷ asked) (answer ∷ answers) =
     placed_text session convert answer ++ session_text session asked answers
@@ -74,13 +77,13 @@ abbrev pub outcome_text : List (List ℕ) → List Entry → List (List Answer) 
 outcome_text lines history answers = history_text history ++ answers_text 1 lines answers
 
 -- what a race of runs in one log gives: a history that begins with an empty store, has no more entries than there is
--- room for, only entries of the runs' sessions, and explains all answers
+-- room for, only entries of the sessions 1 to the number of runs, and explains all answers
 pub record IsHeld (capacity : ℕ) (runs : List Run) (outcome : Outcome) : Type 0 where
   pub explained : IsOutcome no_state runs outcome
   pub within : length outcome.history.items ≤ capacity
   pub own : AllOf (length runs) outcome.history.items
 
--- the text of an outcome of a race of the script's runs
+-- the text of an outcome of a race of the script's runs in one log with room for so many entries
 pub record IsRacedInLog (capacity : ℕ) (lines : List (List ℕ)) (text : List ℕ) : Type 0 where
   pub runs : List Run
   pub outcome : Outcome
@@ -148,7 +151,8 @@ IsOfText room script ThreadRefused = IsReadable script
 IsOfText (Some capacity) script Full = IsReadable script
 IsOfText room script fault = ⊥
 
--- what a fault leaves in the writer: a prefix of the text if a write failed, else nothing
+-- what a fault leaves in the writer: a prefix of the text if a write failed, else nothing. After `GateShut`,
+-- `ThreadRefused` and `Full` no line is faulty; only a race in one log returns `Full`
 abbrev pub AfterRaceFault : Option ℕ → ScriptFault → Option (List ℕ) → Option (List ℕ) → Option (List ℕ) → Type 0
 AfterRaceFault room Write input old new = IfSome input (λ script. AppendsRacePrefix room script old new)
 AfterRaceFault room GateShut input old new = Keeps old new × IfSome input IsReadable
@@ -157,7 +161,7 @@ AfterRaceFault (Some capacity) Full input old new = Keeps old new × IfSome inpu
 AfterRaceFault None Full input old new = ⊥
 AfterRaceFault room fault input old new = Keeps old new
 
--- a fault with which a race ends
+-- a fault with which a race ends; `Full` only in one log
 abbrev pub IsOfRace : Option ℕ → ScriptFault → Type 0
 IsOfRace (Some capacity) fault = (fault ≡ NoMemory) ⊎ (fault ≡ Full) ⊎ (fault ≡ GateShut) ⊎ (fault ≡ ThreadRefused)
 IsOfRace None fault = (fault ≡ NoMemory) ⊎ (fault ≡ GateShut) ⊎ (fault ≡ ThreadRefused)

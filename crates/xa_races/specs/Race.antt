@@ -4,7 +4,7 @@
 --     last_session                 the greatest session that a line names
 --     statements_of                the statements that a session gives
 --     part_at, Gains               the list at a place;  lists of which each gets one item more, or none
---     IsGiven, TakesLine, HasRead  lists are what the sessions give;  a line is read;  a script is read
+--     IsGiven, TakesLine, HasRead  lists are what the sessions give;  what reading a line adds;  a script is read
 --     IsRun, AreRuns               a session's run;  the runs of the sessions 1 to the last
 use Rattle.std.specs.Prelude.{◌≡◌, ℕ, zero, suc, map, ◌+◌, max, ◌==◌, cond, Option, Some, None, Result, Ok, Err, List}
 use Rattle.std.specs.Prelude.{[], ◌∷◌, ◌++◌, length, codes, decimal}
@@ -82,7 +82,8 @@ Gains given old new = (index : ℕ) → part_at new index ≡ part_at old index 
 abbrev pub IsGiven : List (List ℕ) → List (List Statement) → Type 0
 IsGiven lines lists = (index : ℕ) → part_at lists index ≡ statements_of (index + 1) lines
 
--- the line of this number is read
+-- what reading the line of this number adds: the text of its fault, its session to the greatest, and its statement to
+-- its session's list
 pub record TakesLine (number : ℕ) (line : Line) (old new : RaceScript) : Type 0 where
   pub faults : new.faults.items ≡ old.faults.items ++ fault_text number (fault_place line)
   pub greatest : new.greatest ≡ max old.greatest (session_in line)

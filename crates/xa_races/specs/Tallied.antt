@@ -6,7 +6,8 @@
 --     AreFirst           the list before the first race
 --     IsCounted          races were counted
 --     tallies_text       what is written for a list
---     counted_head, counted_text     the same, and how many of the list came;  and whether these are all outcomes
+--     counted_head, counted_text     the same, and how many of the list came;  and how many outcomes there are, if
+--                                    the list has all
 use Rattle.std.specs.Prelude.{◌≡◌, ℕ, ◌+◌, nat_eq, nat_lt, cond, Bool, true, false, List, [], ◌∷◌, ◌++◌, length, map}
 use Rattle.std.specs.Prelude.{count_by, codes, decimal}
 use Rattle.std.specs.List.{All, Contains}
@@ -42,7 +43,7 @@ AreFirst parts true tallies =
 AreFirst parts false tallies = IsWide parts.beside (base_of parts) ways_limit × (tallies ≡ [])
 
 -- races of the parts, which gave these texts, were counted. If all texts that came were listed before, none is added;
--- an empty list gets only what came, ascending
+-- if the list was ascending, it still is; if it was empty, it has only what came
 pub record IsCounted (parts : Parts) (runs : ℕ) (came : List (List ℕ)) (old new : List CameTally) : Type 0 where
   pub raced : HaveCome parts runs came
   pub tallied : Tallied came new
@@ -60,7 +61,7 @@ abbrev pub counted_head : List CameTally → List ℕ
 counted_head tallies =
     tallies_text 1 tallies ++ codes "SEEN " ++ decimal (count_by (λ one. nat_lt 0 one.came) tallies)
 
--- the same, and how many outcomes there are, if the list has all of them
+-- what `counted_head` gives, and how many outcomes there are, if the list has all of them
 abbrev pub counted_text : (known : Bool) → List CameTally → List ℕ
 counted_text true tallies = counted_head tallies ++ codes " OF " ++ decimal (length tallies) ++ codes " OUTCOMES\n"
 counted_text false tallies = counted_head tallies ++ codes "\n"

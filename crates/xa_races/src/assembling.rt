@@ -10,7 +10,7 @@ use std::alloc::{AllocError, Global};
 use xa_words::Entry;
 use xa_xid::NoMemory;
 
-/// So many places without an entry.
+/// A list of `count` places without an entry.
 fn empty_places(alloc: Global, count: u64) -> Result<Vec<Option<Entry>>, NoMemory>
     ensures count { IfOk result (λ places. length places.items ≡ count) }
     ensures empty { IfOk result (λ places. All (λ place. place ≡ None) places.items) }
@@ -32,7 +32,7 @@ fn place_each(places: &mut Vec<Option<Entry>>, from: u64, added: Vec<Added>)
 {
     for one in added {
         let Added { place, entry } = one;
-        // Every entry of the race lies there. That isn't known here.
+        // Every entry of the race has one of these places. That isn't known here, so another one would be left out.
         if place >= from && place - from < places.len() as u64 {
             places[(place - from) as usize] = Some(entry);
         }
@@ -52,14 +52,14 @@ fn place_all(places: &mut Vec<Option<Entry>>, from: u64, lists: Vec<Vec<Added>>)
     }
 }
 
-/// The entries of all places, each of which must have one.
+/// The entries of all places. Each place must have one; `NoMemory` is also returned if one has none.
 fn entries_at(alloc: Global, places: Vec<Option<Entry>>) -> Result<Vec<Entry>, NoMemory>
     ensures { IfOk result (λ entries. map Some entries.items ≡ places.items) }
 {
     let mut entries = Vec::new(alloc);
     for place in places {
-        // Each entry of a history is one session's own, so each place has one. That the spares of a ring add none isn't
-        // known here.
+        // Each entry of a history was added by a session, so each place has one. That isn't known here: a ring's
+        // spares are passes too, and nothing says that they add none.
         let Some(entry) = place else {
             return Err(AllocError);
         };
@@ -68,9 +68,10 @@ fn entries_at(alloc: Global, places: Vec<Option<Entry>>) -> Result<Vec<Entry>, N
     Ok(entries)
 }
 
-/// The last entries of a history of `count`, from the place `from` on: those that its sessions have added.
+/// The entries of a history of `count` entries from the place `from` on. `lists` has what each session has added
+/// there.
 ///
-/// May return `NoMemory`.
+/// May return `NoMemory`; it would also be returned if a place had no entry.
 pub(crate) fn assembled(
     alloc: Global,
     from: u64,
@@ -82,7 +83,7 @@ pub(crate) fn assembled(
         → All (λ added. All (IsWithin list limit from) added.items) lists.items
         → IfOk result (λ entries. (entries.items ≡ list) × AllOf limit entries.items) }
 {
-    // The history doesn't get shorter. That isn't known here.
+    // A history doesn't get shorter, so `count` isn't below `from`. That isn't known here; it would give no entries.
     let mut places = empty_places(alloc, count.saturating_sub(from))?;
     place_all(&mut places, from, lists);
     entries_at(alloc, places)

@@ -8,7 +8,7 @@ use std::alloc::Global;
 use xa_lines::push_number;
 use xa_xid::NoMemory;
 
-/// Appends the outcome of this number, if it came.
+/// Appends the outcome of this number, with how often it came; nothing if it didn't come.
 fn push_came(text: &mut Vec<u8>, number: u64, one: &CameTally) -> Result<(), NoMemory>
     ensures { OnOk result (text.new.items ≡ text.old.items ++ came_text number one.now.came one.now.text.items) }
 {
@@ -24,7 +24,8 @@ fn push_came(text: &mut Vec<u8>, number: u64, one: &CameTally) -> Result<(), NoM
     text.extend_from_slice(one.text.as_slice())
 }
 
-/// Appends the outcomes that came, of a list whose first has number 1.
+/// Appends the outcomes of the list that came. The first of the list has number 1; those that didn't come are numbered,
+/// too.
 fn push_all(text: &mut Vec<u8>, tallies: &[CameTally]) -> Result<(), NoMemory>
     ensures { OnOk result (text.new.items ≡ text.old.items ++ tallies_text 1 tallies.now) }
 {
@@ -41,7 +42,7 @@ fn count_seen(tallies: &[CameTally]) -> u64
     tallies.iter().filter(|one| 0 < one.came).count() as u64
 }
 
-/// Appends the outcomes that came, and how many of the list did.
+/// Appends the outcomes that came, and how many of the list did, without the line's end.
 fn push_seen(text: &mut Vec<u8>, tallies: &[CameTally]) -> Result<(), NoMemory>
     ensures { OnOk result
         (text.new.items ≡ ((text.old.items ++ tallies_text 1 tallies.now) ++ codes "SEEN ")
@@ -74,7 +75,8 @@ fn seen_of_some(alloc: Global, tallies: &[CameTally]) -> Result<Vec<u8>, NoMemor
     Ok(text)
 }
 
-/// Returns what is written for races that were counted, by whether the list has all outcomes.
+/// Returns what is written for races that were counted: the outcomes that came, and how many these are. If `is_known`,
+/// the list has all outcomes of the script, and how many it has is written, too.
 ///
 /// May return `NoMemory`.
 pub fn seen_of(alloc: Global, tallies: &[CameTally], is_known: bool) -> Result<Vec<u8>, NoMemory>

@@ -23,7 +23,7 @@ use xa_orders::Line;
 use xa_store::{Gate, OpenGate};
 use xa_xid::NoMemory;
 
-/// The runs of all sessions of a store, each with the statements that it gives on these lines.
+/// The runs of all sessions of a store, in order, each with the statements that it gives on these lines.
 fn all_runs(
     alloc: Global,
     sessions: Vec<EndlessSession>,
@@ -39,7 +39,9 @@ fn all_runs(
 /// Races lines of several sessions. Returns the store after them, and what is written for them in their
 /// order.
 ///
-/// If `renews` is false, the lines have room for `capacity` entries. May return `NoMemory`. Waits for its threads.
+/// If `renews` is false, the lines have room for `capacity` entries, else for any number. Each session asks `gate`
+/// before each of its lines. Errors: `NoMemory`, `GateShut` and `ThreadRefused`, as the race returns them; `Full` if
+/// the lines add more entries than there is room for. May return `NoMemory`. Waits for its threads.
 pub fn race_lines<G: Gate + Sync, R: Threads + Wait + Sync>(
     rt: &R,
     alloc: Global,
@@ -60,9 +62,11 @@ pub fn race_lines<G: Gate + Sync, R: Threads + Wait + Sync>(
     ensures cause { IfErr result (EndsBeside (G.may_answer gate.now) capacity renews (base_of opened) lines.now) }
 {
     let Opened { store, sessions } = opened;
+    // Entries that are there already aren't the race's: its history begins here.
     let from = count_seen(sessions.as_slice());
     let runs = all_runs(alloc, sessions, lines)?;
     let outcome = race_runs(rt, alloc, &store, from, runs, capacity, renews, gate)?;
+    // `race_runs` has compared the history's length with `capacity`; nothing else needs the history.
     let LongOutcome {
         history: _,
         answers,
@@ -75,7 +79,9 @@ pub fn race_lines<G: Gate + Sync, R: Threads + Wait + Sync>(
 /// Has the sessions carry lines out one after another, and appends what is written for them. Returns the
 /// store after them.
 ///
-/// One line adds at most one entry, for which there is always room. May return `NoMemory`. Waits for its threads.
+/// One line adds at most one entry, for which there is always room.
+/// Errors: `NoMemory` and `ThreadRefused`, as the race of a line returns them. `text` may then have the first answers.
+/// May return `NoMemory`. Waits for its threads.
 pub fn race_each<R: Threads + Wait + Sync>(
     rt: &R,
     alloc: Global,
@@ -93,6 +99,8 @@ pub fn race_each<R: Threads + Wait + Sync>(
 {
     for place in 0..lines.len() {
         let one = &lines[place..place + 1];
+        // A single line needs no limit: it adds at most one entry. So `renews` is true, and the 1 isn't looked at. The
+        // gate of the races is asked only before lines side by side.
         let raced = race_lines(rt, alloc, opened, one, 1, true, &OpenGate)?;
         let (behind, answer) = raced;
         text.extend_from_slice(answer.as_slice())?;

@@ -31,13 +31,14 @@ pub struct Opened {
     ghost holds: { All (λ session. HoldsAll (seen_by_last sessions.items) (known_in session)) sessions.items },
 }
 
-/// The session of this number, of a new store.
+/// The session of this number, of a new store that has such a session. May return `NoMemory`.
 fn enter(store: &Arc<EndlessStore>, number: u64) -> Result<EndlessSession, NoMemory>
     ensures mine { IfOk result (λ session. session.store.value ≡ store.now.value) }
     ensures number { IfOk result (λ session. (known_in session).number ≡ number) }
     ensures seen { IfOk result (λ session. (known_in session).seen ≡ []) }
     ensures none { IfOk result (λ session. (known_in session).mine ≡ []) }
 {
+    // Nobody has a session of a new store, so only memory can be missing.
     let Ok(session) = EndlessStore::take(store, number) else {
         return Err(AllocError);
     };
@@ -69,7 +70,7 @@ fn enter_all(
 }
 
 impl Opened {
-    /// Opens a store for `sessions` sessions, whose ring has `rows` rows.
+    /// Opens a store for `sessions` sessions, in `[1, 16]`, whose ring has `rows` rows, in `[1, 65536]`.
     ///
     /// May return `NoMemory`.
     pub fn new(alloc: Global, rows: u64, sessions: u64) -> Result<Opened, NoMemory>
@@ -79,6 +80,7 @@ impl Opened {
         ensures sessions { IfOk result (λ opened. length opened.sessions.items ≡ sessions) }
         ensures rows { IfOk result (λ opened. opened.store.value.log.rows ≡ rows) }
     {
+        // The sizes are in their ranges, so only memory can be missing.
         let Ok(store) = EndlessStore::open(alloc, rows, sessions) else {
             return Err(AllocError);
         };

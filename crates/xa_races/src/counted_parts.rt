@@ -1,4 +1,4 @@
-//! Races the parts of a script once.
+//! Races the parts of a script once, and notes what each race came to.
 ghost use Rattle.std.specs.Prelude.{◌≡◌, ◌≤◌, ◌++◌, [], ◌∷◌, OnOk, IfOk, IfErr};
 ghost use Rattle.decision_log.specs.Opens.{IsCapacity, IsCount};
 ghost use Rattle.xa_orders.specs.Scripts.{parts_of};
@@ -42,7 +42,7 @@ impl Course {
         }
     }
 
-    /// Notes that a race was held, and what it came to.
+    /// Notes that a race was held, and what all lines were answered in it.
     fn note(&mut self, text: &Vec<u8>) -> Result<(), NoMemory>
         ensures { OnOk result (held_in self.new ≡ held_in self.old ++ text.now.items ∷ []) }
     {
@@ -51,7 +51,7 @@ impl Course {
     }
 }
 
-/// How many sessions a store for the script needs.
+/// How many sessions a store for the script needs: as many as the greatest number that a line names, at least one.
 fn sessions_of(script: &Script<'_>) -> u64
     ensures count { IsCount result }
     ensures before { AreWithin result script.now.before.items }
@@ -66,7 +66,9 @@ fn sessions_of(script: &Script<'_>) -> u64
 /// Races the script once, in a store of its own, and writes what all lines are answered into an empty text.
 ///
 /// The lines before are carried out one after another, then the lines side by side race, each session on its
-/// own thread, then the later lines are carried out one after another.
+/// own thread, then the later lines are carried out one after another. The store's ring has `capacity` rows. If
+/// `renews` is false, the lines side by side have room for `capacity` entries, else for any number. Errors and gate: as
+/// for `race_parts`; after an error `text` may have the first answers.
 fn race_into<G: Gate + Sync, R: Threads + Wait + Sync>(
     rt: &R,
     alloc: Global,
@@ -95,12 +97,15 @@ fn race_into<G: Gate + Sync, R: Threads + Wait + Sync>(
     text.extend_from_slice(answers.as_slice())?;
     let later = script.later.as_slice();
     let last = race_each(rt, alloc, behind, later, text)?;
+    // The text is whole, and the store isn't needed any more.
     drop(last);
     Ok(())
 }
 
 /// Races the script once, and returns what all lines are answered. Notes it in the course.
 ///
+/// The store's ring has `capacity` rows, in `[1, 1024]`. If `renews` is false, the lines side by side have room for
+/// `capacity` entries, else for any number. Only for these lines `gate` is asked.
 /// Errors: `NoMemory`, `GateShut` and `ThreadRefused`, and if the race doesn't renew its store `Full`, as the
 /// race returns them.
 /// May return `NoMemory`. Waits for its threads.

@@ -1,4 +1,4 @@
-//! The statements that sessions give on lines.
+//! The statements that sessions give on lines, and the greatest session of lines.
 ghost use Rattle.std.specs.Prelude.{◌≡◌, ◌<◌, ◌≤◌, ◌+◌, ◌++◌, ℕ, length, map, IfOk, OnOk};
 ghost use Rattle.std.specs.Option.{option_to_list};
 ghost use Rattle.xa_statement.specs.Reading.{read_of};
@@ -10,7 +10,7 @@ use xa_orders::Line;
 use xa_statement::read_statement;
 use xa_xid::{NoMemory, Statement};
 
-/// Adds the statement of this text, if it is read.
+/// Adds the statement of this text; nothing if the text isn't read as one.
 fn push_read(statements: &mut Vec<Statement>, text: &[u8]) -> Result<(), NoMemory>
     ensures { OnOk result (statements.new.items ≡ statements.old.items
         ++ option_to_list (statement_in (read_of text.now))) }
@@ -24,7 +24,7 @@ fn push_read(statements: &mut Vec<Statement>, text: &[u8]) -> Result<(), NoMemor
     }
 }
 
-/// Adds the statement of this line, if the session gives it.
+/// Adds the statement of this line; nothing if another session gives it, or if its text isn't read as a statement.
 fn push_given(
     statements: &mut Vec<Statement>,
     line: &Line<'_>,
@@ -40,7 +40,7 @@ fn push_given(
     }
 }
 
-/// The statements that the session of this number gives, in order.
+/// The statements that the session of this number gives, in order. A line whose text isn't read as one is left out.
 fn statements_by(
     alloc: Global,
     lines: &[Line<'_>],
@@ -55,7 +55,8 @@ fn statements_by(
     Ok(statements)
 }
 
-/// Returns the statements of each of the sessions 1 to `count`, in order.
+/// Returns the statements of each of the sessions 1 to `count`, in order. Lines of greater sessions, and those whose
+/// text isn't read as a statement, are left out.
 ///
 /// May return `NoMemory`.
 pub fn lists_of(

@@ -24,7 +24,7 @@ use xa_lines::ScriptFault;
 use xa_store::{Gate, Pass, Run, Store, race};
 use xa_xid::{NoMemory, Statement};
 
-/// The runs of these passes, each with its list of statements.
+/// The runs of these passes, each with its list of statements. Lists without a pass are left out.
 fn runs_of(
     alloc: Global,
     passes: Vec<Pass>,
@@ -39,7 +39,8 @@ fn runs_of(
     Ok(runs)
 }
 
-/// A new store with room for `capacity` entries, and the runs of the sessions 1 to `greatest`.
+/// A new store with room for `capacity` entries, and the runs of the sessions 1 to `greatest`, each with its list of
+/// statements: the first list is that of session 1.
 fn entered(
     alloc: Global,
     greatest: u64,
@@ -57,16 +58,19 @@ fn entered(
         (λ both. (lines : List (List ℕ)) → greatest ≡ last_session lines
         → IsGiven lines (map (λ list. list.items) lists.items) → AreRuns lines both.1.items) }
 {
-    // A store has at least one session, also if the script names none. Its sizes are in their ranges.
+    // A store has at least one session, also if the script names none. Its sizes are in their ranges, so only memory
+    // can be missing.
     let Ok((store, mut passes)) = Store::open(alloc, capacity, greatest.max(1)) else {
         return Err(AllocError);
     };
+    // The session of a store whose script names none has no run.
     passes.truncate(greatest as usize);
     let runs = runs_of(alloc, passes, lists)?;
     Ok((store, runs))
 }
 
-/// Holds a race of the sessions 1 to `greatest` in one log of their own, and gives the text of its outcome.
+/// Holds a race of the sessions 1 to `greatest` in one log of their own with room for `capacity` entries, and gives the
+/// text of its outcome. `lists` has the statements of each of the sessions 1 to 16. Faults of the race are returned.
 fn hold_in_log<G: Gate + Sync, R: Threads + Wait + Sync>(
     rt: &R,
     alloc: Global,
@@ -92,6 +96,7 @@ fn hold_in_log<G: Gate + Sync, R: Threads + Wait + Sync>(
         → IsGiven lines (map (λ list. list.items) lists.items)
         → IfErr result (IsCaused (EndsInLog (G.may_answer gate.now) capacity lines)) }
 {
+    // This comes first, since the lists move into the runs.
     let asked = asked_of(alloc, lists.as_slice())?;
     let both = entered(alloc, greatest, lists, capacity)?;
     let (store, runs) = both;
@@ -106,8 +111,9 @@ fn hold_in_log<G: Gate + Sync, R: Threads + Wait + Sync>(
     }
 }
 
-/// Holds a race of the sessions 1 to `greatest` over a store of their own without an end, and gives the text of its
-/// outcome.
+/// Holds a race of the sessions 1 to `greatest` over a store of their own without an end, whose ring has `rows` rows,
+/// and gives the text of its outcome. `lists` has the statements of each of the sessions 1 to 16. Faults of the race
+/// are returned.
 fn hold_endless<G: Gate + Sync, R: Threads + Wait + Sync>(
     rt: &R,
     alloc: Global,
@@ -133,7 +139,9 @@ fn hold_endless<G: Gate + Sync, R: Threads + Wait + Sync>(
         → IsGiven lines (map (λ list. list.items) lists.items)
         → IfErr result (IsCaused (EndsEndless (G.may_answer gate.now) lines)) }
 {
+    // This comes first, since the lists move into the race.
     let asked = asked_of(alloc, lists.as_slice())?;
+    // The lists of the sessions above `greatest` are empty, so these sessions aren't needed.
     lists.truncate(greatest as usize);
     match hold_long_race(rt, alloc, rows, lists, gate) {
         Ok(outcome) => {
@@ -148,8 +156,8 @@ fn hold_endless<G: Gate + Sync, R: Threads + Wait + Sync>(
 
 /// Gives what is written for a script: its faulty lines, or the outcome of a race of its sessions in one log.
 ///
-/// `capacity` is the number of entries for which the log has room, in `[1, 1024]`. If a line is faulty, no race is
-/// held.
+/// `script` has at most 1,048,576 bytes. `capacity` is the number of entries for which the log has room, in
+/// `[1, 1024]`. Each session asks `gate` before each of its statements. If a line is faulty, no race is held.
 /// Errors: `NoMemory` if an allocation failed. Only if no line is faulty: `GateShut`, `Full` and `ThreadRefused`, as
 /// the race returns them. May return `NoMemory`. Waits for its threads.
 /// Own rule: docs/COMMANDS.md#race.

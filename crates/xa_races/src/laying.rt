@@ -25,7 +25,7 @@ fn rank_in(lines: &[Line<'_>], session: SessionNo) -> usize
         .count()
 }
 
-/// The list at a place, or an empty one.
+/// The list at a place; an empty one if there is none.
 fn list_of(answers: &[Vec<Answer>], index: usize) -> &[Answer]
     ensures { result.now ≡ list_at (map (λ list. list.items) answers.now) index }
 {
@@ -35,7 +35,7 @@ fn list_of(answers: &[Vec<Answer>], index: usize) -> &[Answer]
     }
 }
 
-/// Whether the statement of this text asks for identifiers in digits.
+/// Whether the statement of this text asks for identifiers in digits; false if the text isn't read as a statement.
 fn converts_in(text: &[u8]) -> bool
     ensures { result ≡ converts_of (read_of text.now) }
 {
@@ -60,7 +60,7 @@ fn push_answer(
     text.extend_from_slice(b"\n")
 }
 
-/// Appends the answer at this place of the session's answers, if there is one.
+/// Appends the answer at the place `rank` of the session's answers, if there is one.
 fn push_line(
     alloc: Global,
     text: &mut Vec<u8>,
@@ -76,7 +76,8 @@ fn push_line(
     }
 }
 
-/// Returns what is written for the lines, in their order, if each session got these answers.
+/// Returns what is written for the lines, in their order, if each session got these answers. `answers` has a list for
+/// each session, that of session 1 first. Nothing is written for a line without an answer there.
 ///
 /// May return `NoMemory`.
 pub fn laid_text(
@@ -91,6 +92,7 @@ pub fn laid_text(
     for place in 0..lines.len() {
         let line = &lines[place];
         let session = line.session();
+        // A session's answers are in the order of its lines, so this one comes after those to its lines before.
         let rank = rank_in(&lines[..place], session);
         let own = list_of(answers, (session.get() - 1) as usize);
         push_line(alloc, &mut text, line, own, rank)?;

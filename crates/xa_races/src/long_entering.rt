@@ -8,10 +8,11 @@ use std::sync::Arc;
 use xa_endless::EndlessStore;
 use xa_xid::{NoMemory, Statement};
 
-/// The run of the session of this number.
+/// The run of the session of this number, of a new store that has such a session. May return `NoMemory`.
 fn enter(store: &Arc<EndlessStore>, number: u64, lines: Vec<Statement>) -> Result<LongRun, NoMemory>
     ensures { IfOk result (IsNewRun store.now.value number lines.items) }
 {
+    // Nobody has a session of a new store, so only memory can be missing.
     let Ok(session) = EndlessStore::take(store, number) else {
         return Err(AllocError);
     };
@@ -22,7 +23,8 @@ fn enter(store: &Arc<EndlessStore>, number: u64, lines: Vec<Statement>) -> Resul
     Ok(LongRun { session, lines })
 }
 
-/// The runs of the sessions from 1 on, each with its list of statements.
+/// The runs of the sessions from 1 on, each with its list of statements. The store is new, and has at least as many
+/// sessions as there are lists; otherwise `NoMemory` may be returned, too.
 pub(crate) fn enter_all(
     alloc: Global,
     store: &Arc<EndlessStore>,

@@ -71,7 +71,9 @@ pub fn count_seen(sessions: &[EndlessSession]) -> u64
     sessions[sessions.len() - 1].seen()
 }
 
-/// Has the sessions meet, after their threads have ended, and puts the history together.
+/// Has the sessions meet, after their threads have ended, and puts the history from the place `from` on together.
+///
+/// May return `NoMemory`; it is also returned if others added entries there.
 fn settle(alloc: Global, from: u64, raced: Vec<Raced>) -> Result<LongOutcome, NoMemory>
     requires { AreOfOne (map (λ one. one.session) raced.items) }
     ensures { IfOk result (Settles from raced.items) }
@@ -82,6 +84,7 @@ fn settle(alloc: Global, from: u64, raced: Vec<Raced>) -> Result<LongOutcome, No
         answers,
         added,
     } = parts;
+    // Only after they have met has the last of them seen the whole history.
     gather(&mut sessions);
     let count = count_seen(sessions.as_slice());
     let history = assembled(alloc, from, count, added)?;
@@ -92,7 +95,7 @@ fn settle(alloc: Global, from: u64, raced: Vec<Raced>) -> Result<LongOutcome, No
     })
 }
 
-/// How many runs have a statement.
+/// How many runs have a statement. A gate at which sessions wait for each other waits for no others.
 fn count_speakers(runs: &[LongRun]) -> u64 {
     runs.iter().filter(|run| !run.lines.is_empty()).count() as u64
 }
@@ -101,9 +104,9 @@ fn count_speakers(runs: &[LongRun]) -> u64 {
 ///
 /// The runs are of sessions of this store. `from` is how many entries its history has; nobody else may add to it
 /// meanwhile. Each run executes its statements in order, and asks the gate before each. Errors: `GateShut` if the gate
-/// stopped a run, `NoMemory` if an allocation failed, `ThreadRefused` if a run's thread couldn't be started. Of several
-/// the fault of the lowest session is returned; `NoMemory` outside of the runs only if no run has a fault. A history is
-/// never full. After an error the sessions are dropped. The other runs went on.
+/// stopped a run, `NoMemory` if an allocation failed, `ThreadRefused` if a run's thread couldn't be started. A refused
+/// thread, or memory that was missing outside of the runs, comes first; else the fault of the first run in the list
+/// that has one is returned. A history is never full. After an error the sessions are dropped. The other runs went on.
 /// May return `NoMemory`. Waits for its threads, which may wait: no number of tries is promised.
 /// Own rule: docs/RATTLE.md#races-without-an-end.
 pub fn race_on<G: Gate + Sync, R: Threads + Wait + Sync>(
@@ -127,6 +130,8 @@ pub fn race_on<G: Gate + Sync, R: Threads + Wait + Sync>(
     //   returned, and `ThreadRefused` only if there is a run.
     ensures fault { IfErr result (BlamesLong (G.may_answer gate.now) runs.items) }
 {
+    // `store` is only for the contract: the sessions have it.
+    // The gate is told before any thread starts, as sessions may wait there for each other.
     gate.announce(count_speakers(runs.as_slice()));
     let racers = line_up(alloc, runs, gate)?;
     let raced = run_all(rt, alloc, racers)?;
@@ -161,7 +166,8 @@ pub fn hold_long_race<G: Gate + Sync, R: Threads + Wait + Sync>(
     // Proved (races, long-fault)
     ensures fault { IfErr result (BlamesRace (G.may_answer gate.now) (map (λ list. list.items) lists.items)) }
 {
-    // A store has at least one session, also if there is no list. Its sizes are in their ranges.
+    // A store has at least one session, also if there is no list. Its sizes are in their ranges, so only memory can be
+    // missing.
     let Ok(store) = EndlessStore::open(alloc, rows, (lists.len() as u64).max(1)) else {
         return Err(RaceFault::NoMemory);
     };

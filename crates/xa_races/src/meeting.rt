@@ -46,8 +46,9 @@ fn tell_each(others: &mut Vec<EndlessSession>, last: &mut EndlessSession)
 
 /// Has all sessions meet. What the last of them has seen then is the history that all of them have.
 ///
-/// They meet it twice. After the first time it has seen the most, so the second adds nothing to that, and what is known
-/// of the others' entries is known of one and the same history. Then it tells the others what it has seen.
+/// The others meet the last one twice. After the first time it has seen the most, so the second adds nothing to that,
+/// and what is known of the others' entries is known of one and the same history. Then it tells the others what it has
+/// seen.
 pub(crate) fn gather(sessions: &mut Vec<EndlessSession>)
     requires { AreOfOne sessions.old.items }
     ensures keeps { AllZip Keeps sessions.old.items sessions.new.items }
@@ -56,6 +57,7 @@ pub(crate) fn gather(sessions: &mut Vec<EndlessSession>)
     ensures holds { All (λ session. HoldsAll (last_known (map known_in sessions.new.items)).seen
         (known_in session)) sessions.new.items }
 {
+    // Without a session there is none that the others could meet.
     if sessions.is_empty() {
         return;
     }
@@ -63,5 +65,6 @@ pub(crate) fn gather(sessions: &mut Vec<EndlessSession>)
     meet_each(sessions, &mut last);
     meet_each(sessions, &mut last);
     tell_each(sessions, &mut last);
+    // It was taken from there, so there is room for it.
     sessions.push_reserved(last);
 }

@@ -53,7 +53,7 @@ pub(crate) fn part(alloc: Global, raced: Vec<Raced>) -> Result<Parts, NoMemory>
     })
 }
 
-/// The fault of the lowest session that has one.
+/// The fault of the first in the list that has one. None if none has.
 pub(crate) fn first_fault(raced: &[Raced]) -> Option<RaceFault>
     ensures none { result ≡ None → All (λ one. one.fault ≡ None) raced.now }
     ensures some { IfSome result (λ fault. (one : RacedValue) × (place : _) × (slice_get raced.now place ≡ Some one)

@@ -11,7 +11,7 @@ use xa_lines::{ScriptLine, push_number, push_syntax_fault, read_line, split_line
 use xa_statement::read_statement;
 use xa_xid::{NoMemory, SessionNo, Statement};
 
-/// Sixteen empty lists.
+/// Sixteen empty lists, one for each session that a script can name.
 fn empty_lists(alloc: Global) -> Result<Vec<Vec<Statement>>, NoMemory>
     ensures count { IfOk result (λ lists. vec_len lists ≡ 16) }
     ensures empty { IfOk result (λ lists. (index : ℕ) → part_at (map (λ list. list.items) lists.items) index ≡ []) }
@@ -36,7 +36,8 @@ fn no_lines(alloc: Global) -> Result<RaceScript, NoMemory>
     })
 }
 
-/// Appends what is written for the faulty line of this number.
+/// Appends what is written for the faulty line of this number. `place` is the byte of its statement at which that goes
+/// wrong, from 0; it is 0 if the line has no statement.
 fn push_fault(text: &mut Vec<u8>, number: u64, place: u64) -> Result<(), NoMemory>
     ensures { OnOk result (text.new.items ≡ text.old.items ++ fault_text number (Some place)) }
 {
@@ -47,7 +48,7 @@ fn push_fault(text: &mut Vec<u8>, number: u64, place: u64) -> Result<(), NoMemor
     text.extend_from_slice(b"\n")
 }
 
-/// Appends a statement to those of its session.
+/// Appends a statement to those of its session. The first list is that of session 1.
 fn push_statement(
     lists: &mut Vec<Vec<Statement>>,
     session: SessionNo,
@@ -63,7 +64,7 @@ fn push_statement(
     Ok(())
 }
 
-/// Takes a line that names a session.
+/// Takes the line of this number, which names a session: its statement, or what is written for its fault.
 fn take_given(
     given: &mut RaceScript,
     number: u64,
@@ -72,6 +73,7 @@ fn take_given(
 ) -> Result<(), NoMemory>
     ensures { OnOk result (TakesLine number (Given session text.now) given.old given.new) }
 {
+    // A line whose statement is faulty counts, too, but such a script isn't raced.
     given.greatest = given.greatest.max(session.get());
     match read_statement(text) {
         Ok(statement) => push_statement(&mut given.lists, session, statement),
@@ -79,7 +81,7 @@ fn take_given(
     }
 }
 
-/// Takes the line of this number.
+/// Takes the line of this number. A blank one changes nothing, and one that names no session is faulty at byte 0.
 fn take_line(given: &mut RaceScript, number: u64, line: &[u8]) -> Result<(), NoMemory>
     ensures { OnOk result (TakesLine number (line_of line.now) given.old given.new) }
 {
@@ -90,7 +92,8 @@ fn take_line(given: &mut RaceScript, number: u64, line: &[u8]) -> Result<(), NoM
     }
 }
 
-/// Reads what a script gives to a race.
+/// Reads what a script gives to a race: each session's statements, and what is written for faulty lines. Lines are
+/// counted from 1, blank ones too. `script` has at most 1,048,576 bytes.
 ///
 /// May return `NoMemory`. Doesn't wait.
 /// Own rule: docs/COMMANDS.md#race.

@@ -1,4 +1,4 @@
-//! Races the lines side by side.
+//! Holds a race over a store without an end, with room for a number of entries if one is asked for.
 ghost use Rattle.std.specs.Prelude.{◌≡◌, IfOk, IfErr};
 ghost use Rattle.std.specs.List.{All};
 ghost use Rattle.xa_races.specs.Long.{IsLongOutcome};
@@ -26,9 +26,10 @@ fn script_fault(raced: RaceFault) -> ScriptFault
     }
 }
 
-/// Holds a race over a store whose history has `from` entries.
+/// Holds a race over a store whose history has `from` entries. `runs` and `gate` are as for `race_on`.
 ///
-/// If `renews` is false, it has room for `capacity` entries: `Full` if it adds more.
+/// Errors: `Full` if `renews` is false and the race adds more than `capacity` entries; `NoMemory`, `GateShut` and
+/// `ThreadRefused` as `race_on` returns them.
 /// May return `NoMemory`. Waits for its threads.
 pub fn race_runs<G: Gate + Sync, R: Threads + Wait + Sync>(
     rt: &R,
@@ -48,7 +49,7 @@ pub fn race_runs<G: Gate + Sync, R: Threads + Wait + Sync>(
 {
     match race_on(rt, alloc, store, from, runs, gate) {
         Ok(outcome) => {
-            // The store has no end. A log of this room would have been full.
+            // The store itself has no end. A log with room for `capacity` entries would have been full.
             if !renews && outcome.history.len() as u64 > capacity {
                 return Err(ScriptFault::Full);
             }

@@ -11,7 +11,7 @@ use xa_statement::write_statement;
 use xa_words::Entry;
 use xa_xid::NoMemory;
 
-/// Appends the line of an entry.
+/// Appends the line of an entry: its place in the history, its session and its statement.
 fn push_entry(alloc: Global, text: &mut Vec<u8>, place: u64, entry: &Entry) -> Result<(), NoMemory>
     ensures { OnOk result (text.new.items ≡ text.old.items ++ entry_text place entry.now) }
 {
@@ -44,7 +44,8 @@ fn push_history(alloc: Global, text: &mut Vec<u8>, history: &[Entry]) -> Result<
     push_entries(alloc, text, history)
 }
 
-/// Appends the line of an answer, with recovered identifiers in digits if `convert` is true.
+/// Appends the line of an answer: its session, its place and the reply, with recovered identifiers in digits if
+/// `convert` is true.
 fn push_answer(
     alloc: Global,
     text: &mut Vec<u8>,
@@ -73,13 +74,14 @@ fn push_session(
 ) -> Result<(), NoMemory>
     ensures { OnOk result (text.new.items ≡ text.old.items ++ session_text session asked.now answers.now) }
 {
+    // Each statement has an answer, so the lists are equally long. That isn't known here.
     for index in 0..asked.len().min(answers.len()) {
         push_answer(alloc, text, session, asked[index], &answers[index])?;
     }
     Ok(())
 }
 
-/// The list at a place, or an empty one.
+/// The list at a place; an empty one if there is none.
 fn list_at(asked: &[Vec<bool>], index: usize) -> &[bool]
     ensures { result.now ≡ part_at (map (λ list. list.items) asked.now) index }
 {
@@ -89,7 +91,8 @@ fn list_at(asked: &[Vec<bool>], index: usize) -> &[bool]
     }
 }
 
-/// Appends the lines of all sessions' answers, session 1 first.
+/// Appends the lines of all sessions' answers, session 1 first. `asked` has a list for each session, as `push_session`
+/// takes it; a session without one gets no lines.
 fn push_answers(
     alloc: Global,
     text: &mut Vec<u8>,

@@ -39,12 +39,14 @@ pub struct Raced {
     pub(crate) fault: Option<RaceFault>,
 }
 
-/// How often a session tries to leave a checkpoint. Others have one for a few steps only.
+/// How often a session tries to leave a checkpoint before it gives up. Most sessions have one for a few steps only, so
+/// mostly one is free long before that.
 const TURNS: u64 = 1_000_000;
 
-/// Leaves a checkpoint, as soon as one can be had.
+/// Leaves a checkpoint at the end of what the session has seen; gives up after `TURNS` tries.
 ///
-/// A session that adds no more looks after no checkpoint any more. One that is behind might then find none.
+/// A session tends checkpoints only while it answers. Without this last one, a session that is behind might find none
+/// to go on from.
 #[tactic(auto, using(crate::proofs::Statements::rests_itself, crate::proofs::Statements::rests_more))]
 fn leave_checkpoint(session: &mut EndlessSession)
     ensures store { session.new.store.value ≡ session.old.store.value }
@@ -74,6 +76,8 @@ impl<'g, G: Gate> Task for Racer<'g, G> {
         self.session.number()
     }
 
+    /// Has the session say its statements, and returns it with what it was answered and has added. A fault is returned
+    /// beside these, so that each session comes back.
     fn work<R: Wait>(self, rt: &R) -> Result<Raced, RaceFault> {
         let Racer {
             mut session,
@@ -82,6 +86,7 @@ impl<'g, G: Gate> Task for Racer<'g, G> {
             gate,
         } = self;
         let fault = say_out(rt, &mut session, lines.as_slice(), gate, &mut said);
+        // A session that stopped at a fault adds no more either.
         leave_checkpoint(&mut session);
         Ok(Raced {
             session,

@@ -38,10 +38,12 @@ impl ReshuffledGate {
     fn turns(&self, session: SessionNo, line: u64) -> u32
         ensures { result < 64 }
     {
-        // The race that runs was announced, and `announce` has counted the seed on.
+        // When the race that runs was announced, `announce` counted the seed on to that of the next one.
         let seed = self.seed.load(Ordering::SeqCst).wrapping_sub(1);
+        // Each session has a stream of its own, from which the word at its line is taken.
         let mut stream = Pcg32::new(seed, session.get());
         stream.advance(line);
+        // As at `ShuffledGate`.
         stream.next_word() % 64
     }
 }
@@ -58,7 +60,9 @@ impl Gate for ReshuffledGate {
     }
 
     fn enter(&self, session: SessionNo, line: u64) -> bool {
+        // Only the first line waits here for the other sessions.
         let opened = self.together.enter(session, line);
+        // The session then steps aside for as many turns as the seed draws for this line.
         for _ in 0..self.turns(session, line) {
             yield_now();
         }

@@ -18,7 +18,7 @@ use xa_lines::{PieceReader, PieceWriter, ScriptFault, read_all, write_whole};
 use xa_orders::Ended;
 use xa_store::Gate;
 
-/// Writes the text, and returns how the races ended.
+/// Writes the text, and returns how the races ended. Error: `Write`; a prefix of the text was then written.
 fn write_came<O: PieceWriter>(writer: &mut O, came: &Came) -> Result<Ended, ScriptFault>
     ensures ended { IfOk result (λ ended. ended ≡ came.now.ended) }
     ensures all { OnOk result (Appends (O.contents writer.old) (O.contents writer.new) came.now.text.items) }

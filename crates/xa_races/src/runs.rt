@@ -27,8 +27,8 @@ use xa_orders::{Ended, Outcome, Script, explore, read_script};
 use xa_store::Gate;
 use xa_xid::{Key, NoMemory};
 
-/// The greatest number of ways that exploring may keep for the list of all outcomes. It is the program's
-/// usual limit.
+/// The limit for exploring the list of all outcomes: how many ways of one length may be known to differ. It is the
+/// program's usual limit for `explore`.
 const WAYS: usize = 100_000;
 
 /// How races of a script ended, and what is written for them.
@@ -40,7 +40,8 @@ pub struct Came {
     pub text: Vec<u8>,
 }
 
-/// Races the script `runs` times, and counts each outcome as it comes. Each race of the course is counted once.
+/// Races the script `runs` times, and counts each outcome in `tallies` as it comes. `course`, empty at first, notes
+/// the same races. `capacity`, `renews` and `gate` are those of `runs_script`. Stops at the first race with a fault.
 fn count_runs<G: Gate + Sync, R: Threads + Wait + Sync>(
     rt: &R,
     alloc: Global,
@@ -81,7 +82,7 @@ fn copy_keys(alloc: Global, keys: &[Key]) -> Result<Vec<Key>, NoMemory> {
     Ok(copy)
 }
 
-/// All outcomes of the script; or None if there are too many ways to know them all.
+/// All outcomes of the script; or None if more than `WAYS` ways of one length are known to differ.
 fn outcomes_of(alloc: Global, script: &Script<'_>) -> Result<Option<Vec<Outcome>>, NoMemory>
     ensures explored { IfOk result (λ found. IfSome found
         (λ outcomes. IsExplored (parts_of (read_kept script.now)) outcomes.items)) }
@@ -89,6 +90,7 @@ fn outcomes_of(alloc: Global, script: &Script<'_>) -> Result<Option<Vec<Outcome>
         (λ found. found ≡ None
         → IsWide script.now.beside.items (base_of (parts_of (read_kept script.now))) ways_limit) }
 {
+    // `explore` takes the rows, and the script is still needed for the races.
     let written = copy_keys(alloc, script.written.as_slice())?;
     explore(
         alloc,
@@ -100,8 +102,8 @@ fn outcomes_of(alloc: Global, script: &Script<'_>) -> Result<Option<Vec<Outcome>
     )
 }
 
-/// The list that the outcomes of races are counted in, and whether it has all outcomes of the script. It is empty if
-/// there are too many ways to know them.
+/// The list that the outcomes of races are counted in, none of which came yet, and whether it has all outcomes of the
+/// script. If there are too many ways to know them, the list is empty, and the second part is false.
 fn first_tallies(alloc: Global, script: &Script<'_>) -> Result<(Vec<CameTally>, bool), NoMemory>
     ensures none { IfOk result (λ first. All (λ one. one.came ≡ 0) first.0.items) }
     ensures first { IfOk result (λ first. AreFirst (parts_of (read_kept script.now)) first.1 first.0.items) }
@@ -115,7 +117,8 @@ fn first_tallies(alloc: Global, script: &Script<'_>) -> Result<(Vec<CameTally>, 
     }
 }
 
-/// What is written for races of the script.
+/// Races the script `runs` times, and returns what is written for these races. `course`, empty at first, notes them.
+/// `capacity`, `renews` and `gate` are those of `runs_script`. Stops at the first race with a fault.
 fn came_of<G: Gate + Sync, R: Threads + Wait + Sync>(
     rt: &R,
     alloc: Global,
@@ -163,10 +166,13 @@ fn read_well(alloc: Global, text: &[u8]) -> Result<Script<'_>, NoMemory>
     Ok(script)
 }
 
-/// Races the script of this text `runs` times. Returns how that ended, and what is written. What is counted are the
-/// races of the course.
+/// Races the script of this text `runs` times. Returns how that ended, and what is written. `course`, empty at first,
+/// notes the races that are counted.
 ///
-/// May return `NoMemory`. Waits for its threads.
+/// If a line is faulty, nothing is raced, and the text is that of the faulty lines. `capacity`, `renews` and `gate`
+/// are those of `runs_script`. Errors: `NoMemory`; if no line is faulty, also `GateShut`, `ThreadRefused` and, only if
+/// `renews` is false, `Full`, as the first race with a fault returns them. May return `NoMemory`. Waits for its
+/// threads.
 /// Own rule: docs/COMMANDS.md#race-statistics.
 pub fn runs_text<G: Gate + Sync, R: Threads + Wait + Sync>(
     rt: &R,

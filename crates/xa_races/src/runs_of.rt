@@ -7,7 +7,7 @@ use std::alloc::Global;
 use xa_endless::EndlessSession;
 use xa_xid::{NoMemory, Statement};
 
-/// Returns the runs of these sessions, each with its list of statements.
+/// Returns the runs of these sessions, each with its list of statements. Lists without a session are left out.
 ///
 /// May return `NoMemory`.
 pub fn runs_of(

@@ -14,7 +14,9 @@ use xa_store::{Gate, RaceFault};
 use xa_words::Entry;
 use xa_xid::Statement;
 
-/// Asks the gate, then executes the session's statement at `line`.
+/// Asks the gate, then executes the session's statement at `line`, its place among the session's statements, from 0.
+///
+/// Errors: `GateShut` if the gate stops the run, `NoMemory` as executing returns it.
 fn answer_one<G: Gate, R: Wait>(
     rt: &R,
     session: &mut EndlessSession,
@@ -35,11 +37,14 @@ fn answer_one<G: Gate, R: Wait>(
     }
     match session.execute(rt, statement) {
         Ok(answer) => Ok(answer),
+        // Executing fails only for want of memory.
         Err(_) => Err(RaceFault::NoMemory),
     }
 }
 
 /// Has the session say its statement at `line`, and notes what it was answered and what it added.
+///
+/// Errors: those of `answer_one`; nothing is noted then.
 fn say_one<G: Gate, R: Wait>(
     rt: &R,
     session: &mut EndlessSession,

@@ -72,14 +72,14 @@ fn place_of(tallies: &[CameTally], text: &[u8]) -> usize
         → ComesBefore text.now one.text.items }
 {
     let mut place = 0;
-    // The texts ascend, so the place is behind all that come before this one.
+    // In a list that grows the texts ascend, so the place is behind all that come before this one.
     while place < tallies.len() && comes_before(tallies[place].text.as_slice(), text) {
         place += 1;
     }
     place
 }
 
-/// Adds the text if it isn't listed, before the first listed text that is greater.
+/// Adds the text, with a count of 0, if it isn't listed: before the first listed text that is greater.
 fn enlist(alloc: Global, tallies: &mut Vec<CameTally>, text: &[u8]) -> Result<(), NoMemory>
     ensures there { OnOk result (Contains (texts_of tallies.old.items) text.now
         → tallies.new.items ≡ tallies.old.items) }
@@ -95,7 +95,7 @@ fn enlist(alloc: Global, tallies: &mut Vec<CameTally>, text: &[u8]) -> Result<()
     ensures room { OnOk result ((most : ℕ) → All (λ one. one.came ≤ most) tallies.old.items
         → All (λ one. one.came ≤ most) tallies.new.items) }
 {
-    // A text that came before is counted, not listed again.
+    // A listed text is only counted, by the caller.
     if is_listed(tallies.as_slice(), text) {
         return Ok(());
     }
@@ -112,18 +112,19 @@ fn once_same(one: &[u8], other: &[u8]) -> u64
     if is_same(one, other) { 1 } else { 0 }
 }
 
-/// Counts that the text came once more.
+/// Counts the text once more, in each tally of it; the others stay.
 fn count_up(tallies: &mut Vec<CameTally>, text: &[u8])
     requires { All (λ one. one.came ≤ 1000000) tallies.old.items }
     ensures { tallies.new.items ≡ map (counted_up text.now) tallies.old.items }
 {
     for place in 0..tallies.len() {
         let more = once_same(text, tallies[place].text.as_slice());
+        // It was at most 1,000,000, so it doesn't overflow.
         tallies[place].came += more;
     }
 }
 
-/// Notes that the text came once more, and lists it if it isn't listed.
+/// Notes that the text came once more, and lists it if it isn't listed. Each count is at most 1,000,000 before.
 ///
 /// May return `NoMemory`.
 pub fn note(alloc: Global, tallies: &mut Vec<CameTally>, text: &[u8]) -> Result<(), NoMemory>
@@ -138,6 +139,7 @@ pub fn note(alloc: Global, tallies: &mut Vec<CameTally>, text: &[u8]) -> Result<
         → All (Contains came) (texts_of tallies.old.items)
         → All (Contains (came ++ text.now ∷ [])) (texts_of tallies.new.items)) }
 {
+    // It is listed first, so that it is counted there.
     enlist(alloc, tallies, text)?;
     count_up(tallies, text);
     Ok(())

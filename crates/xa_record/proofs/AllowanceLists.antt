@@ -10,12 +10,12 @@ use Rattle.xa_record.specs.declared.statement_kind.StatementKind.{StatementKind}
 use Rattle.xa_record.specs.Allowances.{lets_stand, allowed_for, first_allows, line_allows, allowances_in}
 use Rattle.xa_record.proofs.Effects.{dropped}
 
--- what is put in front if a test holds, as a list of its own
+-- putting an element in front if a test holds is putting it there as a list of its own
 if-front : (b : Bool) (x : ℕ) (xs : List ℕ) → (if b then x ∷ xs else xs) ≡ (if b then x ∷ [] else []) ++ xs
 if-front true x xs = refl
 if-front false x xs = refl
 
--- which of several allowances count for a call: the first, if it does, and then those of the others
+-- what several allowances allow for a number is what the first allows, and then what the others do
 allowed_for-front : (one : Allowance) (more : List Allowance) (kind : StatementKind) (number : ℕ)
     → allowed_for (one ∷ more) kind number ≡ allowed_for (one ∷ []) kind number ++ allowed_for more kind number
 allowed_for-front one more kind number = if-front (lets_stand one kind number) one.rules (allowed_for more kind number)
@@ -27,7 +27,8 @@ get_or-within [] index any other within = absurd (omega (arith, within))
 get_or-within (first ∷ more) zero any other within = refl
 get_or-within (first ∷ more) (suc index) any other within = get_or-within more index any other (omega (arith, within))
 
--- the loop over allowances: one more was gone through
+-- the loop over allowances: one more was gone through, and what it allows is at the end; the whole is that, and what
+-- the allowances after it allow
 pub allowed_for-next : (allowances : List Allowance) (kind : StatementKind) (number : ℕ) (whole others longer : List ℕ)
     (index : ℕ) (any : Allowance)
     → index < length allowances → whole ≡ others ++ allowed_for (drop index allowances) kind number
@@ -63,7 +64,8 @@ prepended-first list None (Err number) = refl
 prepended-first list (Some one) (Ok more) = ap (λ (l : List Allowance). Ok l) (sym (append_assoc list (one ∷ []) more))
 prepended-first list (Some one) (Err number) = refl
 
--- the loop over lines: one was cut off that isn't faulty
+-- the loop over lines: one was cut off that isn't faulty, and what it allows, if anything, is at the end of the list;
+-- the whole is that list, and what the lines after it allow
 pub allowances_in-line : (whole : Result (List Allowance) ℕ) (list longer : List Allowance) (number : ℕ)
     (text line rest : List ℕ) (found : Option Allowance)
     → whole ≡ prepended list (allowances_in number (lines_of text)) → lines_of text ≡ line ∷ lines_of rest
@@ -76,7 +78,7 @@ allowances_in-line whole list longer number text line rest found is cut said par
     ∙ ap (λ (r : Result (Option Allowance) ℕ). prepended list (first_allows r below)) (sym said)
     ∙ prepended-first list found below ∙ ap (λ (l : List Allowance). prepended l below) (sym parts)
 
--- the loop over lines: one was cut off that is faulty, and the loop ends
+-- the loop over lines: one was cut off that is faulty, so the whole is its number
 pub allowances_in-faulty : (whole : Result (List Allowance) ℕ) (list : List Allowance) (number : ℕ)
     (text line rest : List ℕ) (faulty : ℕ)
     → whole ≡ prepended list (allowances_in number (lines_of text)) → lines_of text ≡ line ∷ lines_of rest

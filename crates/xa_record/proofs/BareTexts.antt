@@ -23,7 +23,7 @@ use Rattle.xa_record.specs.Replaying.{HasNoFeed, IsBare, IsBareTold, AreBare}
 use Rattle.xa_record.proofs.Feeds.{both, both_first, both_second, feed-append}
 use Rattle.xa_record.proofs.TextsTold.{text-tells}
 
--- parts of a text without a line feed have none
+-- the first byte of a text that has no line feed isn't one
 first_of : (byte : ℕ) (text : List ℕ) → HasNoFeed (byte ∷ text) → not (byte == 10) ≡ true
 first_of byte text free = both_first (not (byte == 10)) (list_all (λ b. not (b == 10)) text) free
 
@@ -56,7 +56,7 @@ feed-reverse (byte ∷ text) free =
     (feed-append (reverse text) (byte ∷ []) (feed-reverse text (rest_of byte text free))
     (both _ _ (first_of byte text free) refl))
 
--- taking the leading blanks off a text leaves a last byte that is no blank
+-- taking the leading blanks off a text leaves its last byte, if that is no blank
 unblank_end : (text : List ℕ) (byte : ℕ) → belongs BlankByte byte ≡ false
     → unblank (text ++ byte ∷ []) ≡ unblank text ++ byte ∷ []
 unfolding behind
@@ -110,7 +110,7 @@ feed-trimmed : (text : List ℕ) → HasNoFeed text → HasNoFeed (trimmed text)
 unfolding trimmed
 feed-trimmed text free = feed-reverse (unblank (reverse text)) (feed-unblank (reverse text) (feed-reverse text free))
 
--- the text that a line names is bare: it begins with no blank and has no line feed
+-- a text without a line feed is bare once its blanks at both ends are taken off: no leading blank, no line feed
 trimmed_bare : (text : List ℕ) → HasNoFeed text → IsBare (trimmed (unblank text))
 trimmed_bare text free = record {
   bare = bare_where (unblank text) (λ byte more is. begins_full text byte more is);
@@ -122,12 +122,12 @@ abbrev CallsBare : LineSaid → Type 0
 CallsBare (Says (Calls session text)) = IsBare text
 CallsBare said = Unit {0}
 
--- each reading of a line in turn: of two of which a test takes one, both call for a bare text, or for none
+-- of two readings of a line a test takes one: if each calls for a bare text or for none, that one does
 either : (b : Bool) (one two : LineSaid) → CallsBare one → CallsBare two → CallsBare (if b then one else two)
 either true one two first second = first
 either false one two first second = second
 
--- a word alone on its line calls for none
+-- what is said only if no text follows calls for a bare text or for none, if what is said does
 alone_bare : (said : LineSaid) (text : List ℕ) → CallsBare said → CallsBare (alone said text)
 alone_bare said [] is = is
 alone_bare said (byte ∷ text) is = tt
@@ -183,7 +183,7 @@ named_bare : (session : Option ℕ) (text : List ℕ) → HasNoFeed text → Cal
 named_bare None text free = tt
 named_bare (Some session) text free = given_bare session text free
 
--- of two readings of a line, of which a test takes one, both call for a bare text or for none
+-- of two lines a test takes one: if each calls for a bare text or for none, that one does
 said_bare : (b : Bool) (one two : Line) → CallsBare (filled_said one) → CallsBare (filled_said two)
     → CallsBare (filled_said (cond b one two))
 said_bare true one two first second = first

@@ -5,7 +5,7 @@ use Rattle.xa_statement.specs.Machine.{finish}
 use Rattle.xa_statement.specs.Reading.{read_of, read_from}
 use Rattle.xa_record.specs.VerdictText.{call_text}
 
--- for a session that calls for nothing, the text is empty
+-- nothing is written for an empty text
 call_text-none : call_text [] ≡ []
 unfolding read_of read_from pieces finish
 call_text-none = refl

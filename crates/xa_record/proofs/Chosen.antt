@@ -13,7 +13,7 @@ unfolding chosen_text
 chosen-nothing [] = refl
 chosen-nothing (kept ∷ keeps) = refl
 
--- nor past the end of what is chosen
+-- without a choice no line is chosen
 chosen-past : (lines : List (List ℕ)) → chosen_text [] lines ≡ []
 unfolding chosen_text
 chosen-past lines = refl
@@ -23,7 +23,8 @@ next-choice : (keeps : List Bool) (index : ℕ) → index < length keeps
     → drop index keeps ≡ get_or keeps index false ∷ drop (index + 1) keeps
 next-choice keeps index within = rw add-one (drop-cons keeps index false within)
 
--- the next line is chosen, or it isn't
+-- the loop over choices: the next line was cut off, and added if it is chosen; the whole is that, and what the next
+-- choices choose of the lines behind
 pub chosen_more : (whole out added : List ℕ) (keeps : List Bool) (index : ℕ)
     (rest line more : List ℕ) → index < length keeps
     → lines_of rest ≡ line ∷ lines_of more → whole ≡ out ++ chosen_text (drop index keeps) (lines_of rest)
@@ -38,7 +39,7 @@ chosen_more whole out added keeps index rest line more within lines is so =
     ∙ sym (append_assoc out (line_if kept line) (chosen_text (drop (index + 1) keeps) (lines_of more)))
     ∙ ap (λ (l : List ℕ). l ++ chosen_text (drop (index + 1) keeps) (lines_of more)) (sym so)
 
--- no line is left
+-- the loop over choices ends: no line is left, and all that is chosen was written
 pub chosen_end : (whole out rest : List ℕ) (keeps : List Bool) → rest ≡ []
     → whole ≡ out ++ chosen_text keeps (lines_of rest) → out ≡ whole
 unfolding lines_of
@@ -46,7 +47,7 @@ chosen_end whole out rest keeps none is =
     sym (is ∙ ap (λ (l : List ℕ). out ++ chosen_text keeps (lines_of l)) none
     ∙ ap (λ (l : List ℕ). out ++ l) (chosen-nothing keeps) ∙ append-nil out)
 
--- no choice is left
+-- the loop over choices ends: no choice is left, and all that is chosen was written
 pub chosen_out : (whole out rest : List ℕ) (keeps : List Bool) (index : ℕ) → length keeps ≤ index
     → whole ≡ out ++ chosen_text (drop index keeps) (lines_of rest) → out ≡ whole
 chosen_out whole out rest keeps index past is =

@@ -47,7 +47,7 @@ pub moved_event : (out : List ℕ) (calls new : List (List ℕ)) (one : Numbered
 unfolding order_text
 moved_event out calls new one more moves next = ap (λ c. out ++ order_text c more moves) (sym next)
 
--- a list from a place on, the next of which is this
+-- a list from a place on is the element there, and then the list from the next place on
 pub dropped : {A : Type 0} (list : List A) (index : ℕ) (next : A) → index < length list → next ≡ get_or list index next
     → drop index list ≡ next ∷ drop (index + 1) list
 dropped list index next within at =
@@ -69,7 +69,7 @@ mapped numbered place one within at =
     drop-map numbered_kept place numbered ∙ ap (map numbered_kept) (dropped numbered place one within at)
     ∙ ap (λ l. numbered_kept one ∷ l) (sym (drop-map numbered_kept (place + 1) numbered))
 
--- the texts of the sessions' last calls, if the program keeps a place for each text
+-- noting the place of what happens gives the same texts of last calls as putting in the text that it calls for
 calls-followed : (all : List NumberedEvent) (places : List (Option ℕ)) (place : ℕ) (told : Told)
     → text_at all (Some place) ≡ text_told told
     → map (text_at all) (with_place place told places) ≡ with_call told (map (text_at all) places)

@@ -51,7 +51,7 @@ AreEventsAfter-more allowances kinds (first ∷ numbered) [] one event are is = 
 AreEventsAfter-more allowances kinds (first ∷ numbered) (next ∷ events) one event are is =
     (are.0, AreEventsAfter-more allowances (kinds_after next kinds) numbered events one event are.1 is)
 
--- if an event stands for what a record tells, and is a call, it is the call that is told
+-- an event that is right for what is told is that call, if a call is told
 pub IsCallOf-event : (allowances : List Allowance) (kinds : List (Option StatementKind)) (told : Told) (event : Event)
     → IsEvent allowances kinds told event → IsCallOf told event
 IsCallOf-event allowances kinds (Calls session text) event is = is
@@ -73,7 +73,7 @@ AreCalls-events allowances kinds (one ∷ numbered) (event ∷ events) are = (
       (kinds_after event kinds) numbered events are.1,
 )
 
--- all of them are calls where they are calls
+-- the loop over lines ends: events that are right for all lines are calls where the lines say calls
 pub AreCalls-whole : (allowances : List Allowance) (numbered : List NumberedRead) (events : List Event) (index : ℕ)
     → length numbered ≤ index
     → AreEvents allowances (map numbered_kept (take index numbered)) events

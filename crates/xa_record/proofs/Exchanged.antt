@@ -12,7 +12,7 @@ use Rattle.xa_record.specs.Reading.{NumberedEvent, session_of}
 use Rattle.xa_record.proofs.Effects.{dropped}
 use Rattle.xa_record.proofs.Places.{slice_get-kept}
 
--- the next one is a call of the session
+-- the search for a session's last call: the event at this place is one, so it replaces what was found before
 pub call_found : (session : ℕ) (found : Option NumberedEvent) (numbered : List NumberedRead) (index : ℕ)
     (one : NumberedRead) → index < length numbered → one ≡ get_or numbered index one
     → is_call_by session (numbered_kept one).told ≡ true
@@ -24,7 +24,7 @@ call_found session found numbered index one within at calls =
     ∙ ap (λ (b : Bool). last_call session (if b then Some (numbered_kept one) else found)
     (map numbered_kept (drop (index + 1) numbered))) calls
 
--- the next one isn't
+-- the search for a session's last call: the event at this place isn't one, so what was found before stays
 pub call_other : (session : ℕ) (found : Option NumberedEvent) (numbered : List NumberedRead) (index : ℕ)
     (one : NumberedRead) → index < length numbered → one ≡ get_or numbered index one
     → is_call_by session (numbered_kept one).told ≡ false
@@ -36,7 +36,7 @@ call_other session found numbered index one within at calls =
     ∙ ap (λ (b : Bool). last_call session (if b then Some (numbered_kept one) else found)
     (map numbered_kept (drop (index + 1) numbered))) calls
 
--- none is left
+-- the search for a session's last call ends: no event is left, and what was found is that call
 pub call_last : (session : ℕ) (whole found : Option NumberedEvent) (numbered : List NumberedRead) (index : ℕ)
     → length numbered ≤ index
     → whole ≡ last_call session found (map numbered_kept (drop index numbered)) → whole ≡ found
@@ -44,7 +44,7 @@ unfolding last_call
 call_last session whole found numbered index past is =
     is ∙ ap (λ (l : List NumberedRead). last_call session found (map numbered_kept l)) (drop_all index numbered past)
 
--- what was seen there, by what stands there in the list as the program keeps it
+-- what is made of the event at a place, and of its session's last call before that, is the exchange at that place
 pub exchange_there : (made : Exchange) (numbered : List NumberedRead) (place : ℕ) (one : NumberedRead)
     (call : Option NumberedEvent) → place < length numbered → one ≡ get_or numbered place one
     → last_call (session_of (numbered_kept one).told) None (map numbered_kept (take place numbered)) ≡ call
@@ -56,7 +56,8 @@ exchange_there made numbered place one call within at found is =
     (last_call (session_of (numbered_kept one).told) None l)) (sym (take-map numbered_kept place numbered))
     ∙ ap (exchange_after (take place (map numbered_kept numbered))) (sym (slice_get-kept numbered place one within at))
 
--- the same of what was made, if memory was had for it
+-- what the program made, if it had memory, of the event at a place and of its session's last call before that, is the
+-- exchange at that place
 pub shown_there : {E : Type 0} (result : Result ExchangeMade E) (numbered : List NumberedRead) (place : ℕ)
     (one : NumberedRead) (call : Option NumberedEvent) → place < length numbered → one ≡ get_or numbered place one
     → last_call (session_of (numbered_kept one).told) None (map numbered_kept (take place numbered)) ≡ call

@@ -108,7 +108,7 @@ then-same Open (ReturnsUnknown session) fault is = absurd (none-some _ is)
 then-same Open (Leaves session) fault is = absurd (none-some _ is)
 then-same Lost told fault is = refl
 
--- after one line more, sessions are as they were before it and this event
+-- `after` is said by one line more than `said`: each session is then as before, changed by this event
 abbrev Follows : List LineSaid → List LineSaid → Told → Type 0
 Follows said after told =
     (session : ℕ) → presence_said session after ≡ presence_by session (presence_said session said) (Some told)
@@ -192,7 +192,7 @@ known-next presence said after told within known follows none session below = by
         (λ same. apart_test (session_of told) session is (sym same))
         ∙ known session below ∙ ap Some (sym (other-then said after told session follows is))
 
--- an event that can't happen: both stay as they were
+-- an event that can't happen: what is kept stays, and so does what was said
 known-blamed : (presence : List Presence) (said after : List LineSaid) (told : Told) (fault : LineFault)
     → session_of told < 17 → Known presence said → Follows said after told
     → cause_of (slice_get presence (session_of told)) told ≡ Some fault
@@ -212,7 +212,7 @@ known-blamed presence said after told fault within known follows some session be
         known session below ∙ ap Some (sym now)
     by false is = known session below ∙ ap Some (sym (other-then said after told session follows is))
 
--- notes with these words on sessions, and no row to come;  and with rows to come
+-- notes with these events, faults and presences, with no row to come
 abbrev made : List NumberedEvent → List ℕ → List Presence → Notes
 made list faults presence = record { told = list; faults = faults; presence = presence; awaited = None }
 
@@ -220,7 +220,7 @@ made list faults presence = record { told = list; faults = faults; presence = pr
 abbrev held : List NumberedEvent → List ℕ → List Presence → Awaited → Notes
 held list faults presence a = record { told = list; faults = faults; presence = presence; awaited = Some a }
 
--- what was read: this was written, and this was said
+-- the notes await no row, these faults are written in them, and what they keep of sessions is what was said
 record Goes (notes : Notes) (faults : List ℕ) (said : List LineSaid) : Type 0 where
   list : List NumberedEvent
   presence : List Presence
@@ -366,7 +366,7 @@ abbrev return_fault : List Presence → ℕ → ℕ → List (List ℕ) → Opti
 return_fault presence session missing lines =
     if nat_lt (filled lines) missing then Some RowsMissing else return_cause presence session
 
--- what is written in the end, if no row is to come
+-- if no row is to come, what is written in the end is what was written before, and the fault of each of these lines
 abbrev OnNone : Bool → List (List ℕ) → Type 0
 OnNone strict lines =
     (before : List (List ℕ)) (list : List NumberedEvent) (faults : List ℕ) (presence : List Presence)
@@ -374,7 +374,8 @@ OnNone strict lines =
     → ended (noted_lines strict (made list faults presence) (length before + 1) lines)
     ≡ faults ++ faulty_after strict before lines
 
--- what is written from these lines on, if rows of a return are still to come
+-- if rows of a return are still to come, what is written in the end is what was written before, the fault of the
+-- return, those that are held back for its rows, and the fault of each of these lines
 abbrev OnSome : Bool → List (List ℕ) → Type 0
 OnSome strict lines =
     (before : List (List ℕ)) (list : List NumberedEvent) (faults : List ℕ) (presence : List Presence) (a : Awaited)
@@ -477,7 +478,7 @@ alone-step strict said line rest before list faults presence none due is last go
     (alone-due before line said due is ∙ last)
     ∙ line-first strict before line rest faults fault (alone-fault strict before line rest said due is)
 
--- all rows have come;  or some are still to come
+-- a return of which no row is missing happens
 awaiting-none : (list : List NumberedEvent) (faults : List ℕ) (presence : List Presence) (a : Awaited)
     → a.missing ≡ 0 → awaiting (made list faults presence) a ≡ returned (made list faults presence) a
 awaiting-none list faults presence a none =
@@ -592,7 +593,7 @@ row-due before line due silent is same =
     due-append 0 before line ∙ ap (λ (n : ℕ). due_after n line) is
     ∙ ap (λ (b : Bool). if b then suc due else due) same
 
--- a line that isn't silent is counted, whatever it says
+-- what is awaited after a line that isn't silent, by what it is read as: one row less, whether it is a row or not
 abbrev counted_line : Awaited → ℕ → Option Xid → Awaited
 counted_line a number None = record a { missing = a.missing - 1; faults = a.faults ++ fault_text number NotARow }
 counted_line a number (Some xid) = record a { missing = a.missing - 1; rows = a.rows ++ xid ∷ [] }
@@ -627,7 +628,7 @@ counted-faults : (a : Awaited) (number : ℕ) (row : Option Xid)
 counted-faults a number None = refl
 counted-faults a number (Some xid) = sym (append-nil a.faults)
 
--- what is written for a return with rows and its rows
+-- what is written after what was before: the fault of a return's line, and then those of its rows
 abbrev written : List ℕ → ℕ → Option LineFault → List ℕ → List ℕ
 written faults number o more = (faults ++ text_of_fault number o) ++ more
 
@@ -700,7 +701,7 @@ full-fault strict before line after due is full =
     row-fault strict before line after due is
     ∙ ap (λ (b : Bool). if b then None else fault_of_row (row_said (unblank line))) full
 
--- after the line that is the last row of a return, the faults written are those of each line
+-- the step of a line in the place of a return's last row, row or not: the faults written are those of each line
 last-step : (strict : Bool) (line : List ℕ) (rest : List (List ℕ)) → OnNone strict rest → is_silent line ≡ false
     → (before : List (List ℕ)) (list : List NumberedEvent) (faults : List ℕ) (presence : List Presence) (a : Awaited)
     (said : List LineSaid) (count : ℕ) → a.missing ≡ 1 → rows_due 0 before ≡ 1
@@ -740,7 +741,7 @@ last-step strict line rest none full before list faults presence a said count mi
     none now (row-due before line 0 false due_is full)
     ∙ line-first strict before line rest all (fault_of_row row) (full-fault strict before line rest 0 due_is full)
 
--- after a line that is a row, but not the last one, the faults written are those of each line
+-- the step of a line in the place of a row that isn't the last, row or not: the faults written are those of each line
 more-step : (strict : Bool) (line : List ℕ) (rest : List (List ℕ)) → OnSome strict rest → is_silent line ≡ false
     → (before : List (List ℕ)) (list : List NumberedEvent) (faults : List ℕ) (presence : List Presence) (a : Awaited)
     (said : List LineSaid) (count due : ℕ) → a.missing ≡ suc (suc due) → rows_due 0 before ≡ suc (suc due)
@@ -805,7 +806,7 @@ none-end : (strict : Bool) → OnNone strict []
 unfolding noted_lines faulty_after
 none-end strict before list faults presence due known = sym (append-nil faults)
 
--- the record may end while rows are to come
+-- the record ends with rows to come: it is written that they are missing, and then the faults held back for the others
 some-end : (strict : Bool) → OnSome strict []
 unfolding noted_lines faulty_after filled blamed
 some-end strict before list faults presence a said count due missing due_is said_is within known =

@@ -27,7 +27,7 @@ pub both_first : (one two : Bool) → (one && two) ≡ true → one ≡ true
 both_first true two is = refl
 both_first false two is = is
 
--- and so does the second one
+-- of two tests that hold together the second one holds
 pub both_second : (one two : Bool) → (one && two) ≡ true → two ≡ true
 both_second true two is = is
 both_second false two is = absurd (cc)
@@ -103,7 +103,7 @@ xid_feed xid fits =
     (feed-append (part_text xid.bqual.items) (44 ∷ decimal xid.format_id) (part_feed xid.bqual.items)
     (decimal_feed xid.format_id fits))
 
--- the canonical form of a statement is no more than a line
+-- the canonical form of a statement has no line feed, if its identifier can be written
 pub statement_feed : (statement : Statement) → IsFit statement → HasNoFeed (statement_text statement)
 unfolding statement_text
 statement_feed (Start xid) fit = feed-append (codes "XA START ") (xid_text xid) refl (xid_feed xid fit.format_fits)

@@ -167,7 +167,7 @@ unfolding closed_if blamed
 closed-blames o list presence number session fault some =
     ap (λ (c : Option LineFault). (closed_if c (noted list presence) number session).faults) some
 
--- each kind of first fault in turn: a line that can't be read
+-- if a line that isn't written as one is the first faulty one, its fault is written first
 bad-first : (lines : List (List ℕ)) (line : List ℕ) (more : List (List ℕ)) (list : List NumberedEvent)
     → IsRead lines list → reading_of_line line ≡ Bad
     → WritesFirst (lines ++ line ∷ more) (length lines + 1) NotALine
@@ -186,7 +186,8 @@ unfit-first lines line more list told fault read is some =
     (noted-blames _ list read.presence (length lines + 1) told fault
     (fits-here read.presence list told within read.placed ∙ some))
 
--- a connection found closed whose client is already gone
+-- if a connection is found closed whose client is gone already, and no line before is faulty, that fault is written
+-- first
 gone-first : (lines : List (List ℕ)) (line : List ℕ) (more : List (List ℕ)) (list : List NumberedEvent) (session : ℕ)
     (fault : LineFault) → IsRead lines list
     → reading_of_line line ≡ Closed session → cause_next list (Leaves session) ≡ Some fault
@@ -273,7 +274,7 @@ rows-short (line ∷ lines) list presence a number short =
         (sym (come-line list presence a number line full ∙ waits list presence b (omega (arith, fewer))))
         (record { left = later.left; is = later.is; number = later.number ∙ line-number a number row })
 
--- the record ends before all rows of a return have come
+-- if the record ends before all rows of a return have come, and no line before is faulty, that fault is written first
 missing-first : (lines : List (List ℕ)) (line : List ℕ) (more : List (List ℕ)) (list : List NumberedEvent)
     (session count : ℕ) → IsRead lines list
     → reading_of_line line ≡ Awaits session count → filled more < count
@@ -290,7 +291,7 @@ missing-first lines line more list session count read is short =
     subst (λ (n : Notes). Begins (ended_by n.awaited n).faults (fault_text (length lines + 1) RowsMissing)) (sym whole)
     (later.left.faults, ap (λ (n : ℕ). fault_text n RowsMissing ++ later.left.faults) later.number)
 
--- all have come, but the return can't happen there
+-- if all rows of a return have come, and it can't happen, what is written from then on begins with its line's fault
 unfit-now : (lines : List (List ℕ)) (list : List NumberedEvent) (presence : List Presence) (a : Awaited) (number : ℕ)
     (fault : LineFault) → a.missing ≡ 0
     → cause_of (slice_get presence a.session) (Returns a.session (ShowsRows [])) ≡ Some fault
@@ -313,7 +314,8 @@ by-missing : (missing : ℕ) (P : Type 0) → (missing ≡ 0 → P) → (0 < mis
 by-missing zero P none some = none refl
 by-missing (suc missing) P none some = some (omega arith)
 
--- some are still to come, and enough lines are there
+-- if rows of a return are missing, enough lines follow, and it can't happen, what is written from then on begins with
+-- its line's fault
 unfit-later : (lines : List (List ℕ)) (list : List NumberedEvent) (presence : List Presence) (a : Awaited) (number : ℕ)
     (fault : LineFault) → a.missing ≤ filled lines
     → 0 < a.missing → cause_of (slice_get presence a.session) (Returns a.session (ShowsRows [])) ≡ Some fault
@@ -443,7 +445,8 @@ rows-clean (line ∷ rows) list presence a number are fewer =
           counted = omega (arith, later.counted, one, fewer);
         })
 
--- the return happens where its last row came; then what was held for lines that aren't rows is written
+-- if all rows of a return have come, and it can happen, what is written from then on begins with what was held back for
+-- lines that aren't rows
 fit-now : (lines : List (List ℕ)) (list : List NumberedEvent) (presence : List Presence) (a : Awaited) (number : ℕ)
     (text : List ℕ) → a.missing ≡ 0
     → cause_of (slice_get presence a.session) (Returns a.session (ShowsRows [])) ≡ None → Begins a.faults text
@@ -461,7 +464,8 @@ fit-now lines list presence a number text none fits begins =
     (begins-more (returned (noted list presence) a).faults _ text here
     (lines-begin lines (returned (noted list presence) a) number))
 
--- with rows missing and enough lines for them, the return happens, and then what was held for its rows is written
+-- if rows of a return are missing, enough lines follow, and it can happen, what is written from then on begins with
+-- what was held back for its rows
 fit-later : (lines : List (List ℕ)) (list : List NumberedEvent) (presence : List Presence) (a : Awaited) (number : ℕ)
     (text : List ℕ) → a.missing ≤ filled lines
     → 0 < a.missing → cause_of (slice_get presence a.session) (Returns a.session (ShowsRows [])) ≡ None
@@ -500,7 +504,8 @@ fit-later (line ∷ lines) list presence a number text enough missing fits begin
         subst (λ (n : Notes). Begins (noted_lines false n (number + 1) lines).faults text)
         (sym (come-line list presence a number line full)) rest
 
--- whether rows are missing or not, the return happens, and then what was held for its rows is written
+-- if enough lines follow for a return's missing rows, which may be none, and it can happen, what is written from then
+-- on begins with what was held back for its rows
 rows-fit : (lines : List (List ℕ)) (list : List NumberedEvent) (presence : List Presence) (a : Awaited) (number : ℕ)
     (text : List ℕ) → a.missing ≤ filled lines
     → cause_of (slice_get presence a.session) (Returns a.session (ShowsRows [])) ≡ None → Begins a.faults text
@@ -511,7 +516,8 @@ rows-fit lines list presence a number text enough fits begins =
     subst (λ (n : Notes). Begins (noted_lines false n number lines).faults text) (sym (waits list presence a more))
     (fit-later lines list presence a number text enough more fits begins))
 
--- a line in the place of a row that isn't one, while the return itself fits
+-- if a line in the place of a row is the first that isn't one, enough lines have come, and the return can happen, the
+-- fault of that line is written first
 bad-row-first : (lines : List (List ℕ)) (line : List ℕ) (rows : List (List ℕ)) (row : List ℕ) (more : List (List ℕ))
     (list : List NumberedEvent) (session count : ℕ)
     → IsRead lines list → reading_of_line line ≡ Awaits session count → Fits list (Returns session (ShowsRows []))

@@ -29,7 +29,7 @@ pub array-ended : (whole old new : List Token) (texts : List (List ℕ)) → who
     → new ≡ old ++ end_array ∷ [] → new ≡ whole
 array-ended whole old new texts is none ended = ended ∙ sym (is ∙ ap (λ t. old ++ items_tokens (values_of t)) none)
 
--- no line is left
+-- a text of no bytes has no lines
 pub lines-none : (text : List ℕ) → (length text == 0) ≡ true → lines_of text ≡ []
 unfolding lines_of
 lines-none [] empty = refl

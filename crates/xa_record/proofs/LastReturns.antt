@@ -50,7 +50,7 @@ pub ends-in : (session place : ℕ) (list : List NumberedEvent) → Ends session
 ends-in session place list (inl none, after) = inl (ap (λ (n : ℕ). take n list) none ∙ take-none list)
 ends-in session place list (inr found, after) = inr found
 
--- a session without a return among the events has its place at 0
+-- without a return of the session among the events, `up_to_return` counts none
 pub no-return-none : (session : ℕ) (list : List NumberedEvent) → HasNoReturn session list
     → up_to_return session list ≡ 0
 unfolding up_to_return

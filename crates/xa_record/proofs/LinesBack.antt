@@ -82,7 +82,7 @@ line_back (suc (suc (suc (suc (suc (suc (suc (suc (suc (suc (suc (suc (suc (suc 
 line_back (suc (suc (suc (suc (suc (suc (suc (suc (suc (suc (suc (suc (suc (suc (suc (suc (suc more))))))))))))))))) is
     text bare = absurd (omega (arith, is.1))
 
--- the canonical form of a statement begins with no blank
+-- what is written for a statement begins with no blank, if the text of its call doesn't
 canonical_bare : (statement : Statement) (text : List ℕ) → unblank text ≡ text
     → unblank (canonical_text statement text) ≡ canonical_text statement text
 unfolding statement_text behind belongs
@@ -100,17 +100,17 @@ canonical_bare (Put key value) text bare = refl
 canonical_bare (Del key) text bare = refl
 canonical_bare Disconnect text bare = refl
 
--- what is written for a call, a statement's canonical form or its own text, begins with no blank
+-- what is written for a call, a statement's canonical form or its own text, begins with no blank, if its text doesn't
 text_bare : (read : Result Statement ℕ) (text : List ℕ) → unblank text ≡ text
     → unblank (text_read read text) ≡ text_read read text
 text_bare (Ok statement) text bare = canonical_bare statement text bare
 text_bare (Err place) text bare = bare
 
--- what is written for a call's text, read as a statement or not, begins with no blank
+-- what is written for a text that a session called for begins with no blank, if the text doesn't
 pub call_bare : (text : List ℕ) → unblank text ≡ text → unblank (call_text text) ≡ call_text text
 call_bare text bare = text_bare (read_of text) text bare
 
--- a statement's canonical form is read as that statement
+-- a statement's canonical form is read as that statement, if the grammar spells it so
 spelled_back : (statement : Statement) → Spells (statement_text statement) statement
     → read_of (statement_text statement) ≡ Ok statement
 spelled_back statement spells = (reads_spelled (statement_text statement) statement).1 spells
@@ -131,18 +131,18 @@ canonical_back (Put key value) text is spells = spelled_back (Put key value) (sp
 canonical_back (Del key) text is spells = spelled_back (Del key) (spells (λ e. cc)).spelled
 canonical_back Disconnect text is spells = spelled_back Disconnect (spells (λ e. cc)).spelled
 
--- a script's line gives the same request as the call it was written for
+-- what is written for a call's text, as it was read, makes the same request as that text, if this is well called
 read_back : (read : Result Statement ℕ) (text : List ℕ) → read_of text ≡ read → IsWellCalled text
     → request_read read ≡ request_read (read_of (text_read read text))
 read_back (Ok statement) text is well =
     sym (ap request_read (canonical_back statement text is (well.canonical statement is)))
 read_back (Err place) text is well = sym (ap request_read is)
 
--- what is written for a text that a session called for is read as the same
+-- what is written for a text that a session called for makes the same request as that text, if this is well called
 pub call_back : (text : List ℕ) → IsWellCalled text → request_called text ≡ request_read (read_of (call_text text))
 call_back text well = read_back (read_of text) text refl well
 
--- what is written for a text that a session called for is no more than a line
+-- what is written for a statement has no line feed, if its text has none, and it is written back or unsupported
 canonical_feed : (statement : Statement) (text : List ℕ) → HasNoFeed text
     → (statement ≢ Unsupported → IsWrittenBack statement)
     → HasNoFeed (canonical_text statement text)
@@ -158,13 +158,13 @@ canonical_feed (Put key value) text free written = (written (λ e. cc)).whole
 canonical_feed (Del key) text free written = (written (λ e. cc)).whole
 canonical_feed Disconnect text free written = (written (λ e. cc)).whole
 
--- what is written for a call's text, read as a statement or not, has no line feed
+-- what is written for a call's text, as it was read, has no line feed, if the text is well called
 read_feed : (read : Result Statement ℕ) (text : List ℕ) → read_of text ≡ read → IsWellCalled text
     → HasNoFeed (text_read read text)
 read_feed (Ok statement) text is well = canonical_feed statement text well.whole (well.canonical statement is)
 read_feed (Err place) text is well = well.whole
 
--- what is written for a call of a record has no line feed
+-- what is written for a text that a session called for has no line feed, if the text is well called
 pub call_feed : (text : List ℕ) → IsWellCalled text → HasNoFeed (call_text text)
 call_feed text well = read_feed (read_of text) text refl well
 
@@ -172,7 +172,7 @@ call_feed text well = read_feed (read_of text) text refl well
 below_bound : (session : ℕ) → session ≤ 16 → session < 2 ^ 64
 below_bound session is = omega (arith, is)
 
--- a session's number, a blank and a text without a line feed are no more than a line
+-- a session's number, a blank and a text without a line feed have no line feed
 pub line_feed : (session : ℕ) → IsSession session → (text : List ℕ) → HasNoFeed text
     → HasNoFeed (decimal session ++ codes " " ++ text)
 line_feed session is text free =

@@ -34,7 +34,7 @@ noted_lines-end strict notes number (x ∷ xs) empty =
 abbrev pub made : Notes → List NumberedEvent → List Presence → Notes
 made notes list presence = record notes { told = list; presence = presence }
 
--- what happens was note_of, with what is then said of its session
+-- if something can happen, the notes with it at the end, and with what it leaves of its session, are its `note_of`
 pub numbered-so : (notes : Notes) (number : ℕ) (told : Told) (list : List NumberedEvent) (presence : List Presence)
     → cause_of (slice_get notes.presence (session_of told)) told ≡ None
     → list ≡ notes.told ++ record { number = number; told = told } ∷ []
@@ -46,7 +46,8 @@ numbered-so notes number told list presence no_fault one two =
     ∙ ap (made notes (notes.told ++ record { number = number; told = told } ∷ [])) two
     ∙ sym (ap (λ (c : Option LineFault). noted_if c notes number told) no_fault)
 
--- a connection was found closed, and its client is gone from its last return on
+-- if a client can be gone, the notes with its loss behind the session's last return, and the session as lost, are its
+-- `note_closed`
 pub closed-so : (notes : Notes) (number session : ℕ) (list : List NumberedEvent) (presence : List Presence)
     → cause_of (slice_get notes.presence session) (Leaves session) ≡ None
     → list ≡ insert notes.told (up_to_return session notes.told) (record { number = number; told = Leaves session })
@@ -59,7 +60,7 @@ closed-so notes number session list presence no_fault one two =
     (record { number = number; told = Leaves session }))) two
     ∙ sym (ap (λ (c : Option LineFault). closed_if c notes number session) no_fault)
 
--- one thing put in at its place, as definitions see it
+-- putting an event in at a place is, as definitions see it, putting it in at that place of their list
 pub map-insert : (list : List NumberedRead) (place : ℕ) (one : NumberedRead)
     → map numbered_kept (insert list place one) ≡ insert (map numbered_kept list) place (numbered_kept one)
 map-insert list place one =

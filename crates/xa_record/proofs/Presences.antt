@@ -32,7 +32,7 @@ replicated zero place x within = absurd (omega arith)
 replicated (suc count) zero x within = refl
 replicated (suc count) (suc place) x within = replicated count place x (omega arith)
 
--- equal by the test is equal
+-- numbers that test as equal are equal
 pub tested : (m n : ℕ) → (m == n) ≡ true → m ≡ n
 tested m n is = grind (arith, nat_tests)
 
@@ -59,7 +59,7 @@ from-append session presence [] ys = refl
 from-append session presence (one ∷ xs) ys =
     from-append session (if session_of one.told == session then presence_then presence one.told else presence) xs ys
 
--- one event more in front of others: it counts if it is of the session
+-- an event of the session in front of others changes its presence as `presence_then` says
 own : (session : ℕ) (presence : Presence) (one : NumberedEvent) (more : List NumberedEvent)
     → (session_of one.told == session) ≡ true
     → presence_from session presence (one ∷ more) ≡ presence_from session (presence_then presence one.told) more
@@ -80,7 +80,7 @@ none-from : (session : ℕ) (presence : Presence) → presence_from session pres
 unfolding presence_from
 none-from session presence = refl
 
--- what can happen leaves the session as it says
+-- an event that can happen leaves its session as `presence_after` says
 pub then-after : (presence : Presence) (told : Told) → cause_of (Some presence) told ≡ None
     → presence_then presence told ≡ presence_after told
 then-after Idle told fits = refl

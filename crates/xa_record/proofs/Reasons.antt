@@ -20,7 +20,7 @@ use Rattle.xa_record.specs.Reading.{NumberedEvent}
 use Rattle.xa_record.specs.Reports.{keys_named}
 use Rattle.xa_record.proofs.Pairs.{calls-length}
 
--- some configuration is that to which the moves lead
+-- the moves lead through the events, to some configuration
 abbrev pub Lead : State → List Event → List Move → Type 0
 Lead base events moves = (config : Config) × LeadsThrough (opening_config base) events moves config
 
@@ -40,12 +40,12 @@ listed (Ok text) base events moves store keys front none lead named is = (
 )
 listed (Err fault) base events moves store keys front none lead named is = tt
 
--- the moves of a right verdict lead through what is seen
+-- the moves of a right LEGAL verdict lead through what is seen
 pub legal_leads : (base : State) (events : List Event) (limit : ℕ) (verdict : Verdict) (moves : Vec Move Global)
     → IsVerdict base events limit verdict → verdict ≡ LegalBy moves → Lead base events moves.items
 legal_leads base events limit verdict moves right is = subst (IsVerdict base events limit) is right
 
--- what an order explains is not illegal
+-- a right verdict on events that an order explains isn't ILLEGAL
 pub illegal_not : (base : State) (events : List Event) (limit : ℕ) (verdict : Verdict) (place : ℕ)
     (answers : Vec Answer Global)
     → IsVerdict base events limit verdict → verdict ≡ IllegalAt place answers → Explained base events → ⊥
@@ -61,7 +61,7 @@ AllZip-take R (suc count) [] (y ∷ ys) all = absurd all
 AllZip-take R (suc count) (x ∷ xs) [] all = absurd all
 AllZip-take R (suc count) (x ∷ xs) (y ∷ ys) all = (all.0, AllZip-take R count xs ys all.1)
 
--- a place among the events is a place in the program's list of them
+-- a place among the events, or at their end, is the length of the program's list up to there
 pub place_within : (numbered : List NumberedRead) (events : List Event) (place : ℕ)
     → AreCalls (map numbered_kept numbered) events → place ≤ length events
     → place ≡ length (take place numbered)
@@ -69,7 +69,7 @@ place_within numbered events place are within =
     let long : length numbered ≡ length events = calls-length numbered events are in
     sym (length-take-le place numbered (omega (arith, long, within)))
 
--- events that are right for what a record tells are right for it up to each place
+-- if the events of calls are those calls, they are up to each place, too
 pub events_before : (numbered : List NumberedRead) (events : List Event) (place : ℕ)
     → AreCalls (map numbered_kept numbered) events
     → AreCalls (map numbered_kept (take place numbered)) (take place events)

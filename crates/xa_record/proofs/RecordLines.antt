@@ -61,7 +61,8 @@ All-append : {A : Type 0} (P : A → Type 0) (xs ys : List A) → All P xs → A
 All-append P [] ys first second = second
 All-append P (x ∷ xs) ys first second = (first.0, All-append P xs ys first.1 second)
 
--- rows are still to come, of a return on the line behind `before`; on the lines behind that those came that are there
+-- a return with rows is on `line`, behind `before`; `came` are the lines behind it that were read, each silent or a
+-- row, and `a.missing` rows are still to come
 record Part (done : List (List ℕ)) (a : Awaited) (list : List NumberedEvent) : Type 0 where
   before : List (List ℕ)
   line : List ℕ
@@ -101,7 +102,7 @@ found-as one two same found = subst Found same found
 abbrev Next : List (List ℕ) → List ℕ → List (List ℕ) → Notes → Type 0
 Next done line todo new = Right (done ++ line ∷ []) new ⊎ Found (done ++ line ∷ todo)
 
--- notes before which no line was faulty, and none awaits rows
+-- notes with these events and presences, without a fault, that await no row
 abbrev noted : List NumberedEvent → List Presence → Notes
 noted list presence = record { told = list; faults = []; presence = presence; awaited = None }
 
@@ -187,7 +188,8 @@ all-next list presence done more a none part placed = by (cause_of (slice_get pr
               (part.came ++ more) list a.session part.count fault part.tells part.says enough cause,
         ))
 
--- a return of which rows are awaited: all have come and it happens, or it is held back
+-- a return of which all rows have come or some are missing: the notes with it, or held back for it, are right, or there
+-- is a first faulty line
 awaiting-next : (list : List NumberedEvent) (presence : List Presence) (done more : List (List ℕ)) (a : Awaited)
     → Part done a list → Placed presence list
     → Right done (awaiting (noted list presence) a) ⊎ Found (done ++ more)
@@ -209,7 +211,7 @@ happens-tells (Returns session shown) done list line is fits tells =
 happens-tells (ReturnsUnknown session) done list line is fits tells = unknown_line done line list session tells is fits
 happens-tells (Leaves session) done list line is fits tells = lost_line done line list session tells is fits
 
--- a line that tells of an event makes the notes of what the lines done tell, or is faulty
+-- after a line that says an event the notes are right, or that line is the first faulty one
 happens-next : (told : Told) (list : List NumberedEvent) (presence : List Presence) (done : List (List ℕ)) (number : ℕ)
     (line : List ℕ) (todo : List (List ℕ))
     → reading_of_line line ≡ Says told → number ≡ length done + 1 → session_of told < 17 → Placed presence list
@@ -238,7 +240,7 @@ happens-next told list presence done number line todo is at within placed tells 
               (sym (fits-here presence list told within placed) ∙ some),
         )
 
--- a line at which a connection was found closed makes the notes of what the lines done tell, or is faulty
+-- after a line that says that a connection was found closed the notes are right, or that line is the first faulty one
 closed-next : (session : ℕ) (list : List NumberedEvent) (presence : List Presence) (done : List (List ℕ)) (number : ℕ)
     (line : List ℕ) (todo : List (List ℕ))
     → reading_of_line line ≡ Closed session → number ≡ length done + 1 → session < 17 → Placed presence list
@@ -294,7 +296,7 @@ next-as : (done : List (List ℕ)) (line : List ℕ) (todo : List (List ℕ)) (n
 next-as done line todo new (inl right) = inl right
 next-as done line todo new (inr found) = inr (found-as _ _ (line-end done line todo) found)
 
--- what a line says that isn't one of rows
+-- what is to be shown for a line that isn't in the place of a row, by what it says
 said-next : (said : LineSaid) (list : List NumberedEvent) (presence : List Presence) (done : List (List ℕ)) (number : ℕ)
     (line : List ℕ) (todo : List (List ℕ))
     → reading_of_line line ≡ said → number ≡ length done + 1 → Within said → Placed presence list → Tells done list
@@ -407,7 +409,7 @@ part-row done line a list xid is full said part = record {
   );
 }
 
--- a line in the place of a row, which is no row, is the first faulty line
+-- if a line in the place of a row is no row, there is a first faulty line: this one, or that of its return
 bad-found : (list : List NumberedEvent) (done : List (List ℕ)) (line : List ℕ) (todo : List (List ℕ)) (a : Awaited)
     → (a.missing == 0) ≡ false
     → is_silent line ≡ false → row_said (unblank line) ≡ None → Part done a list → Found (done ++ line ∷ todo)
@@ -516,7 +518,7 @@ lines-next (line ∷ todo) done notes number at right =
         (line-end done line todo)
         (again here)
 
--- what is read of lines is what they tell, or one of them is the first faulty one
+-- the notes have no fault, await no row, and have the events that the lines tell
 pub record AllTold (lines : List (List ℕ)) (notes : Notes) : Type 0 where
   pub clean : notes.faults ≡ []
   pub none : notes.awaited ≡ None

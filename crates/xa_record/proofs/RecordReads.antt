@@ -200,7 +200,7 @@ pub with-row-some : (list : List NumberedEvent) (presence : List Presence) (a : 
 unfolding with_row
 with-row-some list presence a number xid = refl
 
--- if no line among them was faulty and the return fits, it is noted with its rows
+-- a return whose rows have come is noted with them, if no line among them was faulty and the return can happen
 returned-so : (list : List NumberedEvent) (presence : List Presence) (a : Awaited) → a.faults ≡ []
     → cause_of (slice_get presence a.session) (Returns a.session (ShowsRows [])) ≡ None
     → returned (noted list presence) a

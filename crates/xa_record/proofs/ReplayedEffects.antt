@@ -57,7 +57,7 @@ length-kept [] place x = refl
 length-kept (y ∷ list) zero x = refl
 length-kept (y ∷ list) (suc place) x = ap suc (length-kept list place x)
 
--- a client that has no open request may be written without a change of the requests' texts
+-- the texts are still kept after a client is changed to one without an open request
 kept_without : (calls : List (List ℕ)) (clients : List ClientState) (session : ℕ) (before next : ClientState)
     → slice_get clients session ≡ Some before
     → open_request (Some next) ≡ None → Kept calls clients → Kept calls (set clients session next)
@@ -71,7 +71,7 @@ kept_without calls clients session before next found none kept = record {
   ];
 }
 
--- a client with the same open request was written
+-- the texts are still kept after a client is changed to one with the same open request
 kept_same : (calls : List (List ℕ)) (clients : List ClientState) (session : ℕ) (before next : ClientState)
     → slice_get clients session ≡ Some before
     → open_request (Some next) ≡ open_request (Some before) → Kept calls clients
@@ -87,7 +87,7 @@ kept_same calls clients session before next found same_open kept = record {
   ];
 }
 
--- a session called for a text, which is its open request now
+-- the texts are still kept after a session called for a text that is well called, and that is its open request now
 kept_call : (calls : List (List ℕ)) (clients : List ClientState) (session : ℕ) (text : List ℕ)
     (before next : ClientState)
     → slice_get clients session ≡ Some before → open_request (Some next) ≡ Some (request_called text)
@@ -184,7 +184,7 @@ disconnect_line calls config session is = record {
   whole = line_feed session is (codes "DISCONNECT") refl;
 }
 
--- a statement took effect: its line, and what is still open
+-- what is written for an act is the line of its effect, and the texts of what is open after it are kept
 pub record HasLine (calls : List (List ℕ)) (config : Config) (session : ℕ) (act : Act) (mid : Config) : Type 0 where
   pub line : IsEffectLine config session act (effect_line calls session act)
   pub kept : Kept calls mid.clients

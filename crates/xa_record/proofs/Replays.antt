@@ -150,7 +150,7 @@ lines_whole old [] [] [] are = tt
 lines_whole old [] [] (line ∷ lines) are = absurd are
 lines_whole old (event ∷ events) [] lines are = absurd are
 
--- run one after another they are answered as what takes effect is
+-- the lines of effects, run one after another, are answered as what takes effect is
 answers_along : (old : Config) (events : List Event) (moves : List Move) (lines : List (List ℕ))
     → AreEffects old events moves lines
     → AnswersAlong old events moves (run_text old.state lines)
@@ -185,7 +185,7 @@ answers_along old [] [] [] are = refl
 answers_along old [] [] (line ∷ lines) are = absurd are
 answers_along old (event ∷ events) [] lines are = absurd are
 
--- what sessions call for is as the law wants it
+-- a text is well called if it is bare, and the statement of its call is written back
 well_called : (session : ℕ) (text : List ℕ) (event : Event) → IsBare text → event ≡ Call session (request_called text)
     → IsWrittenCall event → IsWellCalled text
 well_called session text event bare is written = record {
@@ -216,7 +216,7 @@ opened : (base : State) → (opening_config base).state ≡ base
 unfolding opening_config
 opened base = refl
 
--- the order of moves that lead through what is seen is answered as they are
+-- the order of moves that lead through what is seen, run as a script, gives the answers of the moves
 pub order_answered : (base : State) (allowances : List Allowance) (numbered : List NumberedEvent)
     (events : List Event) (moves : List Move) (new : Config)
     → AreWellCalled numbered → AreEvents allowances numbered events

@@ -49,7 +49,7 @@ judged_so (Ok report) base allowances lines numbered asked events verdict bare a
     }
 judged_so (Err fault) base allowances lines numbered asked events verdict bare are written right told = tt
 
--- something happens in the record, and it was judged
+-- if no line is faulty and something happens, a judgement on the events is the report of what was read
 pub reported : {E : Type 0} (result : Result ReportMade E) (base : State) (allowances : List Allowance)
     (lines : List (List ℕ)) (faults : List ℕ) (numbered : List NumberedRead) (asked : Asked)
     → faults ≡ [] → (length numbered == 0) ≡ false

@@ -1,7 +1,7 @@
 -- The committed values of rows, before and after a statement.
 --     rows_left      a statement that leaves them as they are
---     row_named      a row that a session writes at once
---     named_after, named_made     the keys of all rows are noted
+--     row_named      after a `PUT` the keys with its own name all rows
+--     named_after, named_made     the same where the key was noted;  and after all rows and branches were made
 --     is_listed      a text that is a server's listing
 --     free_told      what a session that has nothing open is answered
 use Rattle.std.proofs.Common.{◌≡◌, ◌≢◌, ℕ, List, [], ◌∷◌, ◌++◌, ◌⊎◌, true, false, inl, inr}
@@ -76,7 +76,7 @@ unless_rows (Value value) state new same = same
 unless_rows (Recovered xids) state new same = same
 unless_rows (Refused error) state new same = refl
 
--- a statement that leaves the committed values as they are
+-- after a statement that leaves rows (`leaves_rows`) all committed values are as before
 pub rows_left : (state : State) (session : ℕ) (statement : Statement)
     → leaves_rows (association_of state session) statement ≡ true
     → (after state session statement).rows ≡ state.rows
@@ -85,7 +85,7 @@ rows_left state session statement is =
     unless_rows (reply_to state session statement) state (effect state session (association_of state session) statement)
     (effect_rows state session (association_of state session) statement is)
 
--- a key at the end of keys, and one before it
+-- keys with one more at the end contain that one
 at_end : (keys : List (List ℕ)) (key other : List ℕ) → other ≡ key → Contains (keys ++ key ∷ []) other
 at_end keys key other is = Contains-append_right keys (key ∷ []) other (0, omega (arith), sym is)
 
@@ -112,7 +112,7 @@ named_put state keys key value other all has (inr apart) =
     Contains-append_left keys (key ∷ []) other (all.names other
     (λ none. has (get_inserted_apart bytes_total exact_texts state.rows key value other apart ∙ none)))
 
--- a row is written by a free session, or in a branch
+-- after the effect of a `PUT`, at once or in a branch, the keys with its own name all rows
 named_by_effect : (state : State) (session : ℕ) (association : Association) (keys : List (List ℕ)) (key : List ℕ)
     (value : Text) → NamesAllRows keys state
     → NamesAllRows (keys ++ key ∷ []) (effect state session association (Put key value))
@@ -137,7 +137,7 @@ unless_named (Value value) state new keys old after = after
 unless_named (Recovered xids) state new keys old after = after
 unless_named (Refused error) state new keys old after = old
 
--- a row that a session writes at once, or in a branch
+-- after a `PUT`, carried out or refused, the keys with its own name all rows
 pub row_named : (state : State) (session : ℕ) (keys : List (List ℕ)) (key : List ℕ) (value : Text)
     → NamesAllRows keys state
     → NamesAllRows (keys ++ key ∷ []) (after state session (Put key value))
@@ -154,7 +154,7 @@ none_named state keys is = record {
   names = λ other has. absurd (has (ap (λ (s : State). map.get s.rows other) is ∙ get-empty bytes_cmp other));
 }
 
--- a row that was written, whose key was noted
+-- after a `PUT` whose key was noted, the noted keys still name all rows
 pub named_after : (state new : State) (session : ℕ) (keys longer : List (List ℕ)) (key : List ℕ) (value : Text)
     → longer ≡ keys ++ key ∷ [] → new ≡ after state session (Put key value)
     → NamesAllRows keys state → NamesAllRows longer new
@@ -163,7 +163,8 @@ named_after state new session keys longer key value is done named =
     (subst (λ (l : List (List ℕ)). NamesAllRows l (after state session (Put key value))) (sym is)
     (row_named state session keys key value named))
 
--- rows were made over a server that holds nothing, and then branches
+-- if rows were made over a server that holds nothing, and then branches, which leave rows as they are, the noted keys
+-- name all rows
 pub named_made : (empty rows prepared made : State) (none keys : List (List ℕ)) → empty ≡ no_state
     → (NamesAllRows none empty → NamesAllRows keys rows) → prepared.rows ≡ rows.rows → made.rows ≡ prepared.rows
     → NamesAllRows keys made
@@ -175,7 +176,7 @@ pub is_listed : (text : List ℕ) (state : State) (keys : List (List ℕ)) → t
     → NamesAllRows keys state → IsStateOf text state
 is_listed text state keys lists all = record { keys = keys; lists = lists; all = all }
 
--- a session that has nothing open can't end anything
+-- a session that has nothing open is answered RMFAIL, state NON-EXISTING, to each `XA END`
 pub free_told : (state : State) (session : ℕ) (xid : Xid) → association_of state session ≡ Free
     → reply_to state session (End xid) ≡ Refused (Rmfail NonExisting)
 unfolding reply_to table

@@ -78,7 +78,7 @@ alike-strictly true f n number told =
     (note_of n number told) number
     (alike-noted o f n number told)
 
--- a return whose last row came, or whose rows are still to come
+-- a return whose last row came, or whose rows are still to come, keeps notes alike
 alike-awaiting : (b : Bool) (f : List ℕ) (n : Notes) (a : Awaited)
     → Alike (if b then returned (with_faults f n) a else record (with_faults f n) { awaited = Some a })
     (if b then returned n a else record n { awaited = Some a })

@@ -48,7 +48,7 @@ inserted bytes (first ∷ keys) key = by (bytes_cmp (bytes key) (bytes first)) (
     by Equal later = refl
     by Greater later = ap (λ l. bytes first ∷ l) later
 
--- the text of one answer more was put in
+-- the loop over answers: the text of one more was put in, and the keys are the texts of one answer more
 pub texts-more : {A : Type 0} (bytes : A → List ℕ) (old new : List A) (key : A) (answers : List Answer) (index : ℕ)
     (answer : Answer) → index < length answers
     → answer ≡ get_or answers index answer

@@ -11,7 +11,7 @@ use Rattle.xa_record.proofs.RecordLines.{AllTold, Found, lines-told}
 use Rattle.xa_record.proofs.RecordReads.{lines-read}
 use Rattle.xa_record.proofs.FirstFaults.{first-fault}
 
--- what is written for a faulty line isn't nothing
+-- if two texts together are empty, so is the first
 pub nothing-before : (xs ys : List ℕ) → xs ++ ys ≡ [] → xs ≡ []
 nothing-before [] ys none = refl
 nothing-before (x ∷ xs) ys none = absurd (cc)

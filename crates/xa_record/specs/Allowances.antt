@@ -3,6 +3,8 @@
 --     words_of          the words of a kind of statement
 --     kind_of           the kind of a request
 --     others_for        the rules' numbers for which a number that was seen may stand, in addition to its own
+--     no_kinds, kinds_after, kind_asked     the kind of what each session called for last: before the first event,
+--                       after one, and of a session
 --     allowance_of      what a line allows
 --     allowances_of     what the lines of a text allow, or the number of the first line that isn't an
 --                       allowance
@@ -67,12 +69,12 @@ abbrev pub kind_of : Request → Option StatementKind
 kind_of (Given statement) = kind_of_statement statement
 kind_of Unread = None
 
--- the allowance lets the server's number stand for the rules' number, as the answer to a statement of this
--- kind
+-- whether a number that the server gave may stand for the rules' number by this allowance, as the answer to a
+-- statement of this kind
 abbrev pub lets_stand : Allowance → StatementKind → ℕ → Bool
 lets_stand one kind number = one.server == number && bytes_eq (words_of one.kind) (words_of kind)
 
--- the rules' numbers for which the allowances let a number stand
+-- the rules' numbers for which the allowances let a number stand that the server gave
 abbrev pub allowed_for : List Allowance → StatementKind → ℕ → List ℕ
 allowed_for [] kind number = []
 allowed_for (one ∷ more) kind number =
@@ -83,11 +85,11 @@ abbrev pub others_for : List Allowance → Option StatementKind → ℕ → List
 others_for allowances None number = []
 others_for allowances (Some kind) number = allowed_for allowances kind number
 
--- before the first call: no session, by its number, has called for a statement of any kind
+-- at each session's number the kind of what it called for last, before the first call: none has called
 abbrev pub no_kinds : List (Option StatementKind)
 no_kinds = replicate 17 None
 
--- at each session's number the kind of statement that it called for last, after this event
+-- at each session's number the kind of what it called for last, after this event; None if that has no kind
 abbrev pub kinds_after : Event → List (Option StatementKind) → List (Option StatementKind)
 kinds_after (Call session request) kinds = slice_set kinds session (kind_of request)
 kinds_after event kinds = kinds
@@ -97,7 +99,7 @@ abbrev pub kind_at : Option (Option StatementKind) → Option StatementKind
 kind_at None = None
 kind_at (Some kind) = kind
 
--- the kind of the statement that the session called for last
+-- the kind of what the session called for last; None if it hasn't called, or if that has no kind
 abbrev pub kind_asked : List (Option StatementKind) → ℕ → Option StatementKind
 kind_asked kinds session = kind_at (slice_get kinds session)
 
@@ -117,13 +119,13 @@ allowance_by rules kind (Some server) (byte ∷ rest) = None
 abbrev pub allowance_with : ℕ → StatementKind → List ℕ → Option Allowance
 allowance_with rules kind text = allowance_by rules kind (number_of_word (first_word text)) (behind_word text)
 
--- an allowance whose words XA COMMIT were read: ONE PHASE comes next
+-- an allowance whose words XA COMMIT were read: ONE PHASE and a colon come next, and then the server's number
 unfoldable pub one_phase_allowed : ℕ → List ℕ → List ℕ → Option Allowance
 one_phase_allowed rules word text =
     if bytes_eq word (codes "ONE") && bytes_eq (first_word text)
     (codes "PHASE:") then allowance_with rules CommitOnePhase (behind_word text) else None
 
--- an allowance whose word XA was read: the next word and the text behind it say the kind
+-- an allowance whose word XA was read: the next word and the text behind it say the rest
 unfoldable pub xa_allowed : ℕ → List ℕ → List ℕ → Option Allowance
 xa_allowed rules word text =
     if bytes_eq word (codes "START:") then allowance_with rules Start text else
@@ -182,7 +184,8 @@ allowances_in number (line ∷ lines) = first_allows (line_allows number line) (
 unfoldable pub allowances_of : List ℕ → Result (List Allowance) ℕ
 allowances_of text = allowances_in 1 (lines_of text)
 
--- the fault has the number of that line, unless there was no memory
+-- whether a fault is right for what the lines allow: `Line` has the number of the first line that isn't an allowance;
+-- `NoMemory` may always be
 abbrev pub IsAllowFaultOf : Result (List Allowance) ℕ → AllowFault → Type 0
 IsAllowFaultOf said (LineFault number) = said ≡ Err number
 IsAllowFaultOf said NoMemory = Unit {0}

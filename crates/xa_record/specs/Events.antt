@@ -1,7 +1,8 @@
 -- Which events the lines of a record say.
 --     request_called     the request of a session that calls for a text
 --     IsSeen             what is seen is what a return shows, with rows in ascending order
---     IsEvent            an event is what happens
+--     others_shown       the rules' numbers for which a refusal that is shown may stand, in addition to its own
+--     IsEvent            an event is what a line says that happens
 --     AreEvents          each event is what happens on its line
 --     AreCalls           the event of each call is that call
 use Rattle.std.specs.Prelude.{◌≡◌, ℕ, Option, Result, Ok, Err, List, [], ◌∷◌}
@@ -49,7 +50,7 @@ abbrev pub others_shown : List Allowance → Option StatementKind → Shown → 
 others_shown allowances kind (ShowsError number) = others_for allowances kind number
 others_shown allowances kind shown = []
 
--- an event is what happens; sessions called for statements of these kinds last
+-- an event is what a line says that happens; `kinds` are those of what sessions called for last
 abbrev pub IsEvent : List Allowance → List (Option StatementKind) → Told → Event → Type 0
 IsEvent allowances kinds (Calls session text) event = event ≡ Call session (request_called text)
 IsEvent allowances kinds (Returns session shown) (Return other seen) =
@@ -58,8 +59,7 @@ IsEvent allowances kinds (Returns session shown) event = ⊥
 IsEvent allowances kinds (ReturnsUnknown session) event = event ≡ Unknown session
 IsEvent allowances kinds (Leaves session) event = event ≡ Lost session
 
--- one event for each line, and each is what happens there; sessions called for statements of these kinds
--- before
+-- one event for each line, and each is what happens there; `kinds` are those of what sessions called for last before
 unfoldable pub AreEventsAfter : List Allowance → List (Option StatementKind) → List NumberedEvent → List Event → Type 0
 AreEventsAfter allowances kinds [] [] = Unit {0}
 AreEventsAfter allowances kinds (one ∷ numbered) (event ∷ events) =
@@ -70,11 +70,11 @@ AreEventsAfter allowances kinds numbered events = ⊥
 abbrev pub AreEvents : List Allowance → List NumberedEvent → List Event → Type 0
 AreEvents allowances numbered events = AreEventsAfter allowances no_kinds numbered events
 
--- the event of a call is that call
+-- the event of a call is that call; of anything else nothing is said
 abbrev pub IsCallOf : Told → Event → Type 0
 IsCallOf (Calls session text) event = event ≡ Call session (request_called text)
 IsCallOf told event = Unit {0}
 
--- the event of each call is that call
+-- there are as many events as things that happen, and that of each call is that call; of others nothing is said
 abbrev pub AreCalls : List NumberedEvent → List Event → Type 0
 AreCalls numbered events = AllZip (λ one event. IsCallOf one.told event) numbered events

@@ -6,6 +6,7 @@
 --     call_line      a call as a line of a record, in canonical form
 --     Exchange       what was seen, and the number and the line of its call
 --     exchange_at    what was seen at a place, and the last call of its session before that
+--     exchange_sought    the same, if it is asked for
 use Rattle.std.specs.Prelude.{ℕ, ◌==◌, Bool, true, false, if◌then◌else◌, Option, Some, None, List, [], ◌∷◌, ◌++◌}
 use Rattle.std.specs.Prelude.{codes, decimal, take, slice_get}
 use Rattle.xa_server.specs.declared.reply.Reply.TheVariants.{Value, Recovered}
@@ -21,23 +22,23 @@ shown_text (ShowsValue value) = reply_text true (Value value)
 shown_text (ShowsRows rows) = reply_text true (Recovered rows)
 shown_text (ShowsError number) = codes "ERROR " ++ decimal number
 
--- a return as a line of a record, in canonical form
+-- a return as a line of a record, in canonical form; empty for anything else
 abbrev pub seen_line : Told → List ℕ
 seen_line (Returns session shown) = decimal session ++ codes " < " ++ shown_text shown
 seen_line told = []
 
--- the session calls
+-- whether this is a call by the session
 abbrev pub is_call_by : ℕ → Told → Bool
 is_call_by session (Calls other text) = other == session
 is_call_by session told = false
 
--- the last call of the session, if it is this one or among those that follow
+-- the last call of the session in a list, or `found` if the list has none
 unfoldable pub last_call : ℕ → Option NumberedEvent → List NumberedEvent → Option NumberedEvent
 last_call session found [] = found
 last_call session found (one ∷ more) =
     last_call session (if is_call_by session one.told then Some one else found) more
 
--- a call as a line of a record, in canonical form
+-- a call as a line of a record, in canonical form; empty for anything else
 abbrev pub call_line : Told → List ℕ
 call_line (Calls session text) = decimal session ++ codes " > " ++ call_text text
 call_line told = []
@@ -47,7 +48,7 @@ abbrev pub line_of_call : Option NumberedEvent → List ℕ
 line_of_call None = []
 line_of_call (Some numbered) = call_line numbered.told
 
--- what was seen, and the number and the line of its call
+-- what was seen, and the number and the line of its call; without a call these are 0 and empty
 pub record Exchange : Type 0 where
   pub seen : List ℕ
   pub line : ℕ
@@ -70,7 +71,7 @@ exchange_after before (Some one) = exchange_with one.told (last_call (session_of
 abbrev pub exchange_at : List NumberedEvent → ℕ → Exchange
 exchange_at numbered place = exchange_after (take place numbered) (slice_get numbered place)
 
--- the same if it is asked for
+-- what was seen at this place, with its call, if that is asked for
 abbrev pub exchange_sought : Bool → List NumberedEvent → ℕ → Option Exchange
 exchange_sought true numbered place = Some (exchange_at numbered place)
 exchange_sought false numbered place = None

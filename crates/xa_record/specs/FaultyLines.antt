@@ -2,8 +2,8 @@
 -- Every rule here is the project's own: docs/HISTORIES.md#records.
 --     rows_due           how many rows are still to come after lines
 --     said_by            what lines say that aren't in the place of a row
---     presence_said      what that says of a session
---     cause_said         why this can't happen after that
+--     presence_said      whether a session has an open call or is lost, by what lines say
+--     cause_said         why something can't happen after what lines say
 --     fault_between      why a line is faulty that has these lines before it and those after it
 --     faulty_text        what is written for the faulty lines
 use Rattle.std.specs.Prelude.{ℕ, zero, suc, ◌+◌, ◌==◌, nat_lt, Bool, true, false, if◌then◌else◌, Option, Some, None}
@@ -46,7 +46,7 @@ unfoldable pub said_by : ℕ → List (List ℕ) → List LineSaid
 said_by due [] = []
 said_by due (line ∷ lines) = said_alone due line ++ said_by (due_after due line) lines
 
--- what a line says happens; a return with rows happens on its own line
+-- what a line says that happens, if it says so: a return with rows on its own line, though these aren't known there
 abbrev pub told_by : LineSaid → Option Told
 told_by Nothing = None
 told_by Bad = None
@@ -67,7 +67,7 @@ presence_said_from session presence [] = presence
 presence_said_from session presence (said ∷ more) =
     presence_said_from session (presence_by session presence (told_by said)) more
 
--- what is said of the session by all of this
+-- whether a session has an open call or is lost after all that was said, if it is idle at first
 abbrev pub presence_said : ℕ → List LineSaid → Presence
 presence_said session before = presence_said_from session Idle before
 
@@ -80,7 +80,7 @@ abbrev pub first_fault : Option LineFault → Option LineFault → Option LineFa
 first_fault (Some fault) other = Some fault
 first_fault None other = other
 
--- if it is strict, a call has to be a statement
+-- the fault of a call that isn't a statement, if it is strict
 abbrev pub fault_strictly : Bool → Told → Option LineFault
 fault_strictly false told = None
 fault_strictly true told = fault_called told

@@ -15,19 +15,19 @@ use Rattle.xa_record.specs.VerdictText.{line_text, answers_text}
 use Rattle.xa_record.specs.Exchanges.{Exchange}
 use Rattle.xa_record.specs.Reports.{Reason, Report, Faulty, Empty, Legal, Illegal, Undecided}
 
--- the lines of an order after its heading, and those of a store
+-- the lines of an order and those of a store, each after its heading; nothing if there is no reason
 abbrev pub reason_text : Option Reason → List ℕ
 reason_text None = []
 reason_text (Some reason) = codes "ORDER BEFORE\n" ++ reason.order ++ codes "STATE\n" ++ reason.state
 
--- what was seen, and its call with the number of its line
+-- what was seen, and its call with the number of its line; nothing if neither is told
 abbrev pub exchange_text : Option Exchange → List ℕ
 exchange_text None = []
 exchange_text (Some exchange) =
     codes "SEEN " ++ exchange.seen ++ codes "\nCALL line " ++ decimal exchange.line ++ codes " " ++ exchange.call
     ++ codes "\n"
 
--- the lines of a smaller record, after its heading
+-- the lines of a smaller record, after its heading; nothing if there is none
 abbrev pub smaller_text : Option (List ℕ) → List ℕ
 smaller_text None = []
 smaller_text (Some written) = codes "RECORD\n" ++ written

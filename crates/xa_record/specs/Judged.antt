@@ -4,12 +4,14 @@
 --     IsReportedOf           a report is right for lines without a fault; if they say nothing there is no
 --                            verdict
 --     IsReported             a report is right for lines: if some are faulty it is exactly these, each with its cause
---     IsReportedOfNotes      the same as the reader finds it
+--     IsReportedOfNotes      a report is right for what was read of lines: the faulty ones, or else the events
 --     IsJudgedFrom           a record of this text, which begins in a state, ends so, and this is written for it
---     AppendsJudgedFrom      the writer got that text
+--     AppendsJudgedFrom, AppendsJudgedPrefix      the writer got that text;  or a prefix of it
+--     IsJudgedTextFrom       this may be written for a record of this text, however judging it ends
 --     AfterJudgeFaultFrom    what a fault leaves in the writer
---     IsJudged, AppendsJudged, AfterJudgeFault     the same of a record that begins with a server that holds
---                            nothing
+--     IsJudged, AppendsJudged, IsJudgedText, AfterJudgeFault     the same of a record that begins with a server that
+--                            holds nothing
+--     IsFaultOfJudging       a fault of judging: out of memory
 use Rattle.std.specs.Prelude.{◌≡◌, ℕ, Option, List, [], ◌∷◌, IfSome}
 use Rattle.std.specs.Io.KnownBytes.{Keeps, Appends}
 use Rattle.xa_server.specs.State.{State, no_state}
@@ -119,7 +121,7 @@ IsJudgedTextFrom base allowances asked written text = (outcome : Outcome)
 abbrev pub IsJudgedText : List Allowance → Asked → List ℕ → List ℕ → Type 0
 IsJudgedText allowances asked written text = IsJudgedTextFrom no_state allowances asked written text
 
--- a fault of judging a record that was read
+-- a fault of judging a record that was read: there was no memory
 abbrev pub IsFaultOfJudging : List ℕ → ScriptFault → Type 0
 IsFaultOfJudging written fault = fault ≡ NoMemory
 

@@ -79,7 +79,7 @@ line_kept (ClosedRead session) = Closed session
 abbrev pub numbered_kept : NumberedRead → NumberedEvent
 numbered_kept numbered = record { number = numbered.number; told = told_kept numbered.line_event }
 
--- rows that are still to come
+-- rows that are still to come, as definitions see them
 abbrev pub awaited_kept : Pending → Awaited
 awaited_kept pending =
     record {
@@ -110,7 +110,7 @@ abbrev pub exchange_kept : ExchangeMade → Exchange
 exchange_kept exchange =
     record { seen = exchange.seen.items; line = exchange.line; call = exchange.call.items }
 
--- what is told beside the answers
+-- what is told beside the answers of an ILLEGAL verdict, as definitions see it
 abbrev pub grounds_kept : GroundsMade → Grounds
 grounds_kept grounds =
     record {
@@ -119,7 +119,7 @@ grounds_kept grounds =
       smaller = option_map (λ text. text.items) grounds.smaller;
     }
 
--- what is reported of a record
+-- what is reported of a record, as definitions see it
 abbrev pub report_kept : ReportMade → Report
 report_kept (FaultyMade faults) = Faulty faults.items
 report_kept EmptyMade = Empty
@@ -138,7 +138,7 @@ abbrev pub text_numbered : Option NumberedEvent → List ℕ
 text_numbered None = []
 text_numbered (Some numbered) = text_told numbered.told
 
--- the text of the call at this place
+-- the text of the call at this place; nothing without a place, or where no call is
 abbrev pub text_at : List NumberedEvent → Option ℕ → List ℕ
 text_at numbered None = []
 text_at numbered (Some place) = text_numbered (slice_get numbered place)

@@ -66,17 +66,17 @@ abbrev pub alone : LineSaid → List ℕ → LineSaid
 alone said [] = said
 alone said (byte ∷ rest) = Bad
 
--- what a line says whose return shows the value after the word VALUE
+-- what a line says whose return shows a value, by how the literal after VALUE is read
 abbrev pub value_said : ℕ → Reading Text → LineSaid
 value_said session (Ok (value, rest)) = alone (Says (Returns session (ShowsValue (Some value)))) (unblank rest)
 value_said session (Err fault) = Bad
 
--- the number of rows after ROWS
+-- what a line says whose return shows rows, by their number after ROWS and the text behind that
 abbrev pub rows_said : ℕ → Option ℕ → List ℕ → LineSaid
 rows_said session None rest = Bad
 rows_said session (Some count) rest = alone (Awaits session count) rest
 
--- the number of a refusal, 0 to 65,535; what follows it says nothing
+-- what a line says whose return is a refusal, by its number, 0 to 65,535; what follows it says nothing
 abbrev pub error_said : ℕ → Option ℕ → LineSaid
 error_said session None = Bad
 error_said session (Some number) = if nat_lt number 65536 then Says (Returns session (ShowsError number)) else Bad
@@ -118,11 +118,11 @@ filled_said (Given session text) = session_said session (first_word text) (behin
 unfoldable pub reading_of_line : List ℕ → LineSaid
 reading_of_line line = if is_silent line then Nothing else filled_said (line_of line)
 
--- a line isn't written as a line of a record is
+-- whether a line isn't written as a line of a record is, by what it says
 abbrev pub is_bad : LineSaid → Bool
 is_bad Bad = true
 is_bad said = false
 
--- a line in the place of a row isn't one, and isn't silent
+-- whether a line in the place of a row isn't one, and isn't silent
 abbrev pub is_no_row : List ℕ → Bool
 is_no_row line = not (is_silent line || is_some (row_said (unblank line)))

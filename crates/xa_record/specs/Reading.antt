@@ -1,10 +1,13 @@
 -- How a record is read, line by line. Every rule here is the project's own: docs/HISTORIES.md#records.
 -- Faulty lines are written in ascending order, each once. What is written for those among the rows of a
 -- return is held until all rows of that return have come, and comes after what is written for it.
+--     session_of, presence_after, is_return_of     the session to which something happens;  whether it is idle, has an
+--                         open call or is lost after that;  whether a call of it returns
 --     cause_of            why what happens to a session is faulty, by what the lines before say of it
 --     fault_called        why a call is faulty if the texts of calls are tested
 --     fault_text          what is written for a faulty line
 --     Awaited             rows that are still to come, and the faulty lines among those that came
+--     NumberedEvent       what happens, with the number of its line
 --     Notes               what was read so far
 --     note_of             the notes after this happens
 --     note_closed         the notes after a connection was found closed
@@ -123,12 +126,12 @@ noted_if (Some fault) notes number told = blamed notes number fault
 abbrev pub note_of : Notes → ℕ → Told → Notes
 note_of notes number told = noted_if (cause_of (slice_get notes.presence (session_of told)) told) notes number told
 
--- the other fault, if there is none
+-- the second fault, unless there is a first: a line is blamed once
 abbrev pub beyond : Option LineFault → Option LineFault → Option LineFault
 beyond (Some fault) other = None
 beyond None other = other
 
--- the line is faulty if there is a fault
+-- the notes with the line of this number as faulty, if there is a fault
 abbrev pub blamed_if : Option LineFault → Notes → ℕ → Notes
 blamed_if None notes number = notes
 blamed_if (Some fault) notes number = blamed notes number fault
@@ -141,7 +144,7 @@ note_strictly true notes number told =
     blamed_if (beyond (cause_of (slice_get notes.presence (session_of told)) told) (fault_called told))
     (note_of notes number told) number
 
--- a call of the session returns
+-- whether a call of the session returns by this, with a known answer or not
 abbrev pub is_return_of : ℕ → Told → Bool
 is_return_of session (Returns other shown) = other == session
 is_return_of session (ReturnsUnknown other) = other == session
@@ -198,7 +201,7 @@ noted_row notes awaited number line =
     if is_silent line then notes else with_row (record notes { awaited = None }) awaited number
     (row_said (unblank line))
 
--- a line that isn't in the place of a row
+-- the notes after a line that isn't in the place of a row, by what it says
 unfoldable pub noted_said : Bool → Notes → ℕ → LineSaid → Notes
 noted_said strict notes number Nothing = notes
 noted_said strict notes number Bad = blamed notes number NotALine
@@ -207,7 +210,7 @@ noted_said strict notes number (Closed session) = note_closed notes number sessi
 noted_said strict notes number (Awaits session count) =
     awaiting notes (record { session = session; number = number; missing = count; rows = []; faults = [] })
 
--- a line in the place of a row that is awaited, or else a line of its own
+-- the notes after a line: it is taken as a row if rows are awaited, else by what it says
 abbrev pub noted_by : Bool → Option Awaited → Notes → ℕ → List ℕ → Notes
 noted_by strict None notes number line = noted_said strict notes number (reading_of_line line)
 noted_by strict (Some awaited) notes number line = noted_row notes awaited number line

@@ -126,12 +126,12 @@ pub data HasFault : List (List ℕ) → ℕ → LineFault → Type 0 where
   bad_line : (lines : List (List ℕ)) (line : List ℕ) (more : List (List ℕ)) (list : List NumberedEvent)
       → Tells lines list → reading_of_line line ≡ Bad
       → HasFault (lines ++ line ∷ more) (length lines + 1) NotALine
-  -- what it says can't happen there
+  -- a line that says what can't happen there
   unfit_line : (lines : List (List ℕ)) (line : List ℕ) (more : List (List ℕ)) (list : List NumberedEvent) (told : Told)
       (fault : LineFault) → Tells lines list
       → reading_of_line line ≡ Says told → cause_next list told ≡ Some fault
       → HasFault (lines ++ line ∷ more) (length lines + 1) fault
-  -- a connection was found closed whose client was lost
+  -- a connection was found closed whose client was lost before
   unfit_gone : (lines : List (List ℕ)) (line : List ℕ) (more : List (List ℕ)) (list : List NumberedEvent) (session : ℕ)
       (fault : LineFault) → Tells lines list
       → reading_of_line line ≡ Closed session → cause_next list (Leaves session) ≡ Some fault
@@ -141,13 +141,13 @@ pub data HasFault : List (List ℕ) → ℕ → LineFault → Type 0 where
       (session count : ℕ) → Tells lines list
       → reading_of_line line ≡ Awaits session count → filled more < count
       → HasFault (lines ++ line ∷ more) (length lines + 1) RowsMissing
-  -- they have come, or other lines in their place, and the return can't happen there
+  -- enough lines have come in the place of rows, rows or not, and the return can't happen there
   unfit_rows : (lines : List (List ℕ)) (line : List ℕ) (more : List (List ℕ)) (list : List NumberedEvent)
       (session count : ℕ) (fault : LineFault) → Tells lines list
       → reading_of_line line ≡ Awaits session count → count ≤ filled more
       → cause_next list (Returns session (ShowsRows [])) ≡ Some fault
       → HasFault (lines ++ line ∷ more) (length lines + 1) fault
-  -- it can, and the first line in the place of a row is this
+  -- enough lines have come in the place of rows, and the return can happen; `row` is the first of them that isn't one
   bad_row : (lines : List (List ℕ)) (line : List ℕ) (rows : List (List ℕ)) (row : List ℕ) (more : List (List ℕ))
       (list : List NumberedEvent) (session count : ℕ)
       → Tells lines list → reading_of_line line ≡ Awaits session count → Fits list (Returns session (ShowsRows []))

@@ -7,8 +7,9 @@
 --     requested                    what an act of a session carries out
 --     AreEffects                   the lines give what takes effect, in order, along moves that lead through
 --                                  the events
---     AreWellCalled                what sessions call for begins with no blank, and is written so that it is
---                                  read back
+--     IsWrittenBack                the canonical form of a statement is read as that statement
+--     AreBare                      what sessions call for begins with no blank, and has no line feed
+--     AreWellCalled                the same, and each supported statement among it is written back
 --     IsAnswered                   what `run` writes for what takes effect
 --     AnswersAlong                 the same for each effect, in order, along moves that lead through the
 --                                  events
@@ -119,7 +120,7 @@ pub record IsWrittenBack (statement : Statement) : Type 0 where
   pub spelled : Spells (statement_text statement) statement
   pub whole : HasNoFeed (statement_text statement)
 
--- the parts of a statement are as those of every statement of a program
+-- an identifier in a statement can be written, as each identifier of a program can; a statement without one is fit
 abbrev pub IsFit : Statement → Type 0
 IsFit (Start xid) = IsWritable xid
 IsFit (End xid) = IsWritable xid
@@ -149,8 +150,8 @@ IsBareTold (Leaves session) = Unit {0}
 abbrev pub AreBare : List NumberedEvent → Type 0
 AreBare numbered = AllByRecursion (λ one. IsBareTold one.told) numbered
 
--- a text that a session calls for begins with no blank and has no line feed; if it is a statement, that is
--- written back
+-- a text that a session calls for begins with no blank and has no line feed; if it is a statement that is supported,
+-- that is written back
 pub record IsWellCalled (text : List ℕ) : Type 0 where
   pub bare : unblank text ≡ text
   pub whole : HasNoFeed text

@@ -12,11 +12,11 @@ use Rattle.xa_xid.specs.declared.byte_class.ByteClass.TheVariants.{Decimal}
 use Rattle.xa_xid.specs.declared.xid.Xid.{Xid}
 use Rattle.xa_lines.specs.Script.{is_empty_line, first_word, behind_word, number_of_word}
 
--- the number of a text's first digits
+-- the number of a text's first digits; None if there are none, for a leading zero, and for 2^64 or more
 unfoldable pub leading_number : List ℕ → Option ℕ
 leading_number text = number_of_word (front (belongs Decimal) text)
 
--- the digits of a word after its `0x`
+-- the digits of a word after its `0x`; None if it doesn't begin so
 abbrev pub digits_named : List ℕ → Option (List ℕ)
 digits_named (zero_digit ∷ letter ∷ digits) = if zero_digit == 48 && letter == 120 then Some digits else None
 digits_named word = None
@@ -32,7 +32,8 @@ xid_of format_id gtrid (Ok bytes) =
     })
 xid_of format_id gtrid (Err fault) = None
 
--- the identifier with this formatID, these lengths of gtrid and bqual, and these digits for both
+-- the identifier with this formatID, these lengths of gtrid and bqual, and these digits for both; None if a length is
+-- over 64, or the digits aren't two hexadecimal ones for each byte
 unfoldable pub xid_written : ℕ → ℕ → ℕ → List ℕ → Option Xid
 xid_written format_id gtrid bqual digits =
     if nat_le gtrid text_bytes && nat_le bqual text_bytes then xid_of format_id gtrid
@@ -50,7 +51,7 @@ row_of first second third fourth =
     (number_of_word (first_word second)) (number_of_word (first_word third))
     (digits_named (first_word fourth)) else None
 
--- the identifier that a line is, from its first byte on that isn't a blank
+-- the identifier that a row is, from its first byte on that isn't a blank; None if it isn't a row
 unfoldable pub row_said : List ℕ → Option Xid
 row_said text =
     row_of text (behind_word text) (behind_word (behind_word text)) (behind_word (behind_word (behind_word text)))

@@ -26,7 +26,7 @@ abbrev pub line_if : Bool → List ℕ → List ℕ
 line_if true line = unblank line ++ codes "\n"
 line_if false line = []
 
--- the lines that are chosen, in their order
+-- the lines that are chosen, in their order; lines without a choice aren't
 unfoldable pub chosen_text : List Bool → List (List ℕ) → List ℕ
 chosen_text [] lines = []
 chosen_text (keeps ∷ more) [] = []

@@ -3,7 +3,9 @@
 --     order_text         the effects of an order as a script
 --     answer_text        an answer that was possible
 --     texts_of           the texts of answers, each once, ascending by their bytes
+--     answers_text       the COULD BE lines for these texts
 --     line_number_at     the number of the line on which the event at a place happens
+--     line_text          the first line of a verdict that names a line
 use Rattle.std.specs.Prelude.{ℕ, true, Option, Some, None, Result, Ok, Err, List, [], ◌∷◌, ◌++◌, codes, decimal}
 use Rattle.std.specs.Prelude.{slice_get, slice_set, replicate}
 use Rattle.std.specs.BTreeSet.{insert_key}
@@ -46,7 +48,7 @@ abbrev pub text_of_call : Option (List ℕ) → List ℕ
 text_of_call None = []
 text_of_call (Some text) = call_text text
 
--- what the session's act carries out
+-- what is written for a session's act: what it called for last, or DISCONNECT
 abbrev pub act_text : Act → Option (List ℕ) → List ℕ
 act_text ItsStatement call = text_of_call call
 act_text ItsDisconnect call = codes "DISCONNECT"
@@ -55,7 +57,8 @@ act_text ItsDisconnect call = codes "DISCONNECT"
 abbrev pub effect_text : List (List ℕ) → ℕ → Act → List ℕ
 effect_text calls session act = decimal session ++ codes " " ++ act_text act (slice_get calls session) ++ codes "\n"
 
--- the effects of an order, if these events happen and the sessions called for these texts before
+-- the effects of an order, each on a line, if these events are still to happen, and the sessions called for these
+-- texts last before them
 unfoldable pub order_text : List (List ℕ) → List NumberedEvent → List Move → List ℕ
 order_text calls numbered [] = []
 order_text calls numbered (Effect session act ∷ moves) =
@@ -81,7 +84,7 @@ with_answers texts (answer ∷ answers) = with_answers (insert_key bytes_cmp tex
 abbrev pub texts_of : List Answer → List (List ℕ)
 texts_of answers = with_answers [] answers
 
--- what is written for the texts of answers
+-- the COULD BE lines of an ILLEGAL verdict: one for each of these texts, in their order
 unfoldable pub answers_text : List (List ℕ) → List ℕ
 answers_text [] = []
 answers_text (text ∷ texts) = codes "COULD BE " ++ text ++ codes "\n" ++ answers_text texts

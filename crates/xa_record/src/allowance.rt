@@ -21,15 +21,17 @@ pub struct Allowance {
 }
 
 impl Allowance {
-    /// Whether it lets the server's number stand for the rules' number, as the answer to a statement of this
-    /// kind.
+    /// Whether `number`, which the server gave, may stand for the rules' number, as the answer to a statement of
+    /// this kind.
     fn lets_stand(&self, kind: StatementKind, number: u16) -> bool
         ensures { result ≡ lets_stand_so self.now kind number }
     {
+        // Two kinds are the same if their words are.
         self.server == number && self.kind.words() == kind.words()
     }
 
-    /// Appends the rules' number, if the server's number may stand for it.
+    /// Appends the rules' number, if `number`, which the server gave as the answer to a statement of this kind, may
+    /// stand for it. Else appends nothing.
     fn push_allowed(
         &self,
         others: &mut Vec<u16>,
@@ -45,7 +47,7 @@ impl Allowance {
     }
 }
 
-/// The rules' numbers for which a number may stand, as the answer to a statement of this kind.
+/// The rules' numbers for which `number`, which the server gave, may stand, as the answer to a statement of this kind.
 fn others_allowed(
     alloc: Global,
     allowances: &[Allowance],
@@ -61,8 +63,9 @@ fn others_allowed(
     Ok(others)
 }
 
-/// Returns the rules' numbers for which a number may stand by the allowances, as the answer to a request of
-/// this kind. For a request without a kind there is none.
+/// Returns the rules' numbers for which `number`, which the server gave as the answer to a request of this kind, may
+/// stand by the allowances. There are none if `kind` is None: a text that isn't a statement has no kind, nor has one
+/// with a clause that isn't supported.
 ///
 /// May return `NoMemory`.
 pub fn others_for(

@@ -13,7 +13,8 @@ use std::alloc::Global;
 use xa_lines::{number_in, split_line, split_word};
 use xa_xid::{NoMemory, skip_blanks};
 
-/// The allowance, if the text after the words of the kind is the server's number.
+/// The allowance of which `rules` and `kind` were read: the first word of `text` is the server's number. None if it
+/// isn't a number, if more than blanks follow it, or if one of the two numbers isn't below 65,536.
 fn with_number(rules: u64, kind: StatementKind, text: &[u8]) -> Option<Allowance>
     ensures { result ≡ allowance_with rules kind text.now }
 {
@@ -21,6 +22,7 @@ fn with_number(rules: u64, kind: StatementKind, text: &[u8]) -> Option<Allowance
     match number_in(word) {
         None => None,
         Some(server) => {
+            // An error's number has 16 bits, and only blanks may follow it.
             if skip_blanks(rest).is_empty() && rules < 65_536 && server < 65_536 {
                 Some(Allowance {
                     rules: rules as u16,
@@ -34,7 +36,8 @@ fn with_number(rules: u64, kind: StatementKind, text: &[u8]) -> Option<Allowance
     }
 }
 
-/// What is allowed by a text after `XA COMMIT`.
+/// The allowance of a line of which `rules`, the rules' number, and `XA COMMIT` were read: `word` and the first word
+/// of `text` have to be `ONE` and `PHASE:`, and the server's number follows. Else None.
 #[tactic(auto, unfolding(crate::specs::Allowances::one_phase_allowed))]
 fn one_phase(rules: u64, word: &[u8], text: &[u8]) -> Option<Allowance>
     ensures { result ≡ one_phase_allowed rules word.now text.now }
@@ -47,7 +50,9 @@ fn one_phase(rules: u64, word: &[u8], text: &[u8]) -> Option<Allowance>
     }
 }
 
-/// What is allowed by a text after `XA`.
+/// The allowance of a line of which `rules`, the rules' number, and `XA` were read, by the next word and the text
+/// behind it: the rest of a kind's words with a colon at their end, and the server's number. None if they are anything
+/// else.
 #[tactic(auto, unfolding(crate::specs::Allowances::xa_allowed))]
 fn xa(rules: u64, word: &[u8], text: &[u8]) -> Option<Allowance>
     ensures { result ≡ xa_allowed rules word.now text.now }
@@ -71,7 +76,8 @@ fn xa(rules: u64, word: &[u8], text: &[u8]) -> Option<Allowance>
     }
 }
 
-/// What is allowed by a text after the rules' number.
+/// The allowance of a line of which `rules`, the rules' number, was read, by the next word and the text behind it: a
+/// kind's words with a colon at their end, and the server's number. None if they are anything else.
 #[tactic(auto, unfolding(crate::specs::Allowances::allowed))]
 fn allowed(rules: u64, word: &[u8], text: &[u8]) -> Option<Allowance>
     ensures { result ≡ allowed_by rules word.now text.now }
@@ -91,7 +97,8 @@ fn allowed(rules: u64, word: &[u8], text: &[u8]) -> Option<Allowance>
     }
 }
 
-/// What the text allows. It doesn't begin with a blank.
+/// Reads an allowance such as `1399 XA COMMIT: 1400`: the rules' number, the words of a kind of statement with a
+/// colon, and the server's number. The text doesn't begin with a blank. None if it isn't an allowance.
 #[tactic(auto, unfolding(crate::specs::Allowances::allowance_of))]
 fn read_allowance(text: &[u8]) -> Option<Allowance>
     ensures { result ≡ allowance_of text.now }
@@ -105,7 +112,8 @@ fn read_allowance(text: &[u8]) -> Option<Allowance>
     }
 }
 
-/// What the line of this number allows, or its number if it isn't an allowance.
+/// What the line of this number allows: None if it is blank or a comment. The error is its number, if it is anything
+/// else that isn't an allowance.
 fn read_allow_line(number: u64, line: &[u8]) -> Result<Option<Allowance>, u64>
     ensures { result ≡ line_allows number line.now }
 {

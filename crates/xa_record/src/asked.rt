@@ -7,7 +7,7 @@ use crate::form::Form;
 /// Own rule: docs/HISTORIES.md#options.
 #[derive(Clone, Copy, Debug, PartialEq, Eq)]
 pub struct Asked {
-    /// The greatest number of different configurations that may precede an event.
+    /// The greatest number of different configurations that may be kept before an event.
     pub limit: usize,
     /// The form in which the verdict is written.
     pub form: Form,

@@ -6,7 +6,8 @@ use crate::statement_kind::StatementKind;
 use xa_judge::Event;
 use xa_xid::SessionNo;
 
-/// At each session's number, the kind of the statement that it called for last.
+/// At each session's number, the kind of what it called for last: None if it hasn't called, or if that has no kind.
+/// Place 0 belongs to no session.
 #[derive(Clone, Copy)]
 pub struct AskedKinds {
     kinds: [Option<StatementKind>; 17],
@@ -20,7 +21,8 @@ impl AskedKinds {
         AskedKinds { kinds: [None; 17] }
     }
 
-    /// Takes note of the next event.
+    /// Takes note of the next event. After a call its session has the kind of the call's request, or None if that has
+    /// no kind. Other events change nothing.
     pub fn follow(&mut self, event: &Event)
         ensures { self.new.kinds ≡ kinds_after event.now self.old.kinds }
     {
@@ -34,7 +36,7 @@ impl AskedKinds {
         }
     }
 
-    /// Returns the kind of the statement that the session called for last, if that has one.
+    /// Returns the kind of what the session called for last. None if it hasn't called, or if that has no kind.
     pub fn of(&self, session: SessionNo) -> Option<StatementKind>
         ensures { result ≡ kind_asked self.now.kinds session }
     {

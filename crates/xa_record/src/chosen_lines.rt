@@ -7,7 +7,7 @@ use std::alloc::Global;
 use xa_lines::split_line;
 use xa_xid::{NoMemory, skip_blanks};
 
-/// Appends a line if it is chosen, without the blanks at its beginning.
+/// Appends a line and a line feed if `keeps`, without the blanks at the line's beginning. Else appends nothing.
 fn push_if(out: &mut Vec<u8>, keeps: bool, line: &[u8]) -> Result<(), NoMemory>
     ensures { OnOk result (out.new.items ≡ out.old.items ++ line_if keeps line.now) }
 {
@@ -19,7 +19,8 @@ fn push_if(out: &mut Vec<u8>, keeps: bool, line: &[u8]) -> Result<(), NoMemory>
     }
 }
 
-/// Returns the lines of a text that are chosen, each with a line feed. Lines past the end of `keeps` aren't.
+/// Returns the lines of a text at whose places `keeps` is true, each without the blanks at its beginning and with a
+/// line feed. Lines past the end of `keeps` are left out.
 ///
 /// May return `NoMemory`.
 pub fn chosen_text(alloc: Global, text: &[u8], keeps: &[bool]) -> Result<Vec<u8>, NoMemory>

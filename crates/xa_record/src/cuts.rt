@@ -1,10 +1,11 @@
 //! What is left out next of an ILLEGAL record.
 //!
 //! What happens behind the ILLEGAL line is left out first. Then all the rest is tried, and then windows of what is
-//! there, later ones first: a half of it, a quarter, and so on down to single ones. At first these are windows of calls
-//! that are refused, and of calls that read: what they are answered depends on much, and little depends on them. Then
-//! they are windows of branches, since the answers to the other statements of a branch depend on each of them. Windows
-//! of calls come last, and short ones of these are tried again while that helps.
+//! there, later ones first: all of it, a half, a quarter, and so on down to single ones. At first these are windows of
+//! calls that are refused, and then of calls that read, shorter ones only while they are few: what they are answered
+//! depends on much, and little depends on them. Then they are windows of branches, since the answers to the other
+//! statements of a branch depend on each of them. Windows of calls come last; the short ones of these get shorter one
+//! by one, and are tried again while that helps.
 //!
 //! The call that returns on the ILLEGAL line stays. If that line shows a value, one of the calls that write it stays
 //! too, and for each branch that it shows one of those that prepare it: without them any value would be ILLEGAL there.
@@ -16,11 +17,12 @@ use crate::stage::Stage;
 use std::alloc::Global;
 use xa_xid::NoMemory;
 
-/// Windows of up to so many parts are tried at each place, and are tried again. Longer ones overlap by half.
+/// Windows of calls of up to so many parts are tried at each place, and are tried again while that helps. Longer ones
+/// overlap by half. Windows of other stages don't overlap.
 const SHORT: usize = 8;
 
-/// If there are more windows than this of calls that are refused or read, no shorter ones are tried: so many of these
-/// calls are needed that it would take too long to find the others.
+/// If there are more windows than this of calls that are refused, or of calls that read, no shorter ones are tried: so
+/// many of these calls are needed that it would take too long to find the others.
 const MANY: usize = 16;
 
 /// What is left out of an ILLEGAL record, and what is to be left out next.
@@ -32,11 +34,12 @@ pub struct Cuts {
     keeps: Vec<bool>,
     /// What is tried now.
     stage: Stage,
-    /// How many parts or branches a window has.
+    /// How many parts a window has of those by which windows are counted: see `leads`.
     size: usize,
-    /// Before which of those that are there the next window ends.
+    /// Where the next window ends: it has the parts before this rank, among those that are there and by which windows
+    /// are counted. 0 if no window of this size is left.
     to: usize,
-    /// Whether a part was left out since windows of all lengths were tried.
+    /// Whether a part was left out since the beginning, or since short windows of calls were last begun again.
     shrunk: bool,
 }
 
@@ -46,7 +49,8 @@ impl Parts {
         index < self.parts.len() && self.parts[index].standing != Standing::Out
     }
 
-    /// Tells whether windows are counted by this part.
+    /// Tells whether windows of this stage are counted by this part. Where branches go as a whole, these are the parts
+    /// that start one or belong to none; else the calls that are refused, those that read, or all parts.
     fn leads(&self, index: usize, stage: Stage) -> bool {
         match stage {
             Stage::Everything => self.starts(index),
@@ -62,7 +66,7 @@ impl Parts {
         index < self.parts.len() && self.parts[index].does == does
     }
 
-    /// Tells whether a part belongs to the branch that this part starts.
+    /// Tells whether the part `index` belongs to the branch that the part `start` starts.
     fn belongs(&self, index: usize, start: usize) -> bool {
         index < self.parts.len() && self.parts[index].start == start
     }
@@ -72,7 +76,7 @@ impl Parts {
         self.belongs(index, index)
     }
 
-    /// Tells whether the branch of a part is proposed by the part that starts it.
+    /// Tells whether the part that starts this part's branch is proposed.
     fn is_led(&self, index: usize) -> bool {
         if index >= self.parts.len() {
             return false;
@@ -81,18 +85,20 @@ impl Parts {
         start < self.parts.len() && self.parts[start].standing == Standing::Proposed
     }
 
-    /// How many parts are there by which windows are counted.
+    /// Counts the parts that are there and by which windows of this stage are counted.
     fn count(&self, stage: Stage) -> usize {
         let mut count: usize = 0;
         for index in 0..self.parts.len() {
             if self.is_there(index) && self.leads(index, stage) {
+                // It counts parts of a list, so it never saturates.
                 count = count.saturating_add(1);
             }
         }
         count
     }
 
-    /// Proposes a window of what is there.
+    /// Proposes the window from rank `from` to before rank `to`, among the parts that are there and by which windows
+    /// are counted. If branches go as a whole, the other parts of their branches are proposed too. No other part is.
     fn propose_window(&mut self, stage: Stage, from: usize, to: usize) {
         let mut rank: usize = 0;
         for index in 0..self.parts.len() {
@@ -100,14 +106,14 @@ impl Parts {
                 self.set(index, proposed_if(from <= rank && rank < to));
                 rank = rank.saturating_add(1);
             } else if self.is_there(index) {
-                // A branch starts before all else that belongs to it.
+                // The part that starts a branch comes before the others of it, so its standing is set already.
                 let follows = stage.takes_branches() && self.is_led(index);
                 self.set(index, proposed_if(follows));
             }
         }
     }
 
-    /// Tells whether a part that isn't proposed writes this.
+    /// Tells whether a part that is there and isn't proposed writes this, a number as in `Part::writes`.
     fn is_written(&self, written: usize) -> bool {
         for part in self.parts.as_slice() {
             if part.writes == written && part.standing == Standing::In {
@@ -117,7 +123,8 @@ impl Parts {
         false
     }
 
-    /// A part is to stay, and so is its branch if branches are left out as a whole.
+    /// Has a part stay, so it isn't proposed any more. If this stage leaves branches out as a whole, the parts of its
+    /// branch that are there stay too.
     fn spare(&mut self, index: usize, stage: Stage) {
         if index >= self.parts.len() {
             return;
@@ -131,11 +138,14 @@ impl Parts {
         }
     }
 
-    /// Of all parts that write the same of what the ILLEGAL line shows one is to stay.
+    /// Has one writer stay of each thing that the ILLEGAL line shows: unless one stays already, the first that is
+    /// there.
     fn spare_writers(&mut self, stage: Stage) {
         for index in 0..self.parts.len() {
+            // `is_there` is false past the end, but promises nothing, and the next line needs the bound.
             if self.is_there(index) && index < self.parts.len() {
                 let written = self.parts[index].writes;
+                // 0 is a part that writes nothing of what the line shows.
                 if written > 0 && !self.is_written(written) {
                     self.spare(index, stage);
                 }
@@ -143,7 +153,7 @@ impl Parts {
         }
     }
 
-    /// Tells whether a part is proposed.
+    /// Tells whether any part is proposed.
     fn has_proposed(&self) -> bool {
         for part in self.parts.as_slice() {
             if part.standing == Standing::Proposed {
@@ -162,7 +172,8 @@ impl Parts {
         }
     }
 
-    /// Tells whether a line is kept if what is proposed is left out.
+    /// Tells whether a line that belongs there is kept if what is proposed is left out: if it is one of a part that
+    /// stays, or of the call that returns on the ILLEGAL line.
     fn keeps(&self, line: Belongs) -> bool {
         match line {
             Belongs::Nowhere => false,
@@ -174,7 +185,7 @@ impl Parts {
     }
 }
 
-/// Whether a part is proposed that is there.
+/// The standing of a part that is there, by whether it is proposed.
 fn proposed_if(proposed: bool) -> Standing {
     if proposed {
         Standing::Proposed
@@ -184,8 +195,9 @@ fn proposed_if(proposed: bool) -> Standing {
 }
 
 impl Cuts {
-    /// Returns the cuts of a text in which this happens, and in which no order explains what happens up to and
-    /// including this place.
+    /// Returns the cuts of the record of this text, in which `numbered` happens. No order explains its events up to and
+    /// including the place. Nothing is proposed yet, so the lines that are kept are all of what happens up to there. If
+    /// the place is past the end, no line is kept.
     ///
     /// May return `NoMemory`.
     pub fn of(
@@ -200,6 +212,7 @@ impl Cuts {
             keeps.push(parts.keeps(*line))?;
         }
         let all = parts.count(Stage::Everything);
+        // The first window has all parts by which windows are counted.
         Ok(Cuts {
             parts,
             keeps,
@@ -210,12 +223,13 @@ impl Cuts {
         })
     }
 
-    /// Tells whether there are few windows of this length.
+    /// Tells whether there are few windows of this length, about `MANY` at most.
     fn is_few(&self) -> bool {
         self.parts.count(self.stage) / MANY <= self.size
     }
 
-    /// Tells whether shorter windows are tried before the next stage.
+    /// Tells whether shorter windows are tried before the next stage: not if everything was one window, or if windows
+    /// have at most one part. Windows of calls that are refused, or that read, also have to be few, as `MANY` says.
     fn goes_shorter(&self) -> bool {
         match self.stage {
             Stage::Everything => false,
@@ -226,12 +240,15 @@ impl Cuts {
         }
     }
 
-    /// Goes on with windows of the next length, and tells whether there is one.
+    /// Goes on with shorter windows, else with the next stage, whose first window has all parts by which its windows
+    /// are counted. After the last stage short windows of calls are tried again, if a part was left out since the
+    /// beginning, or since they were last begun again. False if nothing is left to try.
     fn next_size(&mut self) -> bool {
         if self.goes_shorter() {
             self.size = self.shorter();
         } else if let Some(next) = self.stage.next() {
             self.stage = next;
+            // A window of all parts: it is cut to their number below.
             self.size = usize::MAX;
         } else if self.shrunk {
             self.shrunk = false;
@@ -240,13 +257,15 @@ impl Cuts {
             return false;
         }
         self.to = self.parts.count(self.stage);
+        // There may be fewer parts, or none: then the window is empty, and `propose` passes it over.
         if self.size > self.to {
             self.size = self.to;
         }
         true
     }
 
-    /// The next length of windows.
+    /// The next length of windows: half of this one, rounded up; of short windows of calls one less. This length is
+    /// more than 1, as `goes_shorter` tests, so the next one is at least 1.
     fn shorter(&self) -> usize {
         if self.stage == Stage::Calls && self.size <= SHORT {
             self.size.saturating_sub(1)
@@ -255,7 +274,8 @@ impl Cuts {
         }
     }
 
-    /// How far windows are apart.
+    /// How far windows are apart: by their length, but windows of calls by half of it if they are longer than `SHORT`,
+    /// and else by 1.
     fn step(&self) -> usize {
         if self.stage != Stage::Calls {
             self.size
@@ -266,11 +286,13 @@ impl Cuts {
         }
     }
 
-    /// Proposes the next window, and tells whether there is one.
+    /// Proposes the next window, and tells whether there is one. It may have no parts.
     fn next(&mut self) -> bool {
         if self.to == 0 && !self.next_size() {
             return false;
         }
+        // Later windows come first. One that begins at the first part is the last of its size. It is shorter if fewer
+        // parts than a window are left before `to`.
         let from = self.to.saturating_sub(self.size);
         self.parts.propose_window(self.stage, from, self.to);
         self.to = if from == 0 {
@@ -284,6 +306,7 @@ impl Cuts {
     /// Notes which lines are kept if what is proposed is left out.
     fn fill(&mut self) {
         for index in 0..self.parts.lines.len() {
+            // There is an entry of both lists for each line, so this is always so.
             if index < self.parts.lines.len() && index < self.keeps.len() {
                 let line = self.parts.lines[index];
                 let keeps = self.parts.keeps(line);
@@ -292,9 +315,11 @@ impl Cuts {
         }
     }
 
-    /// Proposes what is to be left out next, and tells whether there is anything.
+    /// Proposes what is to be left out next, and tells whether there is anything. A window that has no parts, or of
+    /// which all has to stay, is passed over.
     pub fn propose(&mut self) -> bool {
-        // There are finitely many windows of each length, and all are tried again only if a part was left out.
+        // The bound is never reached: there are finitely many windows of each length, and short ones are tried again
+        // only if a part was left out, so at most once in here.
         for _step in 0..u64::MAX {
             if !self.next() {
                 return false;
@@ -313,7 +338,8 @@ impl Cuts {
         self.keeps.as_slice()
     }
 
-    /// Leaves out what is proposed.
+    /// Leaves out what is proposed, and notes that a part was left out, so that short windows of calls are tried
+    /// again.
     pub fn accept(&mut self) {
         self.parts.leave_out();
         self.shrunk = true;

@@ -17,7 +17,7 @@ use xa_judge::{ErrorNumbers, Event, Request, Seen, SharedRequest, SharedSeen};
 use xa_statement::read_statement;
 use xa_xid::{NoMemory, Xid, copy_of};
 
-/// Returns the request of a session that calls for this text.
+/// Returns the request of a session that calls for this text: its statement, or `Unread` if it isn't one.
 pub fn request_of(text: &[u8]) -> Request
     ensures { result ≡ request_called text.now }
 {
@@ -27,7 +27,7 @@ pub fn request_of(text: &[u8]) -> Request
     }
 }
 
-/// Appends the identifier of a text, if it is one.
+/// Appends the identifier that a text is as a row of a return. Appends nothing if it isn't such a row.
 fn push_row(rows: &mut Vec<Xid>, text: &[u8]) -> Result<(), NoMemory>
     ensures { OnOk result (rows.new.items ≡ rows.old.items ++ row_before (row_said text.now) []) }
 {
@@ -40,7 +40,7 @@ fn push_row(rows: &mut Vec<Xid>, text: &[u8]) -> Result<(), NoMemory>
     }
 }
 
-/// Returns the identifiers of these texts.
+/// Returns the identifiers of these texts. A text that isn't a row adds none.
 ///
 /// May return `NoMemory`.
 pub fn rows_in(alloc: Global, texts: &[&[u8]]) -> Result<Vec<Xid>, NoMemory>
@@ -63,7 +63,8 @@ fn ascending(alloc: Global, texts: &[&[u8]]) -> Result<Vec<Xid>, NoMemory>
     Ok(sorted)
 }
 
-/// What a return shows, as the answer to a statement of this kind. Rows are in ascending order.
+/// What a return shows, as the answer to a statement of this kind. Rows are in ascending order. A refusal also has the
+/// rules' numbers for which its own may stand by the allowances.
 fn seen_of(
     alloc: Global,
     allowances: &[Allowance],
@@ -87,7 +88,8 @@ fn seen_of(
     }
 }
 
-/// What a return shows, as an event has it. All returns that show `OK` share one, and so do all that show `NONE`.
+/// What a return shows, as an event has it: what `seen_of` says. All returns that show `OK` share `ok`, and all that
+/// show `NONE` share `none`, so that a long record takes less memory.
 fn shared_seen_of(
     alloc: Global,
     allowances: &[Allowance],
@@ -107,7 +109,8 @@ fn shared_seen_of(
     }
 }
 
-/// The event of a line.
+/// The event of a line. `asked` has the kind of what each session called for last, by which allowances are chosen.
+/// Returns that show `OK` share `ok`, and those that show `NONE` share `none`.
 fn event_of(
     alloc: Global,
     allowances: &[Allowance],

@@ -5,8 +5,8 @@
 pub struct Exchange {
     /// What was seen, as a line of a record in canonical form.
     pub seen: Vec<u8>,
-    /// The number of the call's line.
+    /// The number of the call's line, or 0 if there is no call.
     pub line: u64,
-    /// The call, as a line of a record in canonical form.
+    /// The call, as a line of a record in canonical form. Empty if there is none.
     pub call: Vec<u8>,
 }

@@ -19,7 +19,8 @@ use xa_lines::{push_number, push_reply};
 use xa_server::{Reply, XidList};
 use xa_xid::{NoMemory, SessionNo, copy_of};
 
-/// Appends what a return shows, as a reply.
+/// Appends what a return shows, as a reply, with rows as `CONVERT XID` prints them. Of a refusal it is `ERROR` and the
+/// number only.
 fn push_shown(alloc: Global, out: &mut Vec<u8>, shown: &Shown) -> Result<(), NoMemory>
     ensures { OnOk result (out.new.items ≡ out.old.items ++ shown_text (shown_kept shown.now)) }
 {
@@ -56,7 +57,7 @@ fn seen_text(alloc: Global, line_event: &LineEvent) -> Result<Vec<u8>, NoMemory>
     }
 }
 
-/// Tells whether the session calls.
+/// Tells whether this is a call by the session.
 fn calls(line_event: &LineEvent, session: SessionNo) -> bool
     ensures { result ≡ is_call_by session (told_kept line_event.now) }
 {
@@ -68,7 +69,7 @@ fn calls(line_event: &LineEvent, session: SessionNo) -> bool
     }
 }
 
-/// Returns the session's last call, if it has called.
+/// Returns the session's last call in what happens, or None if it hasn't called.
 #[tactic(auto, using(crate::proofs::Exchanged::call_found, crate::proofs::Exchanged::call_other, crate::proofs::Exchanged::call_last))]
 pub fn last_call_in<'n, 'a>(
     numbered: &'n [NumberedEvent<'a>],
@@ -104,7 +105,7 @@ fn call_text_of(alloc: Global, line_event: &LineEvent) -> Result<Vec<u8>, NoMemo
     }
 }
 
-/// What was seen, with its call.
+/// What was seen, with its call, if there is one: else the line is 0 and the call is empty.
 fn exchange_with(
     alloc: Global,
     line_event: &LineEvent,
@@ -128,7 +129,7 @@ fn exchange_with(
     }
 }
 
-/// What was seen at this place, and its call.
+/// What was seen at this place, and the last call of its session before that.
 #[tactic(auto, using(crate::proofs::Exchanged::exchange_there))]
 fn exchange_in(
     alloc: Global,
@@ -144,7 +145,8 @@ fn exchange_in(
     exchange_with(alloc, line_event, call)
 }
 
-/// The same in the record of this text, whose events these are.
+/// What was seen at this place, and the last call of its session before that. Only the contract needs the events:
+/// there are as many as things that happen, so the place is one of both.
 fn exchange_again(
     alloc: Global,
     numbered: &[NumberedEvent],
@@ -159,7 +161,8 @@ fn exchange_again(
     exchange_in(alloc, numbered, place)
 }
 
-/// Returns what was seen at this place in the record of this text, and its call, if that is sought.
+/// Returns what was seen at this place in the record of this text, and its call, the last one of the session before
+/// that place; None unless `sought`. The events are the record's, and only the contract needs them.
 ///
 /// May return `NoMemory`.
 pub fn exchange_for(

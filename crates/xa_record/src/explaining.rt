@@ -19,7 +19,7 @@ use xa_lines::with_listing;
 use xa_server::Server;
 use xa_xid::NoMemory;
 
-/// The store to which moves lead, which lead through the events.
+/// The store to which these moves lead from `base`. They have to lead through all of the events.
 fn store_after(
     alloc: Global,
     base: &Server,
@@ -37,7 +37,8 @@ fn store_after(
     }
 }
 
-/// The lines of the store to which moves lead: every branch, and the rows that calls name.
+/// The lines of the store to which these moves lead from `base`, through all of the events: every branch, and the rows
+/// that calls name.
 fn state_lines(
     alloc: Global,
     base: &Server,
@@ -54,7 +55,8 @@ fn state_lines(
     with_listing(alloc, Vec::new(alloc), &store, rows.as_slice())
 }
 
-/// An order of the moves, which lead through the events before a place, and the store after it.
+/// The order of these moves, which lead from `base` through the events before a place, and the store after it. `text`
+/// is the record's, and `events` are all of its events.
 fn reason_by(
     alloc: Global,
     base: &Server,
@@ -76,8 +78,8 @@ fn reason_by(
     Ok(Reason { order, state })
 }
 
-/// Moves that lead through the events, which are explained; or None if too many configurations precede one of
-/// them.
+/// Moves that lead through the events, which some order has to explain. None only if more than `limit` different
+/// configurations have to be kept before one of them.
 fn moves_through<P: Progress>(
     alloc: Global,
     base: &Server,
@@ -97,8 +99,9 @@ fn moves_through<P: Progress>(
     }
 }
 
-/// An order that explains what happens in the record of this text before a place, and the store after it; or
-/// None if that passes the limit.
+/// An order that explains what happens in the record of this text before a place, and the store after it. Some order
+/// has to explain that. None only if more than `limit` different configurations have to be kept before one of its
+/// events.
 fn reason_of<P: Progress>(
     alloc: Global,
     base: &Server,
@@ -122,11 +125,11 @@ fn reason_of<P: Progress>(
     }
 }
 
-/// Returns an order that explains what happens before this place in the record of this text, and the store
-/// after it, if `asked` asks for an explanation and the limit allows it. A smaller record stands in their place, if
-/// `asked` asks for one.
+/// Returns an order that explains what happens before this place in the record of this text, and the store after it.
+/// None if `asked` asks for no explanation, or for a smaller record, which stands in their place. Else None only if
+/// more than `asked.limit` different configurations have to be kept before an event.
 ///
-/// If the order is sought, the events before the place are judged once more.
+/// If the order is sought, the events before the place are judged once more, and `progress` is told how far that is.
 /// May return `NoMemory`.
 pub fn reason_for<P: Progress>(
     alloc: Global,

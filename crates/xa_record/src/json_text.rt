@@ -20,7 +20,7 @@ use std::collections::BTreeSet;
 use xa_lines::split_line;
 use xa_xid::NoMemory;
 
-/// The text as characters: each byte becomes the character with its number.
+/// The text as characters, of which a JSON string consists: each byte becomes the character with its number.
 #[tactic(auto, using(crate::proofs::JsonTexts::characters_more))]
 fn characters(alloc: Global, text: &[u8]) -> Result<String, NoMemory>
     ensures { IfOk result (λ string. string_bytes string ≡ encode_utf8_all text.now) }
@@ -58,7 +58,7 @@ fn write_texts(
     writer.end_array()
 }
 
-/// Writes lines as an array of strings.
+/// Writes the lines of a text as an array of strings, without their line feeds.
 fn write_lines(alloc: Global, writer: &mut Writer, text: &[u8]) -> Result<(), NoMemory>
     ensures tokens { OnOk result (writer.new.tokens ≡ writer.old.tokens
         ++ json_tokens (texts_value (lines_of text.now))) }
@@ -181,8 +181,8 @@ fn end_with_reason(
     }
 }
 
-/// Writes the key of the possible answers, those of what explains a line, if these are given, and the end of
-/// the object.
+/// Writes the key of the possible answers, those of the order, the store and the smaller record, if these are given,
+/// and the end of the object.
 fn end_with_answers(
     alloc: Global,
     writer: &mut Writer,
@@ -213,7 +213,8 @@ fn write_exchange(alloc: Global, writer: &mut Writer, exchange: &Exchange) -> Re
     writer.u64(exchange.line)
 }
 
-/// Writes the keys of what is told of an ILLEGAL line, and the end of the object.
+/// Writes the keys of an ILLEGAL verdict behind that of its line's number, and the end of the object: what was seen
+/// and its call, if these are given; the possible answers; then the order, the store and the smaller record, if given.
 fn end_with_grounds(
     alloc: Global,
     writer: &mut Writer,

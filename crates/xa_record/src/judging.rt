@@ -34,7 +34,8 @@ pub struct Judged {
     pub text: Vec<u8>,
 }
 
-/// The events that were read of a record. Its lines are freed.
+/// The events that were read of a record. `notes` are freed here: the lines in them take much memory, and judging
+/// needs only the events.
 fn events_read(
     alloc: Global,
     allowances: &[Allowance],
@@ -46,7 +47,8 @@ fn events_read(
     events_of(alloc, allowances, notes.numbered.as_slice())
 }
 
-/// What is reported of the record of this text, whose events these are.
+/// Judges these events, those of the record of this text, beginning with `base`. Returns what is reported of the
+/// verdict.
 fn verdict_on<P: Progress>(
     alloc: Global,
     base: &Server,
@@ -62,6 +64,7 @@ fn verdict_on<P: Progress>(
     ensures { IfOk result (λ report. IsJudgement base.now allowances.now (lines_of text.now) (notes_of text.now).told
         asked (report_kept report)) }
 {
+    // Does nothing. The contract needs its law: the statements of an order are read back as they were called for.
     are_written_calls(events);
     let verdict = judge_telling(alloc, base, events, asked.limit, progress)?;
     report_of(
@@ -69,7 +72,8 @@ fn verdict_on<P: Progress>(
     )
 }
 
-/// What is reported of the record of this text.
+/// What is reported of the record of this text, which begins with `base`: its faulty lines if there are any; that it
+/// is empty if nothing happens in it; else the verdict.
 fn report_on<P: Progress>(
     alloc: Global,
     base: &Server,
@@ -101,7 +105,8 @@ fn report_on<P: Progress>(
     )
 }
 
-/// What is reported of the lines of this text. The reader finds exactly the lines that are faulty.
+/// What `report_on` returns. This contract has the rules for single lines in place of what was read: reading finds
+/// exactly the lines that are faulty by these rules.
 fn report_of_lines<P: Progress>(
     alloc: Global,
     base: &Server,
@@ -129,10 +134,10 @@ fn text_in(alloc: Global, form: Form, report: &Report) -> Result<Vec<u8>, NoMemo
 /// Judges the record of this text, which begins with this server, and returns how that ended and the text of
 /// the verdict.
 ///
-/// `allowances` are known differences between the answers of the recorded server and the rules. If more than
-/// `asked.limit` different configurations have to be kept before an event, and no order is found, the end is
-/// `Undecided`. With `asked.explains` the part before an ILLEGAL line is judged once more; if that passes the
-/// limit, it isn't explained. With `asked.shrinks` parts of an ILLEGAL record are judged instead, at most 1,000 times,
+/// `allowances` are known differences between the answers of the recorded server and the rules. The end is
+/// `Undecided` only if more than `asked.limit` different configurations have to be kept before an event. With
+/// `asked.explains` the part before an ILLEGAL line is judged once more; if that is undecided, neither an order nor
+/// the store is told. With `asked.shrinks` parts of an ILLEGAL record are judged instead, at most 1,000 times,
 /// and `progress` isn't told of that. If lines are faulty, or nothing happens, there is no verdict. With
 /// `asked.strict_calls` a call whose text isn't a statement is a faulty line. `progress` takes note of how far
 /// judging is.
@@ -162,9 +167,9 @@ pub fn judge_text_from<P: Progress>(
 /// Judges the record of this text, and returns how that ended and the text of the verdict.
 ///
 /// The server holds nothing at first. `allowances` are known differences between its answers and the rules.
-/// If more than `asked.limit` different configurations have to be kept before an event, and no order is found,
-/// the end is `Undecided`. With `asked.explains` the part before an ILLEGAL line is judged once more; if that
-/// passes the limit, it isn't explained. With `asked.shrinks` parts of an ILLEGAL record are judged instead, at most
+/// The end is `Undecided` only if more than `asked.limit` different configurations have to be kept before an event.
+/// With `asked.explains` the part before an ILLEGAL line is judged once more; if that is undecided, neither an
+/// order nor the store is told. With `asked.shrinks` parts of an ILLEGAL record are judged instead, at most
 /// 1,000 times, and `progress` isn't told of that. If lines are faulty, or nothing happens, there is no verdict. With
 /// `asked.strict_calls` a call whose text isn't a statement is a faulty line. `progress` takes note of how far
 /// judging is.

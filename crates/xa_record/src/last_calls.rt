@@ -5,7 +5,8 @@ ghost use Rattle.xa_record.specs.Kept.{told_kept, with_place};
 use crate::line_event::LineEvent;
 use xa_xid::SessionNo;
 
-/// At each session's number, the place of its last call among the events.
+/// At each session's number, the place of its last call among the events: None if it hasn't called. Place 0 belongs to
+/// no session.
 #[derive(Drop)]
 pub struct LastCalls {
     places: [Option<usize>; 17],
@@ -19,7 +20,8 @@ impl LastCalls {
         LastCalls { places: [None; 17] }
     }
 
-    /// Takes note of what happens next, at this place.
+    /// Takes note of what happens next, at this place: a call is its session's last from now on. All else changes
+    /// nothing.
     pub fn follow(&mut self, place: usize, line_event: &LineEvent)
         ensures { self.new.places ≡ with_place place (told_kept line_event.now) self.old.places }
     {
@@ -31,7 +33,7 @@ impl LastCalls {
         }
     }
 
-    /// Returns the place of the session's last call, if it has called.
+    /// Returns the place of the session's last call, or None if it hasn't called.
     pub fn place_of(&self, session: SessionNo) -> Option<usize>
         ensures { slice_get self.now.places session ≡ Some result }
     {

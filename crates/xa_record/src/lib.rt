@@ -6,7 +6,7 @@
 //! reading without its order.
 //!
 //! `read_state` reads the state that a record begins with: a listing as `show` prints it, with every row that has a
-//! value. Each line of the listing becomes statements, which a server that holds nothing carries out: rows first, then
+//! value and no other. Each line becomes statements, which a server that holds nothing carries out: rows first, then
 //! prepared branches, then the branches of sessions. What that server then lists is compared with the text, byte for
 //! byte. So no line has to be trusted to be read right. Read docs/HISTORIES.md#records-in-pieces, then
 //! `specs/States.antt` and `src/state_reading.rt`.

@@ -24,7 +24,7 @@ pub enum RecordLine<'a> {
     Bad,
     /// This happens.
     Happens(LineEvent<'a>),
-    /// A call of the session returns this value.
+    /// A call of the session returns this value. `Shown` has it in a box, and reading a line takes no memory.
     Value(SessionNo, Bytes),
     /// A call of the session returns this many rows, which follow on the next lines.
     Rows(SessionNo, u64),
@@ -54,7 +54,7 @@ fn trimmed(text: &[u8]) -> &[u8]
     rest
 }
 
-/// The return, if no text follows.
+/// The line of a return that shows this, if no text follows; else the line is bad.
 fn alone<'a>(session: SessionNo, shown: Shown<'a>, rest: &'a [u8]) -> RecordLine<'a>
     ensures { line_kept result ≡ alone (Says (Returns session (shown_kept shown.entry))) rest.now }
 {
@@ -65,7 +65,7 @@ fn alone<'a>(session: SessionNo, shown: Shown<'a>, rest: &'a [u8]) -> RecordLine
     }
 }
 
-/// The return of a value, if no text follows.
+/// The line of a return that shows a value, if no text follows; else the line is bad.
 fn value_alone(session: SessionNo, value: Bytes, rest: &[u8]) -> RecordLine<'_>
     ensures { line_kept result ≡ alone (Says (Returns session (ShowsValue (Some value)))) rest.now }
 {
@@ -76,7 +76,8 @@ fn value_alone(session: SessionNo, value: Bytes, rest: &[u8]) -> RecordLine<'_>
     }
 }
 
-/// What `VALUE` and the text after it say.
+/// The line of a return that shows a value: `text`, which comes after `VALUE`, is its literal, and only blanks may
+/// follow. Else the line is bad.
 fn value(session: SessionNo, text: &[u8]) -> RecordLine<'_>
     ensures { line_kept result ≡ value_said session (literal_ahead text.now) }
 {
@@ -86,7 +87,8 @@ fn value(session: SessionNo, text: &[u8]) -> RecordLine<'_>
     }
 }
 
-/// What `ROWS` and the text after it say.
+/// The line of a return that shows rows: `text`, which comes after `ROWS`, is their number, and only blanks may
+/// follow. Else the line is bad.
 fn rows(session: SessionNo, text: &[u8]) -> RecordLine<'_>
     ensures { line_kept result ≡ rows_said session (number_of_word (first_word text.now)) (behind_word_of text.now) }
 {
@@ -103,7 +105,8 @@ fn rows(session: SessionNo, text: &[u8]) -> RecordLine<'_>
     }
 }
 
-/// What `ERROR` and the text after it say.
+/// The line of a return that shows a refusal: `text`, which comes after `ERROR`, begins with a number below 65,536,
+/// and anything may follow. Else the line is bad.
 fn error(session: SessionNo, text: &[u8]) -> RecordLine<'_>
     ensures { line_kept result ≡ error_said session (leading_number_of text.now) }
 {
@@ -119,7 +122,8 @@ fn error(session: SessionNo, text: &[u8]) -> RecordLine<'_>
     }
 }
 
-/// What a word after `<` and the text after it say.
+/// The line of a return, by the word after `<` and the text after that. It is bad if the word isn't one of these five,
+/// or the text doesn't fit it.
 #[tactic(auto, unfolding(crate::specs::Lines::return_said))]
 fn returned<'a>(session: SessionNo, word: &[u8], text: &'a [u8]) -> RecordLine<'a>
     ensures { line_kept result ≡ return_said session word.now text.now }
@@ -139,7 +143,8 @@ fn returned<'a>(session: SessionNo, word: &[u8], text: &'a [u8]) -> RecordLine<'
     }
 }
 
-/// What a word after `?` says.
+/// The line of a return whose answer isn't known, if the word after `?` is `ERROR`; anything may follow. Else the line
+/// is bad.
 fn unknown(session: SessionNo, word: &[u8]) -> RecordLine<'_>
     ensures { line_kept result ≡ unknown_said session word.now }
 {
@@ -150,7 +155,8 @@ fn unknown(session: SessionNo, word: &[u8]) -> RecordLine<'_>
     }
 }
 
-/// What a word after `!` and the text after it say.
+/// The line of a client that is gone, if the word after `!` is `LOST` or `GONE`, and no text comes after it. Else the
+/// line is bad.
 #[tactic(auto, unfolding(crate::specs::Lines::loss_said))]
 fn loss<'a>(session: SessionNo, word: &[u8], text: &'a [u8]) -> RecordLine<'a>
     ensures { line_kept result ≡ loss_said session word.now text.now }
@@ -166,12 +172,13 @@ fn loss<'a>(session: SessionNo, word: &[u8], text: &'a [u8]) -> RecordLine<'a>
     }
 }
 
-/// What the line of a session says.
+/// What the line of a session says, by its sign and the text after that. With any other sign the line is bad.
 #[tactic(auto, unfolding(crate::specs::Lines::session_said))]
 fn session_line<'a>(session: SessionNo, sign: &[u8], text: &'a [u8]) -> RecordLine<'a>
     ensures { line_kept result ≡ session_said session sign.now text.now }
 {
     if sign == b">".as_slice() {
+        // The text of a call isn't read here. An empty one is a call, too.
         RecordLine::Happens(LineEvent::Call(session, trimmed(text)))
     } else if sign == b"<".as_slice() {
         let (word, rest) = split_word(text);
@@ -199,6 +206,7 @@ pub fn read_record_line(line: &[u8]) -> RecordLine<'_>
         return RecordLine::Nothing;
     }
     match read_line(line) {
+        // This doesn't come: a blank line is silent.
         ScriptLine::Blank => RecordLine::Nothing,
         ScriptLine::Bad => RecordLine::Bad,
         ScriptLine::Given(session, text) => {

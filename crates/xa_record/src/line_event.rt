@@ -43,7 +43,7 @@ impl LineEvent<'_> {
         }
     }
 
-    /// Tells whether a call of the session returns.
+    /// Tells whether a call of the session returns, with an answer that is known or not.
     pub fn returns_to(&self, session: SessionNo) -> bool
         ensures { result ≡ is_return_of session (told_kept self.now) }
     {
@@ -68,7 +68,7 @@ impl LineEvent<'_> {
     }
 
     /// Returns why its line is faulty if the texts of calls are tested: it is a call of a text that isn't a
-    /// statement.
+    /// statement. Else None.
     pub fn call_fault(&self) -> Option<LineFault>
         ensures { result ≡ fault_called (told_kept self.now) }
     {
@@ -83,7 +83,7 @@ impl LineEvent<'_> {
         }
     }
 
-    /// Why its line is faulty, if the session has no open call.
+    /// Why its line is faulty where the session has no open call; None if it isn't faulty there.
     fn fault_idle(&self) -> Option<LineFault>
         ensures { result ≡ cause_of (Some Presence.Idle) (told_kept self.now) }
     {
@@ -95,7 +95,7 @@ impl LineEvent<'_> {
         }
     }
 
-    /// Why its line is faulty, if the session has an open call.
+    /// Why its line is faulty where the session has an open call; None if it isn't faulty there.
     fn fault_open(&self) -> Option<LineFault>
         ensures { result ≡ cause_of (Some Presence.Open) (told_kept self.now) }
     {
@@ -103,11 +103,12 @@ impl LineEvent<'_> {
             LineEvent::Call(session, _) => Some(LineFault::OpenCall(*session)),
             LineEvent::Return(_, _) => None,
             LineEvent::Unknown(_) => None,
+            // A client may be gone before its call returns.
             LineEvent::Lost(_) => None,
         }
     }
 
-    /// Why its line is faulty, if the session's client is gone.
+    /// Why its line is faulty where the session's client is gone, as every line of the session is.
     fn fault_lost(&self) -> Option<LineFault>
         ensures { result ≡ cause_of (Some Presence.Lost) (told_kept self.now) }
     {
@@ -119,7 +120,8 @@ impl LineEvent<'_> {
         }
     }
 
-    /// Returns why its line is faulty, by what the lines before say of the session; None if it isn't.
+    /// Returns why its line is faulty, by what the lines before say of the session; None if it isn't, or if they say
+    /// nothing.
     pub fn fault(&self, before: Option<&Presence>) -> Option<LineFault>
         ensures { result ≡ cause_of (option_copied before.entry) (told_kept self.now) }
     {

@@ -33,7 +33,8 @@ pub enum LineWanted {
     End,
 }
 
-/// A place in a line, and what has to come there. The place counts from 0, in what comes after the sign, or in a row.
+/// A place in a line, and what has to come there. The place is a number of bytes from 0: in what comes after the sign
+/// and its blanks, or in a row without the blanks before it. For `Form` it is 0.
 #[derive(Clone, Copy, Debug, PartialEq, Eq)]
 pub struct LineGap {
     /// What has to come.
@@ -44,11 +45,13 @@ pub struct LineGap {
 
 /// What has to come where only `rest` is left of a text.
 pub fn gap(wanted: LineWanted, text: &[u8], rest: &[u8]) -> LineGap {
+    // `rest` is an end of `text`, so it isn't longer.
     let at = text.len().saturating_sub(rest.len()) as u64;
     LineGap { wanted, at }
 }
 
-/// What has to come after `VALUE` or behind its literal.
+/// What has to come in the faulty reply `text`, of which `rest` comes after `VALUE`: a literal, or if one is there,
+/// nothing more behind it.
 fn gap_in_value(text: &[u8], rest: &[u8]) -> LineGap {
     match literal_of(rest) {
         Ok((_, behind)) => gap(LineWanted::End, text, skip_blanks(behind)),
@@ -56,7 +59,8 @@ fn gap_in_value(text: &[u8], rest: &[u8]) -> LineGap {
     }
 }
 
-/// What has to come after `ROWS` or behind its number.
+/// What has to come in the faulty reply `text`, of which `rest` comes after `ROWS`: a number, or if one is there,
+/// nothing more behind it.
 fn gap_in_rows(text: &[u8], rest: &[u8]) -> LineGap {
     let (count, behind) = split_word(rest);
     match number_in(count) {
@@ -65,7 +69,7 @@ fn gap_in_rows(text: &[u8], rest: &[u8]) -> LineGap {
     }
 }
 
-/// What has to come in a reply that isn't one.
+/// What has to come in a text after `<` that isn't a reply of a record.
 fn gap_in_reply(text: &[u8]) -> LineGap {
     let (word, rest) = split_word(text);
     let rest = skip_blanks(rest);
@@ -76,13 +80,14 @@ fn gap_in_reply(text: &[u8]) -> LineGap {
     } else if word == b"ROWS".as_slice() {
         gap_in_rows(text, rest)
     } else if word == b"ERROR".as_slice() {
+        // Anything may follow the number, so it is the number that is wrong.
         gap(LineWanted::ErrorNumber, text, rest)
     } else {
         gap(LineWanted::Reply, text, text)
     }
 }
 
-/// What has to come in the loss of a client that isn't one.
+/// What has to come in a text after `!` that isn't the loss of a client.
 fn gap_in_loss(text: &[u8]) -> LineGap {
     let (word, rest) = split_word(text);
     if word == b"LOST".as_slice() || word == b"GONE".as_slice() {
@@ -92,7 +97,7 @@ fn gap_in_loss(text: &[u8]) -> LineGap {
     }
 }
 
-/// What has to come after a sign, if what comes there doesn't belong to it.
+/// What has to come in `text`, if a line with this sign and then `text` isn't one of a record.
 fn gap_behind(sign: &[u8], text: &[u8]) -> LineGap {
     if sign == b"<".as_slice() {
         gap_in_reply(text)
@@ -101,6 +106,7 @@ fn gap_behind(sign: &[u8], text: &[u8]) -> LineGap {
     } else if sign == b"!".as_slice() {
         gap_in_loss(text)
     } else {
+        // Any text may come after `>`, so this isn't a sign of a record.
         gap(LineWanted::Form, text, text)
     }
 }
@@ -112,12 +118,13 @@ fn gap_of(line: &[u8]) -> LineGap {
             let (sign, rest) = split_word(text);
             gap_behind(sign, skip_blanks(rest))
         }
+        // A blank line doesn't come here: it says nothing, so it isn't bad.
         ScriptLine::Blank | ScriptLine::Bad => gap(LineWanted::Form, line, line),
     }
 }
 
-/// Returns what has to come in a line, without its line feed, if it isn't one of a record. A line in the place of a
-/// row is another matter: see `row_wanted_in`.
+/// Returns what has to come in a line, without its line feed, if it isn't one of a record; else None. A line in the
+/// place of a row is another matter: see `row_wanted_in`.
 ///
 /// Takes no memory. Doesn't wait.
 /// Own rule: docs/COMMANDS.md#messages.

@@ -21,6 +21,7 @@ use xa_xid::NoMemory;
 pub fn numbered_in(alloc: Global, text: &[u8]) -> Result<Vec<NumberedEvent<'_>>, NoMemory>
     ensures { IfOk result (λ numbered. map numbered_kept numbered.items ≡ (notes_of text.now).told) }
 {
+    // Testing the texts of calls would change only which lines are faulty, not what happens.
     Ok(read_notes(alloc, false, text)?.numbered)
 }
 
@@ -35,7 +36,7 @@ fn number_of(numbered: &[NumberedEvent], place: usize) -> u64
     }
 }
 
-/// Returns the number of the line on which the event at this place happens.
+/// Returns the number of the line on which the event at this place happens, or 0 past the end.
 ///
 /// May return `NoMemory`.
 pub fn number_in(alloc: Global, text: &[u8], place: usize) -> Result<u64, NoMemory>
@@ -45,7 +46,8 @@ pub fn number_in(alloc: Global, text: &[u8], place: usize) -> Result<u64, NoMemo
     Ok(number_of(numbered.as_slice(), place))
 }
 
-/// Returns the lines of an order of a record.
+/// Returns the lines of the order of these moves, which go through the record of this text. The events are the
+/// record's.
 ///
 /// May return `NoMemory`.
 pub fn order_in(
@@ -61,7 +63,8 @@ pub fn order_in(
     order_lines(alloc, numbered.as_slice(), events, moves)
 }
 
-/// The lines of an order of what happens before this place.
+/// The lines of the order of these moves, which go through what happens before this place. The events are those of all
+/// that happens.
 fn order_up_to(
     alloc: Global,
     numbered: &[NumberedEvent],
@@ -77,7 +80,8 @@ fn order_up_to(
     order_lines(alloc, &numbered[..place], &events[..place], moves)
 }
 
-/// Returns the lines of an order of what happens in a record before this place.
+/// Returns the lines of the order of these moves, which go through what happens before this place in the record of
+/// this text. The events are those of the whole record.
 ///
 /// May return `NoMemory`.
 pub fn order_before(

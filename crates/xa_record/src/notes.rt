@@ -26,7 +26,7 @@ pub struct Notes<'a> {
     pub numbered: Vec<NumberedEvent<'a>>,
     /// What is written for faulty lines.
     pub faults: Vec<u8>,
-    /// At each session's number, what the lines say of it.
+    /// At each session's number, what the lines say of it. Place 0 belongs to no session.
     pub presence: [Presence; 17],
     /// Rows that are still to come.
     pub pending: Option<Pending<'a>>,
@@ -78,14 +78,15 @@ impl<'a> Notes<'a> {
         self.faults.extend_from_slice(faults)
     }
 
-    /// What the lines before say of the session.
+    /// What the lines before say of the session. It isn't None, since each session's number is a place of the array.
     fn presence_of(&self, session: SessionNo) -> Option<&Presence>
         ensures { option_copied result ≡ slice_get self.now.presence session }
     {
         self.presence.get(session.get() as usize)
     }
 
-    /// Notes that this happens on the line of this number, or that the line is faulty.
+    /// Notes that this happens on the line of this number. If it can't, by what the lines before say of its session,
+    /// notes instead that the line is faulty.
     #[tactic(auto, unfolding(crate::specs::Reading::noted_if))]
     fn note(&mut self, number: u64, line_event: LineEvent<'a>) -> Result<(), NoMemory>
         ensures { OnOk result (notes_kept self.new ≡ note_of (notes_kept self.old) number
@@ -128,6 +129,7 @@ impl<'a> Notes<'a> {
         if !strict {
             return self.note(number, line_event);
         }
+        // This comes first, since `note` changes what is known of the session.
         let call_fault = self.call_fault(&line_event);
         self.note(number, line_event)?;
         match call_fault {
@@ -147,6 +149,8 @@ impl<'a> Notes<'a> {
             Some(fault) => self.blame(number, fault),
             None => {
                 self.presence[session.get() as usize] = Presence::Lost;
+                // The loss goes right behind the last return, since it may have happened at any time after that: so
+                // before an open call. Without a return it goes to the beginning.
                 let place = up_to_return(self.numbered.as_slice(), session);
                 self.numbered
                     .insert(place, NumberedEvent { number, line_event })?;
@@ -155,8 +159,8 @@ impl<'a> Notes<'a> {
         }
     }
 
-    /// Notes that the call returns its rows, which have all come. Its own line comes before the faulty ones
-    /// among the rows.
+    /// Notes that the call returns its rows, which have all come, or that the line of its return is faulty. That comes
+    /// before the faulty lines among the rows, which are noted in both cases.
     fn finish(&mut self, pending: Pending<'a>) -> Result<(), NoMemory>
         ensures { OnOk result (notes_kept self.new ≡ returned (notes_kept self.old) (awaited_kept pending.entry)) }
     {
@@ -183,7 +187,7 @@ impl<'a> Notes<'a> {
         }
     }
 
-    /// Takes a line that comes in the place of a row.
+    /// Takes a line that comes in the place of a row. If it isn't a row it is faulty, and counts as one that has come.
     #[tactic(auto, using(crate::proofs::RowTexts::rows_behind), unfolding(crate::specs::Reading::with_row))]
     fn take_row(
         &mut self,
@@ -194,6 +198,7 @@ impl<'a> Notes<'a> {
         ensures { OnOk result (notes_kept self.new ≡ with_row (notes_kept self.old) (awaited_kept pending.entry) number
             (row_said text.now)) }
     {
+        // At least one row was missing, else nothing would be pending.
         pending.missing = pending.missing.saturating_sub(1);
         match read_row(text) {
             None => LineFault::NotARow.push(&mut pending.faults, number)?,
@@ -202,7 +207,8 @@ impl<'a> Notes<'a> {
         self.wait_for(pending)
     }
 
-    /// Takes a line that isn't in the place of a row.
+    /// Takes a line that isn't in the place of a row, by what it says. If `strict`, a call whose text isn't a
+    /// statement is faulty.
     #[tactic(auto, unfolding(crate::specs::Reading::noted_said))]
     fn take_said(
         &mut self,
@@ -234,7 +240,8 @@ impl<'a> Notes<'a> {
         }
     }
 
-    /// Takes the line of this number. If `strict`, each call has to be a statement.
+    /// Takes the line of this number: as a row if rows of a return are still to come, else by what it says. If
+    /// `strict`, a call whose text isn't a statement is a faulty line.
     ///
     /// May return `NoMemory`.
     #[tactic(auto, unfolding(crate::specs::Reading::noted_line, crate::specs::Reading::noted_row))]
@@ -252,6 +259,7 @@ impl<'a> Notes<'a> {
         match self.pending.take() {
             None => self.take_said(alloc, strict, number, read_record_line(line)),
             Some(pending) => {
+                // Blank lines and comments may come between rows.
                 if is_silent(line) {
                     self.pending = Some(pending);
                     Ok(())
@@ -262,7 +270,8 @@ impl<'a> Notes<'a> {
         }
     }
 
-    /// Notes that the record ends.
+    /// Notes that the record ends. If rows are still to come, the line of their return is faulty, and the faulty lines
+    /// among its rows follow; the return isn't noted.
     ///
     /// May return `NoMemory`.
     #[tactic(auto, unfolding(crate::specs::Reading::blamed))]

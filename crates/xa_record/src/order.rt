@@ -40,7 +40,8 @@ fn push_canonical(
     }
 }
 
-/// Appends what is written for a text that a session called for, and that was read as this request.
+/// Appends what is written for a text that a session called for, and that was read as this request: the canonical form
+/// of its statement, or the text itself if it isn't a statement or has no such form.
 ///
 /// May return `NoMemory`.
 pub fn push_call(
@@ -58,7 +59,8 @@ pub fn push_call(
     }
 }
 
-/// Appends what is called for, if this is a call.
+/// Appends what is called for, as `push_call` writes it, if this is a call; else nothing. `event` is that of
+/// `line_event`.
 fn push_called(
     alloc: Global,
     out: &mut Vec<u8>,
@@ -82,7 +84,8 @@ fn push_called(
     }
 }
 
-/// Appends what is called for at this place, if there is one.
+/// Appends what is called for at this place. Appends nothing if there is no place, if it is past the end, or if it
+/// isn't that of a call. `events` are those of `numbered`, one for each.
 fn push_called_at(
     alloc: Global,
     out: &mut Vec<u8>,
@@ -106,7 +109,8 @@ fn push_called_at(
     }
 }
 
-/// Appends what the session's act carries out.
+/// Appends what the session's act carries out: the statement that it called for last, whose place `calls` has; or
+/// `DISCONNECT`, after its client is gone.
 #[tactic(auto, using(crate::proofs::Effects::text_of_last))]
 fn push_act(
     alloc: Global,
@@ -127,7 +131,7 @@ fn push_act(
     }
 }
 
-/// Appends the line of an effect.
+/// Appends the line of an effect: the session's number, a blank, and what its act carries out.
 fn push_effect(
     alloc: Global,
     out: &mut Vec<u8>,
@@ -147,7 +151,8 @@ fn push_effect(
     out.extend_from_slice(b"\n")
 }
 
-/// Appends the line of a move, if it has one, and returns the place of the next event.
+/// Appends the line of a move, if it is an effect. A move that goes over the event at `place` notes its call in `calls`
+/// instead. Past the end it does nothing. Returns the place of the next event. `events` are those of `numbered`.
 fn push_move(
     alloc: Global,
     out: &mut Vec<u8>,
@@ -178,8 +183,8 @@ fn push_move(
     }
 }
 
-/// Appends the effects of an order, each on a line as in a script, with its statement as it was read from the
-/// call.
+/// Appends the effects of an order, each on a line as in a script: the session, and what its act carries out, as
+/// `push_act` writes it. `moves` begin before the first event. `events` are those of `numbered`.
 fn push_order(
     alloc: Global,
     out: &mut Vec<u8>,
@@ -199,7 +204,8 @@ fn push_order(
     Ok(())
 }
 
-/// Returns the lines of an order: each effect as a line of a script.
+/// Returns the lines of the order of these moves: each effect as a line of a script. `events` are those of `numbered`,
+/// and the moves begin before the first of them.
 ///
 /// May return `NoMemory`.
 /// Own rule: docs/HISTORIES.md#verdicts.

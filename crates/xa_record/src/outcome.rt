@@ -7,7 +7,7 @@ pub enum Outcome {
     Legal,
     /// No order explains it.
     Illegal,
-    /// More different configurations than allowed can precede one of its events.
+    /// More different configurations than allowed have to be kept before one of its events.
     Undecided,
     /// Lines of it are faulty, so there is no verdict.
     Faulty,

@@ -25,7 +25,8 @@ pub enum Does {
 /// A call with its return, or the loss of a client.
 #[derive(Clone, Copy, Debug, PartialEq, Eq)]
 pub struct Part {
-    /// Which it writes of what the ILLEGAL line shows, from 1, or 0 if it writes none of that.
+    /// Which of the things it writes that the ILLEGAL line shows, as `Sought::written_by` numbers them from 1; 0 if it
+    /// writes none.
     pub writes: usize,
     /// The part that starts its branch, or its own number if it belongs to no branch.
     pub start: usize,

@@ -17,15 +17,16 @@ pub struct Parts {
     pub lines: Vec<Belongs>,
     /// The parts, in the order in which they happen.
     pub parts: Vec<Part>,
-    /// At each session's number, the part of its last call.
+    /// At each session's number, the part of its last call. Place 0 belongs to no session.
     calls: [Option<usize>; 17],
 }
 
 impl Parts {
-    /// No part of a text. None of its lines belongs anywhere.
+    /// The lines of a text, none of which belongs anywhere yet, and no parts.
     fn none(alloc: Global, text: &[u8]) -> Result<Parts, NoMemory> {
         let mut lines = Vec::new(alloc);
         let mut rest = text;
+        // Each line takes at least one byte of the text, so there are no more lines than bytes.
         for _byte in text {
             if !rest.is_empty() {
                 rest = split_line(rest).1;
@@ -39,7 +40,8 @@ impl Parts {
         })
     }
 
-    /// Adds a part of the branch that this part starts.
+    /// Adds a part of the branch that the part `start` starts; `writes` is as in `Part`. The part counts as one that
+    /// changes something until its return shows more.
     fn add(&mut self, writes: usize, start: usize) -> Result<(), NoMemory> {
         self.parts.push(Part {
             writes,
@@ -50,7 +52,7 @@ impl Parts {
         Ok(())
     }
 
-    /// Puts a line into a part. Lines have numbers from 1.
+    /// Notes where a line belongs. Lines have numbers from 1. Does nothing for a line past the end.
     fn put(&mut self, line: u64, belongs: Belongs) {
         let index = line.saturating_sub(1) as usize;
         if index < self.lines.len() {
@@ -58,14 +60,15 @@ impl Parts {
         }
     }
 
-    /// Puts the line of a return into the part of the session's last call.
+    /// Puts the line of a return into the part of the session's last call; nowhere if it hasn't called.
     fn put_return(&mut self, line: u64, session: SessionNo) {
         if let Some(part) = self.calls[session.get() as usize] {
             self.put(line, Belongs::Part(part));
         }
     }
 
-    /// Takes note of what happens next.
+    /// Takes note of what happens next: adds a part for a call or a loss, and puts the line of a return to its call.
+    /// `sought` is what the ILLEGAL line shows.
     fn follow(
         &mut self,
         one: &NumberedEvent,
@@ -83,14 +86,17 @@ impl Parts {
             LineEvent::Return(session, shown) => {
                 self.put_return(one.number, *session);
                 let does = done_by(shown);
+                // A call that is refused, or only reads, leaves its session's branch as it was before.
                 if does != Does::Changes {
                     branches.undo(*session);
                     self.set_done(*session, does);
                 }
             }
+            // What it did isn't known, so it still counts as one that changes something.
             LineEvent::Unknown(session) => self.put_return(one.number, *session),
             LineEvent::Lost(session) => {
                 let start = branches.lose(*session, part);
+                // A loss writes nothing that a line shows.
                 self.add(0, start)?;
                 self.put(one.number, Belongs::Part(part));
             }
@@ -114,7 +120,7 @@ impl Parts {
         }
     }
 
-    /// Keeps the lines of a part in any case.
+    /// Keeps the lines of a part in any case. The part itself counts as left out, so that no window proposes it.
     fn keep(&mut self, part: usize) {
         for index in 0..self.lines.len() {
             if index < self.lines.len() && self.lines[index] == Belongs::Part(part) {
@@ -131,17 +137,19 @@ impl Parts {
         }
     }
 
-    /// Puts each row to the return that it follows.
+    /// Puts each line of a row of `text`, the record's, to where the line of its return belongs, which is set already.
     fn put_rows(&mut self, text: &[u8]) {
         let mut rest = text;
         let mut due: u64 = 0;
         let mut belongs = Belongs::Nowhere;
         for index in 0..self.lines.len() {
+            // There is an entry for each line of the text, so neither comes.
             if rest.is_empty() || index >= self.lines.len() {
                 return;
             }
             let (line, lines) = split_line(rest);
             rest = lines;
+            // `due` rows of the last return are still to come. Blank lines and comments may come between them.
             if due == 0 {
                 due = rows_behind(line);
                 belongs = self.lines[index];
@@ -152,7 +160,8 @@ impl Parts {
         }
     }
 
-    /// Returns the parts of a text in which this happens, up to and including this place, which stays.
+    /// Returns the parts of the record of this text, in which `numbered` happens, up to and including this place. The
+    /// lines of the call that returns there are kept in any case. Past the end there are no parts.
     ///
     /// May return `NoMemory`.
     pub fn of(
@@ -173,6 +182,7 @@ impl Parts {
         let last = &numbered[place];
         parts.follow(last, &sought, &mut branches)?;
         parts.keep_call(last.line_event.session());
+        // This comes last, so that rows of the ILLEGAL line are kept with it.
         parts.put_rows(text);
         Ok(parts)
     }

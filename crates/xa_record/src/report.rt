@@ -19,7 +19,7 @@ pub enum Report {
     /// The number of the first line that no order explains, the answers that its call could have had, and
     /// what else is told.
     Illegal(u64, BTreeSet<Vec<u8>>, Grounds),
-    /// The number of the line that more different configurations than allowed can precede.
+    /// The number of the line before which more different configurations than allowed have to be kept.
     Undecided(u64),
 }
 

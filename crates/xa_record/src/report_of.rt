@@ -30,8 +30,10 @@ fn answer_text(alloc: Global, answer: &Answer) -> Result<Vec<u8>, NoMemory>
     let mut text = Vec::new(alloc);
     match answer {
         Answer::Reply(reply) => push_reply(alloc, &mut text, true, reply)?,
+        // A text that isn't a statement has this answer.
         Answer::Unread => text.extend_from_slice(b"ERROR 1064")?,
     }
+    // Texts of many answers may be kept, so each takes no more memory than it needs.
     text.shrink_to_fit();
     Ok(text)
 }
@@ -56,7 +58,10 @@ fn answer_texts(alloc: Global, answers: &[SharedAnswer]) -> Result<BTreeSet<Vec<
     Ok(texts)
 }
 
-/// What is told beside the answers of an ILLEGAL verdict at this place.
+/// What is told beside the answers of an ILLEGAL verdict at this place, each if `asked` asks for it: what was seen and
+/// its call, an order before the place and the store after it, a smaller record. The order and the store are left out
+/// if a smaller record is asked for, or if `asked.limit` is too small to find them, and the smaller record if none is
+/// found.
 fn grounds_for<P: Progress>(
     alloc: Global,
     base: &Server,

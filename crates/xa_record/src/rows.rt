@@ -17,7 +17,8 @@ pub fn behind_word(text: &[u8]) -> &[u8]
     skip_blanks(split_word(text).1)
 }
 
-/// Returns the number of the text's first digits, if it begins with digits and the number is below 2^64.
+/// Returns the number of the text's first digits. None if it doesn't begin with digits, if they have a leading zero, or
+/// if the number isn't below 2^64.
 #[tactic(auto, unfolding(crate::specs::Rows::leading_number))]
 pub fn leading_number(text: &[u8]) -> Option<u64>
     ensures { result ≡ leading_number_of text.now }
@@ -25,7 +26,7 @@ pub fn leading_number(text: &[u8]) -> Option<u64>
     number_in(ByteClass::Decimal.split(text).0)
 }
 
-/// The digits of a word after its `0x`.
+/// The digits of a word after its `0x`. None if it doesn't begin so.
 fn digits_in(word: &[u8]) -> Option<&[u8]>
     ensures { option_copied result ≡ digits_named word.now }
 {
@@ -35,7 +36,7 @@ fn digits_in(word: &[u8]) -> Option<&[u8]>
     }
 }
 
-/// A text of at most 64 bytes.
+/// These bytes, at most 64, as a text.
 fn text_of(bytes: &[u8]) -> Bytes
     requires { length bytes.now ≤ text_bytes }
     ensures { result.items ≡ bytes.now }
@@ -46,7 +47,8 @@ fn text_of(bytes: &[u8]) -> Bytes
     text
 }
 
-/// The identifier with these bytes: first those of its gtrid, then those of its bqual.
+/// The identifier with these bytes: first those of its gtrid, then those of its bqual. `gtrid` and `bqual` are their
+/// lengths; only the contract needs the second.
 fn xid_from(format_id: u64, gtrid: usize, bqual: usize, bytes: &[u8]) -> Xid
     requires gtrid { gtrid ≤ text_bytes }
     requires bqual { bqual ≤ text_bytes }
@@ -61,11 +63,13 @@ fn xid_from(format_id: u64, gtrid: usize, bqual: usize, bytes: &[u8]) -> Xid
     }
 }
 
-/// The identifier with this formatID, these lengths of gtrid and bqual, and these digits for both.
+/// The identifier with this formatID, these lengths of gtrid and bqual, and these digits for both. None if a length is
+/// over 64, or the digits aren't two hexadecimal ones for each byte.
 #[tactic(auto, unfolding(crate::specs::Rows::xid_written))]
 fn written(format_id: u64, gtrid: u64, bqual: u64, digits: &[u8]) -> Option<Xid>
     ensures { result ≡ xid_written format_id gtrid bqual digits.now }
 {
+    // A gtrid and a bqual have at most 64 bytes each, so 128 bytes hold both.
     if gtrid > 64 || bqual > 64 {
         return None;
     }
@@ -77,7 +81,9 @@ fn written(format_id: u64, gtrid: u64, bqual: u64, digits: &[u8]) -> Option<Xid>
     }
 }
 
-/// The identifier of four words, if no text follows them. Each argument is the text from one of the words on.
+/// The identifier of four words: formatID, lengths of gtrid and bqual, and the digits of both after `0x`. Each
+/// argument is the text from one of the words on. None if more text follows, or if the words don't have this form or
+/// don't fit each other.
 #[tactic(auto, unfolding(crate::specs::Rows::row_of))]
 fn row_in(first: &[u8], second: &[u8], third: &[u8], fourth: &[u8]) -> Option<Xid>
     ensures { result ≡ row_of first.now second.now third.now fourth.now }

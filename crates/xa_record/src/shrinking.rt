@@ -17,22 +17,26 @@ use xa_judge::{Event, Verdict, judge};
 use xa_server::Server;
 use xa_xid::NoMemory;
 
-/// How often part of a record is judged at most, after what happens behind the ILLEGAL line was left out. To leave out
-/// all but ten of thousands of calls takes some hundreds of judgings, most of them of short records.
+/// How often part of a record is judged at most, after the first judging, in which only what happens behind the ILLEGAL
+/// line is left out: 1,000 times in all. To leave out all but ten of thousands of calls takes some hundreds of
+/// judgings, most of them of short records.
 const MOST_TRIES: u32 = 999;
 
-/// Tells whether a verdict says that no order explains this many events, and an order all but the last.
+/// Whether a verdict on `count` events is ILLEGAL at the last: no order explains them all, and some order all but the
+/// last.
 fn is_at_last(verdict: &Verdict, count: usize) -> bool
     ensures { result ≡ true → is_illegal verdict.now ≡ true }
 {
     match verdict {
+        // The first condition keeps `count - 1` from being below 0.
         Verdict::Illegal(place, _) => count > 0 && *place == count - 1,
         Verdict::Legal(_) => false,
         Verdict::Undecided(_) => false,
     }
 }
 
-/// Tells whether no order explains these events, and an order all but the last.
+/// True only if no order explains these events, and some order explains all but the last. False may also mean that it
+/// isn't decided within `limit`.
 fn is_refuted_at_last(
     alloc: Global,
     base: &Server,
@@ -45,8 +49,8 @@ fn is_refuted_at_last(
     Ok(is_at_last(&verdict, events.len()))
 }
 
-/// Tells whether no line of this text is faulty and no order explains what happens in it, but an order all but the last
-/// of that.
+/// True only if no line of this text is faulty, and no order explains what happens in it, but some order all but the
+/// last of that. False may also mean that it isn't decided within the limit.
 fn is_unexplained(
     alloc: Global,
     base: &Server,
@@ -64,7 +68,7 @@ fn is_unexplained(
     is_refuted_at_last(alloc, base, asked.limit, events.as_slice())
 }
 
-/// The record of these lines of a text, if no order explains it.
+/// The record of the lines of a text at whose places `keeps` is true, if `is_unexplained` is true of it; else None.
 fn smaller_by(
     alloc: Global,
     base: &Server,
@@ -84,7 +88,9 @@ fn smaller_by(
     }
 }
 
-/// The smallest record that these cuts lead to, if the one without what happens behind the ILLEGAL line is one.
+/// The smallest record that these cuts lead to in at most `MOST_TRIES` tries, fewer if nothing is left to propose.
+/// None if `is_unexplained` is false even of the first record, which lacks only what happens behind the ILLEGAL line,
+/// blank lines and comments.
 fn smallest_by(
     alloc: Global,
     base: &Server,
@@ -105,6 +111,7 @@ fn smallest_by(
             return Ok(smallest);
         }
         let found = smaller_by(alloc, base, allowances, asked, text, cuts.keeps())?;
+        // Else what was proposed stays in, and the next proposal takes its place.
         if found.is_some() {
             smallest = found;
             cuts.accept();
@@ -113,7 +120,8 @@ fn smallest_by(
     Ok(smallest)
 }
 
-/// The smallest record that is found of this text, in which no order explains what happens up to this place.
+/// The smallest record that is found of this text, in which no order explains what happens up to and including this
+/// place. None if none is found.
 fn smallest_of(
     alloc: Global,
     base: &Server,
@@ -130,10 +138,11 @@ fn smallest_of(
     smallest_by(alloc, base, allowances, asked, text, &mut cuts)
 }
 
-/// Returns a smaller record that no order explains either, if `asked` asks for one: calls of the record of this text
-/// are left out, and what is left is judged again.
+/// Returns a smaller record that no order explains either: calls of the record of this text are left out, and what is
+/// left is judged again. None if `asked` asks for none, or none is found.
 ///
-/// No order explains what happens up to and including this place. Parts of the record are judged at most 1,000 times.
+/// The record begins with `base`, and no order explains what happens up to and including this place. Parts of the
+/// record are judged at most 1,000 times, each within `asked.limit`; one that is UNDECIDED isn't taken.
 /// May return `NoMemory`.
 pub fn smaller_for(
     alloc: Global,

@@ -27,7 +27,7 @@ fn key_read(text: &[u8]) -> Option<Key> {
     }
 }
 
-/// The row that this calls for, if it calls for one.
+/// The row that this call reads, if it is a `GET`.
 fn key_called(call: Option<&NumberedEvent>) -> Option<Key> {
     match call {
         Some(one) => match &one.line_event {
@@ -44,6 +44,7 @@ fn key_called(call: Option<&NumberedEvent>) -> Option<Key> {
 fn number_among(xids: &[Xid], xid: &Xid) -> usize {
     let mut number: usize = 0;
     for one in xids {
+        // It counts places of a list, so it never saturates.
         number = number.saturating_add(1);
         if one == xid {
             return number;
@@ -53,7 +54,7 @@ fn number_among(xids: &[Xid], xid: &Xid) -> usize {
 }
 
 impl Sought {
-    /// What a return of this call shows.
+    /// What a return to this call shows that a call has to write. A value counts only if the call is a `GET`.
     fn of_return(
         alloc: Global,
         call: Option<&NumberedEvent>,
@@ -71,7 +72,7 @@ impl Sought {
         }
     }
 
-    /// Returns what the return at this place shows.
+    /// Returns what the return at this place shows that a call has to write; `Nothing` if there is no return.
     ///
     /// May return `NoMemory`.
     pub fn at(alloc: Global, numbered: &[NumberedEvent], place: usize) -> Result<Sought, NoMemory> {
@@ -89,7 +90,8 @@ impl Sought {
         }
     }
 
-    /// Which of it a statement writes.
+    /// Which of what is sought a statement writes: 1 if it puts the value into the row; of branches the place of the
+    /// one that it prepares, from 1; and else 0.
     fn of_statement(&self, statement: &Statement) -> usize {
         match self {
             Sought::Nothing => 0,
@@ -106,8 +108,8 @@ impl Sought {
         }
     }
 
-    /// Returns which of it a call of this text writes: 1 if it puts the value into the row, the number of the branch
-    /// that it prepares, and else 0.
+    /// Returns which of what is sought a call of this text writes: 1 if it puts the value into the row; of branches the
+    /// place of the one that it prepares, from 1; and else 0.
     pub fn written_by(&self, text: &[u8]) -> usize {
         match read_statement(text) {
             Ok(statement) => self.of_statement(&statement),

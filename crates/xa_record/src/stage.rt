@@ -16,7 +16,7 @@ pub enum Stage {
 }
 
 impl Stage {
-    /// Returns what is tried after this.
+    /// Returns what is tried after this, if anything is.
     pub fn next(self) -> Option<Stage> {
         match self {
             Stage::Everything => Some(Stage::Refused),

@@ -1,4 +1,5 @@
-//! The branches of a listing.
+//! Makes the branches of a listing, by statements. A branch is started at its own line, and holds the rows of the lines
+//! after it. Then, at the next branch or the end, it comes to its phase.
 ghost use Rattle.std.specs.Prelude.{◌≡◌, OnOk};
 
 use crate::open_branch::OpenBranch;
@@ -16,7 +17,7 @@ fn start(server: &mut Server, branch: &OpenBranch) -> Result<(), NoMemory>
     carry_out(server, branch.session, &statement)
 }
 
-/// Ends the branch, and prepares it, as its phase wants.
+/// Brings a branch that was started to its phase: to IDLE by `XA END`, to PREPARED by `XA PREPARE` after that.
 fn end(server: &mut Server, branch: &OpenBranch) -> Result<(), NoMemory>
     ensures { OnOk result (server.new.rows ≡ server.old.rows) }
 {
@@ -32,7 +33,7 @@ fn end(server: &mut Server, branch: &OpenBranch) -> Result<(), NoMemory>
     carry_out(server, branch.session, &statement)
 }
 
-/// Ends the branch that is being made, if one is.
+/// Brings the branch that is being made to its phase, if one is.
 fn end_last(server: &mut Server, last: &Option<OpenBranch>) -> Result<(), NoMemory>
     ensures { OnOk result (server.new.rows ≡ server.old.rows) }
 {
@@ -42,7 +43,8 @@ fn end_last(server: &mut Server, last: &Option<OpenBranch>) -> Result<(), NoMemo
     }
 }
 
-/// Has the branch that is being made, if one is, hold the row of a statement.
+/// Has the branch that is being made hold the row of a statement, which its session carries out. Does nothing if none
+/// is being made, as for rows of a branch that isn't made this time.
 fn hold(
     server: &mut Server,
     last: &Option<OpenBranch>,
@@ -56,7 +58,8 @@ fn hold(
     }
 }
 
-/// Starts the branch, if it is of those that are made. Returns the branch that is being made now.
+/// Starts the branch and returns it, if it is of those that are made: if `prepared` the prepared ones, else the others.
+/// Returns None if it isn't.
 fn begin(
     server: &mut Server,
     prepared: bool,
@@ -64,7 +67,7 @@ fn begin(
 ) -> Result<Option<OpenBranch>, NoMemory>
     ensures { OnOk result (server.new.rows ≡ server.old.rows) }
 {
-    // Prepared branches are made first, since they free their session; the others then stay open.
+    // Prepared branches are made first, since they free their session. The others stay open after that.
     if prepared != (branch.phase == Phase::Prepared) {
         return Ok(None);
     }
@@ -72,7 +75,8 @@ fn begin(
     Ok(Some(branch))
 }
 
-/// Goes on with a line. Returns the branch that is being made after it.
+/// Goes on with a line, where `last` is the branch that is being made, if one is, and `prepared` says which branches
+/// are made, as in `begin`. Returns the one that is being made after it. Lines of rows change nothing here.
 fn take_line(
     server: &mut Server,
     prepared: bool,
@@ -83,6 +87,7 @@ fn take_line(
 {
     match read_state_line(line) {
         Some(StateLine::Branch(branch)) => {
+            // The rows of the branch before have all come.
             end_last(server, &last)?;
             begin(server, prepared, branch)
         }
@@ -90,11 +95,12 @@ fn take_line(
             hold(server, &last, &statement)?;
             Ok(last)
         }
+        // A line of a row. Lines that aren't of a state don't come: `take_rows` found none.
         _ => Ok(last),
     }
 }
 
-/// Makes branches of the text, each with the rows that it holds: the prepared ones, or the others.
+/// Makes branches of the text, each with the rows that it holds: if `prepared` the prepared ones, else the others.
 ///
 /// May return `NoMemory`.
 pub fn take_branches(server: &mut Server, prepared: bool, text: &[u8]) -> Result<(), NoMemory>

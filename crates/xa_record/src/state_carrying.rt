@@ -18,7 +18,8 @@ fn tells_free(reply: &Reply) -> bool
     }
 }
 
-/// Whether the session is known to have a branch open.
+/// True only if the session has a branch open. The reply to an `XA END` tells that, whatever its identifier: the reply
+/// is asked for, and the statement isn't carried out.
 #[tactic(auto, using(crate::proofs::RowsLeft::free_told))]
 fn has_open(server: &Server, session: SessionNo) -> Result<bool, NoMemory>
     ensures { IfOk result (λ has. association_of server.now session ≡ Association.Free → has ≡ false) }
@@ -34,8 +35,8 @@ fn has_open(server: &Server, session: SessionNo) -> Result<bool, NoMemory>
     Ok(!free)
 }
 
-/// Whether the session's statement is known to leave the committed values of rows as they are: it is no
-/// commit, and it writes a row only in a branch.
+/// True only if the session's statement leaves the committed values of rows as they are: it is no commit, and if it
+/// writes a row, the session has a branch open. Outside of a branch it would commit the row at once.
 fn leaves_rows(server: &Server, session: SessionNo, statement: &Statement) -> Result<bool, NoMemory>
     ensures { IfOk result
         (λ leaves. leaves ≡ true → leaves_rows_by (association_of server.now session) statement.now ≡ true) }
@@ -48,7 +49,8 @@ fn leaves_rows(server: &Server, session: SessionNo, statement: &Statement) -> Re
     }
 }
 
-/// Has the server carry out the session's statement, if that leaves the committed values of rows as they are.
+/// Has the server carry out the session's statement, if that is known to leave the committed values of rows as they
+/// are. Else does nothing.
 ///
 /// May return `NoMemory`.
 #[tactic(auto, using(crate::proofs::RowsLeft::rows_left))]

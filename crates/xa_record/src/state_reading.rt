@@ -16,11 +16,13 @@ use xa_xid::{Key, NoMemory, SessionNo};
 fn any_session() -> SessionNo {
     match SessionNo::of(1) {
         Some(session) => session,
+        // 1 is the number of a session.
         None => unreachable!(),
     }
 }
 
-/// A server that may be in the state of the text, and the keys of the text's rows.
+/// A server that is made of the lines of the text, and the keys of the text's rows. Whether it is in the state that
+/// the text lists is tested after that. `Unread` names the first line that isn't one of a state.
 #[tactic(auto, using(crate::proofs::RowsLeft::named_made))]
 fn made(alloc: Global, text: &[u8]) -> Result<(Server, Vec<Key>), StateFault>
     ensures { IfOk result (λ made. NamesAllRows made.1.items made.0) }
@@ -41,8 +43,8 @@ fn are_same(left: &[u8], right: &[u8]) -> bool
     left == right
 }
 
-/// The first line of the text that the server isn't listed with, by its branches and these rows, if there is
-/// one.
+/// The number of the first line in which the text differs from the listing of the server, with these rows. None if the
+/// text is that listing.
 fn difference(
     alloc: Global,
     server: &Server,
@@ -61,12 +63,12 @@ fn difference(
 
 /// Reads a state, and returns a server that is in it.
 ///
-/// The text is the listing of a store, with every row that has a value, as `show` prints one: the lines of
-/// branches, each followed by those of the rows that it holds, and then the lines of rows. An empty text is
+/// The text is the listing of a store, as `show` prints one, with every row that has a value and no other: the lines
+/// of branches, each followed by those of the rows that it holds, and then the lines of rows. An empty text is
 /// the listing of a store that holds nothing. The server is made by statements, and then listed; what is
 /// listed has to be the text.
-/// Errors: `Unread` with the number of the first line that isn't one of a listing; `Differs` with the number of
-/// the first line that the server isn't listed with; `NoMemory` if an allocation failed.
+/// Errors: `Unread` with the number of the first line that isn't one of a state, such as `ROW key NONE`; `Differs` with
+/// the number of the first line that the server isn't listed with; `NoMemory` if an allocation failed.
 /// Takes memory for the server, and for its listing. Doesn't wait.
 /// Own rule: docs/HISTORIES.md#records-in-pieces.
 #[tactic(auto, using(crate::proofs::RowsLeft::is_listed))]

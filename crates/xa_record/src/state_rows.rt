@@ -8,7 +8,7 @@ use xa_lines::split_line;
 use xa_server::Server;
 use xa_xid::{Bytes, Key, NoMemory, SessionNo, Statement};
 
-/// Has the server give a row this value, and notes the row's key.
+/// Has the server give a row this value, by a `PUT` of the session, which has no branch open, and notes the row's key.
 #[tactic(auto, using(crate::proofs::RowsLeft::named_after))]
 fn put_row(
     server: &mut Server,
@@ -26,7 +26,10 @@ fn put_row(
     Ok(())
 }
 
-/// Makes the row of a line, if it is the line of a row.
+/// Makes the row of a line, if it is the line of a row. The lines of branches, and of rows that these hold, are passed
+/// over.
+///
+/// Errors: `Unread` with the line's number if it isn't a line of a state; `NoMemory`.
 fn take_line(
     server: &mut Server,
     session: SessionNo,
@@ -46,9 +49,10 @@ fn take_line(
     }
 }
 
-/// Makes the rows of the text, and notes their keys in its order.
+/// Makes the rows of the text by statements of the session, which has no branch open, and adds their keys in the text's
+/// order.
 ///
-/// Errors: `Unread` with the first line that isn't one of a listing; `NoMemory`.
+/// Errors: `Unread` with the number of the first line that isn't one of a state; `NoMemory`.
 pub fn take_rows(
     server: &mut Server,
     session: SessionNo,

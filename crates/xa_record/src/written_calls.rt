@@ -9,7 +9,7 @@ use xa_statement::laws::canonical_text_is_spelled;
 use xa_xid::Statement;
 use xa_xid::laws::is_writable;
 
-/// The parts of the statement are as those of every statement.
+/// Each identifier in the statement has parts of bytes, at most 64 each, as every identifier has.
 fn is_fit(statement: &Statement)
     ensures { IsFit statement.now }
 {
@@ -38,7 +38,8 @@ fn is_written_back(statement: &Statement)
     canonical_text_is_spelled(statement);
 }
 
-/// That is so if the event is a call.
+/// If the event calls for a statement that is supported, the canonical form of that is read as that statement, and has
+/// no line feed.
 fn is_written_call(event: &Event)
     ensures { IsWrittenCall event.now }
 {

@@ -4,7 +4,7 @@ use Rattle.std.specs.Prelude.{IfSome}
 use Rattle.std.specs.Io.KnownBytes.{Keeps}
 use Rattle.std.proofs.lemmas.List.{map_push, map-id}
 
--- the last of texts that are all known, and those before it
+-- if some texts and a last one are all known, the known texts are those of the first ones, a front, and then the last
 pub last_known : {A : Type 0} (all : List (Option A)) (last : Option A) (texts : List A)
     → all ++ last ∷ [] ≡ map Some texts
     → (front : List A) × (text : A) × (texts ≡ front ++ text ∷ []) × (all ≡ map Some front) × (last ≡ Some text)
@@ -18,12 +18,13 @@ last_known (first ∷ all) last (text ∷ texts) e =
     let more = last_known all last texts rest in
     (text ∷ more.0, more.1, ap (λ xs. text ∷ xs) more.2, rw (same, more.3) refl, more.4)
 
--- if there is no source there is no text
+-- if there is no source, no text is known of one: what holds of no texts holds
 pub none_known : (P : List (List ℕ) → Type 0) (texts : List (List ℕ)) → P [] → [] ≡ map Some texts → P texts
 none_known P [] holds e = holds
 none_known P (text ∷ texts) holds e = cc
 
--- what holds of the texts of some sources holds of those with one more
+-- `P` holds of the texts of some sources, and gives `Q` of these with the text of one source more: so `Q` holds of the
+-- texts of all
 pub taken_more : {S : Type 0} (sources : List S) (source : S) (remaining : S → Option (List ℕ))
     (P Q : List (List ℕ) → Type 0)
     → ((texts : List (List ℕ)) → map remaining sources ≡ map Some texts → P texts)

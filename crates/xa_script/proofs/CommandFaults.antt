@@ -24,7 +24,7 @@ pub found_as_named : (app : App) (words : List Text) (m : ArgMatches) → app �
     → subcommand_rows_of m ≡ subcommand_of script_app words
 found_as_named app words m is has = (has (ap is_simple is ∙ simple)).1 ∙ ap (λ (a : App). subcommand_of a words) is
 
--- matches that are a job's name that job by the words
+-- if the matches are a job's, the words name that job
 pub named : (words : List Text) (m : ArgMatches) (job : Job) → subcommand_rows_of m ≡ subcommand_of script_app words
     → IsSomeAnd (subcommand_rows_of m) (IsJob job) → Names words job
 named words m job is found = let P : Option (Text × List Row) → Type 0 = λ s. IsSomeAnd s (IsJob job) in
@@ -37,7 +37,8 @@ pub found : (words : List Text) (m : ArgMatches) (job : Job) → subcommand_rows
 found words m job is names = let P : Option (Text × List Row) → Type 0 = λ s. IsSomeAnd s (IsJob job) in
     subst P (sym is) names
 
--- the kinds of the faults are those of the program's own command
+-- if an error has the kind of the words' fault for a simple command, and that is the program's, it has the kind of
+-- their fault for the program
 pub kind_of_script : (app : App) (words : List Text) (error : Error) → app ≡ script_app
     → (is_simple_and_free app ≡ true → HasKind (fault_of app words) error)
     → HasKind (fault_of script_app words) error
@@ -45,7 +46,7 @@ kind_of_script app words error is kinds =
     let P : App → Type 0 = λ a. HasKind (fault_of a words) error in
     subst P is (kinds (ap is_simple_and_free is ∙ simple_and_free))
 
--- if a command line of this form has no fault in the words, the program's has none
+-- if the words have no fault for a simple command, and that is the program's, they have none for the program
 pub no_fault_of_script : (app : App) (words : List Text) → app ≡ script_app
     → (is_simple_and_free app ≡ true → fault_of app words ≡ [])
     → fault_of script_app words ≡ []

@@ -8,7 +8,7 @@ use Rattle.xa_script.specs.CommandLine.{script_app}
 use Rattle.xa_script.specs.Manner.{IsManner, HasManner}
 use Rattle.xa_script.specs.declared.manner.Manner.{Manner}
 
--- the manner of the values that were found is that of the rows, which the words give
+-- if the manner is that of the values that were found for the subcommand of the words, the words give it
 pub given_by : (words : List Text) (found : ArgMatches) (name : Text) (manner : Manner)
     → subcommand_of script_app words ≡ Some (name, rows_of (found_of found))
     → IsManner (first_value (found_of found) (codes "file")) (first_value (found_of found) (codes "allow"))

@@ -30,7 +30,7 @@ audits m found name (Audit json) is named of =
     let at_json : Option Text → Type 0 = λ t. IsAuditOf t (Audit json) in
     subst P (sym is) (named, subst at_json (one_text-rows (found_of found) (codes "json")) of)
 
--- the histories that were found are those of the rows, which the words give
+-- if the names are those that were found for the subcommand of the words, the words name these histories
 pub histories_by_words : (words : List Text) (found : ArgMatches) (name : Text) (histories : Histories)
     → subcommand_of script_app words ≡ Some (name, rows_of (found_of found))
     → map (λ named. named.now) histories.names.items ≡ unwrap_or

@@ -11,7 +11,7 @@ use Rattle.xa_script.specs.declared.command.Job.TheVariants.{Run, Race, Coordina
 use Rattle.xa_script.specs.declared.command.Job.TheVariants.{Audit}
 use Rattle.xa_script.proofs.NamedJobs.{at_found, same_byte}
 
--- the calls over as many stores, with as much room, as two values' texts say
+-- if the subcommand is `coordinate` and its three options say this job, the matches are that job's
 coordinates : (m found : ArgMatches) (name : Text) (job : Job)
     → subcommand_rows_of m ≡ Some (name, rows_of (found_of found)) → name ≡ codes "coordinate"
     → IsCoordinateOf (one_text (found_of found) (codes "stores")) (one_text (found_of found) (codes "capacity"))
@@ -38,7 +38,7 @@ coordinates m found name (Coordinate stores capacity fixed) is named of =
     let by_fixed = subst at_fixed (one_text-rows (found_of found) (codes "fixed")) by_capacity in
     subst P (sym is) (named, by_fixed)
 
--- if the subcommand is `coordinate` and its three options are read as this job, the matches are that job's
+-- if the subcommand is `coordinate` and its three options are read as a job, the matches are that job's
 pub coordinates_if : (m found : ArgMatches) (name : Text) (r : Option Job)
     → subcommand_rows_of m ≡ Some (name, rows_of (found_of found)) → name ≡ codes "coordinate"
     → IfSome r (IsCoordinateOf (one_text (found_of found) (codes "stores"))
@@ -47,7 +47,7 @@ pub coordinates_if : (m found : ArgMatches) (name : Text) (r : Option Job)
 coordinates_if m found name None is named of = tt
 coordinates_if m found name (Some job) is named of = coordinates m found name job is named of
 
--- calls over no number of stores, or with no room
+-- if the subcommand is `coordinate` and its options say no job, the matches are no job's
 pub no_coordinates : (m found : ArgMatches) (name : Text) → subcommand_rows_of m ≡ Some (name, rows_of (found_of found))
     → name ≡ codes "coordinate"
     → ((job : Job) → IsCoordinateOf (one_text (found_of found) (codes "stores"))
@@ -96,7 +96,7 @@ no_coordinates m found name is named none (Coordinate stores capacity fixed) h =
     let by_stores = subst at_stores (sym (one_text-rows (found_of found) (codes "stores"))) by_capacity in
     none (Coordinate stores capacity fixed) by_stores
 
--- the stops over as many stores, with as much room, as two values' texts say
+-- if the subcommand is `stops` and its two options say this job, the matches are that job's
 stops : (m found : ArgMatches) (name : Text) (job : Job) → subcommand_rows_of m ≡ Some (name, rows_of (found_of found))
     → name ≡ codes "stops"
     → IsStopsOf (one_text (found_of found) (codes "stores")) (one_text (found_of found) (codes "capacity")) job
@@ -119,7 +119,7 @@ stops m found name (Stops stores capacity) is named of =
     let by_capacity = subst at_capacity (one_text-rows (found_of found) (codes "capacity")) by_stores in
     subst P (sym is) (named, by_capacity)
 
--- if the subcommand is `stops` and its options are read as this job, the matches are that job's
+-- if the subcommand is `stops` and its options are read as a job, the matches are that job's
 pub stops_if : (m found : ArgMatches) (name : Text) (r : Option Job)
     → subcommand_rows_of m ≡ Some (name, rows_of (found_of found)) → name ≡ codes "stops"
     → IfSome r (IsStopsOf (one_text (found_of found) (codes "stores")) (one_text (found_of found) (codes "capacity")))
@@ -127,7 +127,7 @@ pub stops_if : (m found : ArgMatches) (name : Text) (r : Option Job)
 stops_if m found name None is named of = tt
 stops_if m found name (Some job) is named of = stops m found name job is named of
 
--- if the stores or the capacity of `stops` can't be read, the matches are no job's
+-- if the subcommand is `stops` and its options say no job, the matches are no job's
 pub no_stops : (m found : ArgMatches) (name : Text) → subcommand_rows_of m ≡ Some (name, rows_of (found_of found))
     → name ≡ codes "stops"
     → ((job : Job) → IsStopsOf (one_text (found_of found) (codes "stores"))

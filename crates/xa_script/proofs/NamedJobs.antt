@@ -23,7 +23,7 @@ both_parts (Some p) n r e f =
     let two : r ≡ p.1 = cc in
     rw (one, two) refl
 
--- the subcommand that was found, with its rows
+-- if this name and these rows were found, the subcommand that was found is these two
 pub rows_are : (m : ArgMatches) (name : Text) (rows : List Row) → Some name ≡ subcommand_name_of m
     → Some rows ≡ option_map (λ p. p.1) (subcommand_rows_of m)
     → subcommand_rows_of m ≡ Some (name, rows)
@@ -33,7 +33,7 @@ rows_are m name rows e f =
     (λ b. rows_of (found_of (out-SubCommand (box_value b)).matches))
     (out-ArgMatches m).subcommand) f
 
--- the job that the matches name, by the subcommand's name and options
+-- if the matches are this job's, so are the subcommand's name and rows that were found
 pub at_found : (m : ArgMatches) (name : Text) (rows : List Row) (job : Job) → subcommand_rows_of m ≡ Some (name, rows)
     → IsSomeAnd (subcommand_rows_of m) (IsJob job) → IsJob job (name, rows)
 at_found m name rows job is h = let P : Option (Text × List Row) → Type 0 = λ s. IsSomeAnd s (IsJob job) in subst P is h

@@ -51,7 +51,7 @@ judges m found name (Judge limit explain json strict shrink) is named of =
     let by_shrink = subst at_shrink (one_text-rows (found_of found) (codes "shrink")) by_strict in
     subst P (sym is) (named, by_shrink)
 
--- if the subcommand is `judge` and its options are read as this job, the matches are that job's
+-- if the subcommand is `judge` and its options are read as a job, the matches are that job's
 pub judges_if : (m found : ArgMatches) (name : Text) (r : Option Job)
     → subcommand_rows_of m ≡ Some (name, rows_of (found_of found)) → name ≡ codes "judge"
     → IfSome r (IsJudgeOf (one_text (found_of found) (codes "limit")) (one_text (found_of found) (codes "explain"))
@@ -100,7 +100,7 @@ no_judge m found name is named none (Judge limit explain json strict shrink) h =
     none limit (subst Q (sym (one_text-rows (found_of found) (codes "limit")))
     (at_found m name (rows_of (found_of found)) (Judge limit explain json strict shrink) is h).1.0)
 
--- exploring with the limit that a value's text says
+-- if the subcommand is `explore` and its limit says this job, the matches are that job's
 explores : (m found : ArgMatches) (name : Text) (job : Job)
     → subcommand_rows_of m ≡ Some (name, rows_of (found_of found)) → name ≡ codes "explore"
     → IsExploreOf (one_text (found_of found) (codes "limit")) job → IsSomeAnd (subcommand_rows_of m) (IsJob job)
@@ -119,7 +119,7 @@ explores m found name (Explore limit) is named of =
     let by_limit = subst at_limit (one_text-rows (found_of found) (codes "limit")) of in
     subst P (sym is) (named, by_limit)
 
--- if the subcommand is `explore` and its limit is read as this job's, the matches are that job's
+-- if the subcommand is `explore` and its limit is read as a job's, the matches are that job's
 pub explores_if : (m found : ArgMatches) (name : Text) (r : Option Job)
     → subcommand_rows_of m ≡ Some (name, rows_of (found_of found)) → name ≡ codes "explore"
     → IfSome r (IsExploreOf (one_text (found_of found) (codes "limit")))

@@ -11,7 +11,7 @@ use Rattle.xa_script.specs.declared.command.Job.TheVariants.{Run, Race, Coordina
 use Rattle.xa_script.specs.declared.command.Job.TheVariants.{Audit}
 use Rattle.xa_script.proofs.NamedJobs.{at_found, same_byte}
 
--- the race of the values that were found
+-- if the subcommand is `race` and its five options say this job, the matches are that job's
 races : (m found : ArgMatches) (name : Text) (job : Job) → subcommand_rows_of m ≡ Some (name, rows_of (found_of found))
     → name ≡ codes "race"
     → IsRaceOf (one_text (found_of found) (codes "capacity")) (one_text (found_of found) (codes "together"))
@@ -49,7 +49,7 @@ races m found name (Race capacity schedule renews runs) is named of =
     let by_runs = subst at_runs (one_text-rows (found_of found) (codes "runs")) by_renew in
     subst P (sym is) (named, by_runs)
 
--- if the subcommand is `race` and its options are read as this job, the matches are that job's
+-- if the subcommand is `race` and its options are read as a job, the matches are that job's
 pub races_if : (m found : ArgMatches) (name : Text) (r : Option Job)
     → subcommand_rows_of m ≡ Some (name, rows_of (found_of found)) → name ≡ codes "race"
     → IfSome r (IsRaceOf (one_text (found_of found) (codes "capacity")) (one_text (found_of found) (codes "together"))

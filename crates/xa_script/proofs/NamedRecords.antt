@@ -10,7 +10,7 @@ use Rattle.xa_script.specs.CommandLine.{IsFlagOf, script_app}
 use Rattle.xa_script.specs.Manner.{HasRecords}
 use Rattle.xa_script.specs.declared.records.Records.{Records}
 
--- the records that were found are those of the rows, which the words give
+-- if the names and `--tap` are those that were found for the subcommand of the words, the words name these records
 pub records_by_words : (words : List Text) (found : ArgMatches) (name : Text) (records : Records)
     → subcommand_of script_app words ≡ Some (name, rows_of (found_of found))
     → map (λ named. named.now) records.names.items ≡ unwrap_or

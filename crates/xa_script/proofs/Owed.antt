@@ -9,7 +9,7 @@ use Rattle.std.specs.Io.KnownBytes.{Appends, Keeps, append_known}
 use Rattle.std.specs.Prelude.{OnOk}
 use Rattle.xa_script.specs.TextLines.{ends_line}
 
--- the first of the bytes that are due, and then the others
+-- the bytes that are due are the first `count` of them, and then the others
 split_due : (due : List ℕ) (given count : ℕ) → take count (drop given due) ++ drop (given + count) due ≡ drop given due
 split_due due given count = ap (λ rest. take count (drop given due) ++ rest) (sym (drop-drop count given due))
     ∙ take-append-drop count (drop given due)
@@ -28,7 +28,7 @@ given_more (Some old) (Some new) due given count written =
     ∙ append_assoc old (take count (drop given due)) rest
     ∙ ap (λ (xs : List ℕ). old ++ xs) (split_due due given count)
 
--- what was sent stays known with what is held
+-- if what was sent stays known, it does so with the same held bytes behind it
 pub known_kept : (old new : Option (List ℕ)) (due rest held same : List ℕ)
     → Keeps (append_known old due) (append_known new rest) → same ≡ held
     → Keeps (append_known old (due ++ held)) (append_known new (rest ++ same))
@@ -39,7 +39,7 @@ known_kept (Some old) (Some new) due rest held same kept is =
     ∙ ap₂ (λ (xs ys : List ℕ). xs ++ ys) kept is
     ∙ append_assoc old due held
 
--- what is known where nothing is due is what was written
+-- where nothing is due or held any more, what was known is what the inner writer has got
 pub all_given : (known old new : Option (List ℕ)) (due held : List ℕ) → Keeps known (append_known old (due ++ held))
     → due ≡ [] → held ≡ [] → Keeps old new
     → Keeps known new

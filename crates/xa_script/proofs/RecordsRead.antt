@@ -33,7 +33,7 @@ judged_whole base allowances asked (Ok status) given input rest old new read end
       verdict.2,
 )
 
--- what a fault of judging several records leaves is what the job promises after it
+-- what a fault of judging the bytes that were read up to the end leaves, it leaves of all that the reader had
 pub faulted_whole : (base : State) (allowances : List Allowance) (asked : Asked) (result : Result ℕ ScriptFault)
     (given : List ℕ) (input rest old new : Option (List ℕ)) → Consumes input rest given → IsAtEnd rest
     → IfErr result (λ fault. AfterJudgeFaultFrom base allowances asked fault (Some given) old new)

@@ -65,7 +65,8 @@ none_listed base allowances asked tap before text is = record {
   text_is = is ∙ sym (append-nil before);
 }
 
--- one record more: its verdict is written behind the others, and the greatest status counts
+-- one record more: its piece is written behind the others, and of its status and the one that counted before the worse
+-- one counts
 listing_more : (base : State) (allowances : List Allowance) (asked : Asked) (tap : Bool) (before : List ℕ)
     (names records : List (List ℕ)) (name seen : List ℕ) (count status next : ℕ) (text more : List ℕ)
     (verdict : ℕ × List ℕ) → count ≡ length names → IsListing base allowances asked tap before names records status text
@@ -114,7 +115,8 @@ mapped_long : {A B : Type 0} (f : A → B) (all : List A) → length (map f all)
 mapped_long f [] = refl
 mapped_long f (one ∷ all) = let rest = mapped_long f all in omega (arith, rest)
 
--- what is written for the records of several readers, and for one more
+-- if a text is what is written for the records of several readers, it is that for one reader more with its piece
+-- behind
 pub list_more : {S : Type 0} (sources : List S) (source : S) (remaining : S → Option (List ℕ)) (name : S → List ℕ)
     (base : State) (allowances : List Allowance) (asked : Asked) (tap own : Bool) (before : List ℕ)
     (count status next : ℕ) (text more : List ℕ) → own ≡ tap → count ≡ length sources
@@ -135,7 +137,7 @@ list_more sources source remaining name base allowances asked tap own before cou
     (λ all. IsListing base allowances asked tap before (names ++ name source ∷ []) all next more) so_far step records
     are)
 
--- the readers that were taken are all of them
+-- if the readers that were taken are all, what is written for their records is what is written for all
 pub list_all : {S : Type 0} (taken all : List S) (remaining : S → Option (List ℕ)) (name : S → List ℕ)
     (base : State) (allowances : List Allowance) (asked : Asked) (tap : Bool) (before : List ℕ) (status : ℕ)
     (text : List ℕ) → map (λ source. source) taken ≡ all

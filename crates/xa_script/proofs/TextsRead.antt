@@ -33,12 +33,12 @@ form_of : (bytes : List ℕ) → Quoted 39 (between_quotes bytes ++ 39 ∷ []) b
 form_of [] = close
 form_of (byte ∷ bytes) = form_more byte (byte == 39) (byte == 92) (between_quotes bytes) bytes refl refl (form_of bytes)
 
--- a text in quotes, behind which no quote stands
+-- a text in quotes, behind which no quote stands, is a literal of its bytes
 pub quoted_at : (bytes rest : List ℕ) → StartsNo (λ byte. byte == 39) rest → LiteralAt (quoted bytes ++ rest) bytes rest
 quoted_at bytes rest last = text_literal 39 refl (record
     { written = between_quotes bytes ++ 39 ∷ []; form = form_of bytes; cut = refl; last = last })
 
--- a text of at most 64 bytes that is written in quotes is read as its bytes
+-- if literals are read as they are spelled, a text of at most 64 bytes that is written in quotes is read as its bytes
 read_quoted : (text : Text) → length text.items ≤ 64
     → ((text bytes rest : List ℕ) → LiteralAt text bytes rest → literal_ahead text ≡ sized (kept bytes) rest)
     → literal_ahead (quoted text.items) ≡ Ok (text, [])
@@ -54,7 +54,7 @@ chosen : (word : List ℕ) (text : Text) (is_plain : Bool) → literal_ahead wor
 chosen word text true is read = read
 chosen word text false is read = is
 
--- what is written for a literal is read as it was
+-- if literals are read as they are spelled, what is written for a literal of at most 64 bytes is read as the same text
 pub word_read : (word : List ℕ) (text : Text) → length text.items ≤ 64
     → ((text bytes rest : List ℕ) → LiteralAt text bytes rest → literal_ahead text ≡ sized (kept bytes) rest)
     → literal_ahead word ≡ Ok (text, []) → literal_ahead (word_text word) ≡ Ok (text, [])

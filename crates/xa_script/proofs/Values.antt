@@ -11,7 +11,7 @@ use Rattle.xa_script.specs.CommandLine.{IsSeedText, HasNoSeed, IsFlagOf, IsLimit
 some_is : {text other : Text} → Some text ≡ Some other → text ≡ other
 some_is e = cc
 
--- a number is read only where it is given
+-- a seed that is read is the number of the text that was given
 pub seed_read : {E : Type 0} (gives : List ℕ → Result ℕ E → Type 0)
     → ((text : Text) (r : Result ℕ E) → gives text r → ParsesUnsigned 64 10 text r)
     → (given : Option Text) (read : Option ℕ) → (given ≡ None → read ≡ None)
@@ -67,7 +67,7 @@ pub flag_of : (given : Option Text) (flag : Bool) → (flag ≡ true → given �
 flag_of given true is absent = is refl
 flag_of given false is absent = absent refl
 
--- how many runs of a race the option `--runs` says, or none without it
+-- a number that is read from `--runs` exactly if it is there is the number of runs that the option asks for
 pub runs_of : (given : Option Text) (read : Option ℕ) → IfSome read (λ count. IsSomeAnd given (IsLimitText count))
     → (read ≡ None → (count : ℕ) → IsSomeAnd given (IsLimitText count) → ⊥) → IsRunsOf given read
 runs_of given None some none = none refl

@@ -1,9 +1,15 @@
 -- The command line of the program.
+--     capacity_rule and the like     an option or argument
+--     race_app and the like          a subcommand with its own options
 --     script_app      the command and its subcommands
 --     IsLocal         a command none of whose options is global
+--     IsCapacityText and the like    a text is a number in its range
+--     IsRaceOf and the like          the job that the values of a subcommand's options give
 --     IsJob           the job of a subcommand
 --     Names           the job that the words of a command line name
 --     ReadsCommand    when a command line is read, and why not
+--     CanBeDone       the numbers of a job are in their ranges
+--     audit_asked, ReadsInput      whether an audit is an object of JSON, of a job to audit;  the job isn't to audit
 use Rattle.std.specs.Prelude.{◌≡◌, ◌≢◌, ◌<◌, ◌≤◌, ◌^◌, ◌⊎◌, ℕ, Bool, true, false, Option, Some, None, Result}
 use Rattle.std.specs.Prelude.{MatchResult, IfSome, List, [], ◌∷◌, codes}
 use Rattle.std.specs.Option.{IsSomeAnd}
@@ -54,12 +60,13 @@ text_rule = flag_rule (codes "text")
 abbrev pub json_rule : Rule
 json_rule = flag_rule (codes "json")
 
--- `[--file FILE] [--verbose] [--strict] [--text]`, behind a subcommand's own options
+-- the options of every job that reads one input, `[--file FILE] [--verbose] [--strict] [--text]`, behind a
+-- subcommand's own
 abbrev pub common_app : App → App
 common_app app =
     with_rule (with_rule (with_rule (with_rule app file_rule) verbose_rule) (flag_rule (codes "strict"))) text_rule
 
--- a subcommand that has only the options common to all that read a script
+-- a subcommand that has only the options of every job that reads one input
 abbrev pub plain_app : Text → App
 plain_app name = common_app (new_app name)
 
@@ -149,11 +156,11 @@ audit_app =
     (flag_rule (codes "json"))) (flag_rule (codes "quiet")))
     verbose_rule) text_rule
 
--- no option of the command is one of its subcommands too
+-- no option of the command is global, that is, an option of its subcommands too
 abbrev pub IsLocal : Command → Type 0
 IsLocal command = (out-Command command).has_globals ≡ false
 
--- a subcommand is required, or `--version`
+-- the command without its subcommands: one is required, unless `--version` is given
 abbrev pub bare_app : App
 bare_app = on_top (λ shape. record shape { subcommand_required = true; has_version = true })
     (new_app (codes "xa_script"))
@@ -201,7 +208,8 @@ IsSeedText seed text =
 abbrev pub HasNoSeed : Option Text → Type 0
 HasNoSeed shuffle = (seed : ℕ) → IsSomeAnd shuffle (IsSeedText seed) → ⊥
 
--- how the sessions come to their lines, by the values of `--together` and `--shuffle`; a seed goes first
+-- how the sessions come to their lines, by the values of `--together` and `--shuffle`; a seed counts before
+-- `--together`
 abbrev pub IsScheduleOf : (together shuffle : Option Text) → Schedule → Type 0
 IsScheduleOf together shuffle Freely = HasNoSeed shuffle × (together ≢ Some (codes "true"))
 IsScheduleOf together shuffle Together = HasNoSeed shuffle × (together ≡ Some (codes "true"))
@@ -212,46 +220,47 @@ abbrev pub IsFlagOf : (flag : Option Text) → Bool → Type 0
 IsFlagOf flag true = flag ≡ Some (codes "true")
 IsFlagOf flag false = flag ≢ Some (codes "true")
 
--- how many runs are wanted, by the value of `--runs`; without a number from 1 to 1,000,000 no runs are
+-- how many runs are wanted, by the value of `--runs`: None without a number from 1 to 1,000,000
 abbrev pub IsRunsOf : (runs : Option Text) → Option ℕ → Type 0
 IsRunsOf runs None = (count : ℕ) → IsSomeAnd runs (IsLimitText count) → ⊥
 IsRunsOf runs (Some count) = IsSomeAnd runs (IsLimitText count)
 
--- the job is a race of the capacity that a value's text is, in the schedule that two others give, over a store without
--- an end where a fourth says so, and as often as a fifth says
+-- the job is a race: its capacity is the value of `--capacity`, its schedule is as `--together` and `--shuffle` give
+-- it, it is over a store without an end if `--renew` is given, and it is held as often as `--runs` says
 abbrev pub IsRaceOf : (capacity together shuffle renew runs : Option Text) → Job → Type 0
 IsRaceOf capacity together shuffle renew runs (Race room schedule renews count) =
     IsSomeAnd capacity (IsCapacityText room) × IsScheduleOf together shuffle schedule × IsFlagOf renew renews
     × IsRunsOf runs count
 IsRaceOf capacity together shuffle renew runs job = ⊥
 
--- the job is of calls over as many stores, with as much room in each, as two values' texts are, and with histories that
--- end there where a third says so
+-- the job is to carry out calls: the number of stores is the value of `--stores`, and the room in each that of
+-- `--capacity`, to which histories are limited if `--fixed` is given
 abbrev pub IsCoordinateOf : (stores capacity fixed : Option Text) → Job → Type 0
 IsCoordinateOf stores capacity fixed (Coordinate count room ends) =
     IsSomeAnd stores (IsStoresText count) × IsSomeAnd capacity (IsCapacityText room) × IsFlagOf fixed ends
 IsCoordinateOf stores capacity fixed job = ⊥
 
--- the job is to stop a coordinator of as many stores, with as much room in each, as two values' texts are
+-- the job is to stop a coordinator: the number of its stores is the value of `--stores`, and the room in each that of
+-- `--capacity`
 abbrev pub IsStopsOf : (stores capacity : Option Text) → Job → Type 0
 IsStopsOf stores capacity (Stops count room) =
     IsSomeAnd stores (IsStoresText count) × IsSomeAnd capacity (IsCapacityText room)
 IsStopsOf stores capacity job = ⊥
 
--- the job is to judge, with the limit that a value's text is, with reasons where a second says so, as an object of JSON
--- where a third does, with calls tested where a fourth does, and with a smaller record where a fifth does
+-- the job is to judge, with the value of `--limit` as its limit, with reasons if `--explain` is given, as an object of
+-- JSON if `--json` is, with calls tested if `--strict-calls` is, and with a smaller record if `--shrink` is
 abbrev pub IsJudgeOf : (limit explain json strict shrink : Option Text) → Job → Type 0
 IsJudgeOf limit explain json strict shrink (Judge kept explains writes tests shrinks) =
     IsSomeAnd limit (IsLimitText kept) × IsFlagOf explain explains × IsFlagOf json writes
     × IsFlagOf strict tests × IsFlagOf shrink shrinks
 IsJudgeOf limit explain json strict shrink job = ⊥
 
--- the job is to explore, with the limit that a value's text is
+-- the job is to explore, with the value of `--limit` as its limit
 abbrev pub IsExploreOf : (limit : Option Text) → Job → Type 0
 IsExploreOf limit (Explore kept) = IsSomeAnd limit (IsLimitText kept)
 IsExploreOf limit job = ⊥
 
--- the job is to audit, as an object of JSON where a value says so
+-- the job is to audit, as an object of JSON if `--json` is given
 abbrev pub IsAuditOf : (json : Option Text) → Job → Type 0
 IsAuditOf json (Audit writes) = IsFlagOf json writes
 IsAuditOf json job = ⊥

@@ -30,8 +30,8 @@ abbrev pub goes_on : (returned : Bool) → List ℕ → Bool
 goes_on returned [] = false
 goes_on returned (byte ∷ bytes) = returned && begins_line byte || goes_on (byte == 13) bytes
 
--- in UTF-16, behind a byte order mark, with carriage returns and no line feed, or with what begins a line behind a
--- carriage return
+-- the first of these forms that the text has: in UTF-16, behind a byte order mark, with carriage returns and no line
+-- feed, or with what begins a line directly behind a carriage return
 abbrev pub foreign_of : List ℕ → Option Foreign
 foreign_of text =
     if begins_as_utf16 text then Some Utf16

@@ -1,13 +1,17 @@
 -- What each job writes, and how it ends. `old` is what the writer had got before, where that is known.
+--     End            a status or a fault
 --     WritesAs       what is written with `--json`, and without
+--     AfterCame, AfterExploring, AfterStopping     what a fault of these jobs leaves in the writer
 --     HasRun, HasRaced, HasCame, HasJudged, HasExplored, HasStopped, HasAudited,
 --     HasListed
 --                    how each of these jobs ends, and what it leaves in the writer
---     IsFlushed      the same behind a flush
+--     HasRacedAll    how a race ends, held once or as often as is asked
+--     HasConversed   how a job ends that answers line by line
+--     IsFlushed      how a job ends, and what it leaves, behind a flush
 --     HasDone        the same of any job that reads one input
 --     IsLookedAt     the same where the lines that it reads are looked at
--- Nothing here knows of `--verbose` and `--quiet`, and only the last definition of `--strict`: they change no byte of
--- the output.
+-- Nothing here knows of `--verbose`, or of `--quiet` of `judge`: they change no byte of the output, as `--strict`
+-- doesn't, which changes a status alone (`HasListed`, `IsLookedAt`). `--quiet` of `audit` is in the audit's form.
 use Rattle.std.specs.Prelude.{◌≡◌, ◌⊎◌, ℕ, Bool, true, false, Option, Some, None, Result, Err, List, IfOk, IfSome, OnOk}
 use Rattle.std.specs.Prelude.{MatchResult, []}
 use Rattle.std.specs.Io.KnownBytes.{Keeps, Appends}
@@ -43,25 +47,26 @@ abbrev pub WritesAs : (json : Bool) → (Option (List ℕ) → Option (List ℕ)
 WritesAs true Writes old new = AppendsObjects Writes old new
 WritesAs false Writes old new = Writes old new
 
--- the script was run: its transcript was written
+-- the script was run: the status is 0, and its transcript was written; or a fault left what `AfterFault` says
 abbrev pub HasRun : (input old new : Option (List ℕ)) → End → Type 0
 HasRun input old new done =
     MatchResult done (λ status. (status ≡ 0) × IfSome input (λ script. Appends old new (transcript script)))
     (λ fault. AfterFault fault input old new)
 
--- the script was raced once
+-- the script was raced once, as `uncommented` leaves it: the status is 0, and what the race writes was written. Of a
+-- fault nothing is said
 abbrev pub HasRaced : (json renews : Bool) → (capacity : ℕ) → (input old new : Option (List ℕ)) → End → Type 0
 HasRaced json renews capacity input old new done =
     IfOk done (λ status. (status ≡ 0) × IfSome input (λ script. WritesAs json (AppendsRaceBy renews capacity
     (uncommented script)) old new))
 
--- what a fault of racing again and again leaves
+-- what a fault of racing `runs` times leaves in the writer
 abbrev pub AfterCame : (json renews : Bool) → (runs : ℕ) → ScriptFault → (input old new : Option (List ℕ)) → Type 0
 AfterCame true renews runs fault input old new =
     AfterObjects (λ before after. (status : ℕ) × AppendsCame runs status input before after) fault old new
 AfterCame false renews runs fault input old new = AfterRunsFault renews runs fault input old new
 
--- the script was raced again and again
+-- the script was raced `runs` times: how that ended, and what was written of the outcomes that came
 abbrev pub HasCame : (json renews : Bool) → (runs : ℕ) → (input old new : Option (List ℕ)) → End → Type 0
 HasCame json renews runs input old new done =
     MatchResult done (λ status. WritesAs json (AppendsCame runs status input) old new)
@@ -79,7 +84,7 @@ HasJudged base allowances asked input old new done =
     MatchResult done (λ status. AppendsVerdict base allowances asked status input old new)
     (λ fault. AfterJudgeFaultFrom base allowances asked fault input old new)
 
--- what a fault of exploring leaves
+-- what a fault of exploring leaves in the writer, with `--json` and without
 abbrev pub AfterExploring : (json : Bool) → (limit : ℕ) → ScriptFault → (input old new : Option (List ℕ)) → Type 0
 AfterExploring true limit fault input old new =
     AfterObjects (λ before after. (status : ℕ) × AppendsOutcomes limit status input before after) fault old new
@@ -97,7 +102,7 @@ AfterStopping true stores fault input old new =
     AfterObjects (λ before after. (status : ℕ) × AppendsStopped stores status input before after) fault old new
 AfterStopping false stores fault input old new = AfterStopsFault stores fault input old new
 
--- the coordinator of the script was stopped at each place
+-- the job `stops`: how it ended, and what it wrote
 abbrev pub HasStopped : (json : Bool) → (stores : ℕ) → (input old new : Option (List ℕ)) → End → Type 0
 HasStopped json stores input old new done =
     MatchResult done (λ status. WritesAs json (AppendsStopped stores status input) old new)
@@ -131,8 +136,8 @@ pub record IsFlushed {W A : Type 0} (contents : W → Option (List ℕ)) (Left :
   pub ends : (result ≡ done) ⊎ (result ≡ Err Write)
   pub emptied : OnOk result (writer_buffer new ≡ [])
 
--- the job was done as it says; `base` and the allowances are those with which a record is judged. An audit reads no
--- such input
+-- the job was done as its own definition says; `base` and the allowances are those with which a record is judged. An
+-- audit isn't done so, since it reads several inputs
 abbrev pub HasDone : {W A : Type 0} → (W → Option (List ℕ)) → Job → (json : Bool) → (base : State)
     → (allowances : List Allowance) → (input old : Option (List ℕ)) → (new : BufWriter W A) → End → Type 0
 HasDone contents Run json base allowances input old new done = IsFlushed contents (HasRun input old) new done
@@ -149,7 +154,8 @@ HasDone contents (Stops stores capacity) json base allowances input old new done
     IsFlushed contents (HasStopped json stores input old) new done
 HasDone contents (Audit object) json base allowances input old new done = ⊥
 
--- a job ended so, and then its lines were asked for: whether one of them was faulty, if memory wasn't refused for that
+-- a job ended as `Done` says, and then its result was made by whether one of its lines was faulty (`end_of`): None if
+-- memory was refused for looking at them
 pub record IsLookedAt {W A : Type 0} (strict : Bool) (Done : BufWriter W A → End → Type 0) (new : BufWriter W A)
     (result : End) : Type 0 where
   pub done : End

@@ -2,7 +2,7 @@
 --     kind_of_lines    how a job reads its lines
 --     most_bytes       how many bytes a line may have
 --     form_of_job      the form of the lines that a job writes
---     form_of_lines    the same, and objects where they are asked for
+--     form_of_lines    objects where they are asked for, else the form of the job's lines
 --     form_of_texts    the form of the lines whose literals are written as texts, if some are
 --     tells_length     whether the standard error says what is too long
 use Rattle.std.specs.Prelude.{ℕ, ◌-◌, ◌^◌, Bool, true, false, Option, Some, None}
@@ -17,7 +17,7 @@ use Rattle.xa_script.specs.declared.line_kind.LineKind.{LineKind}
 use Rattle.xa_script.specs.declared.line_kind.LineKind.TheVariants.{Statement, Raced, Explored, Call, Stopped, Record}
 use Rattle.xa_script.specs.declared.line_kind.LineKind.TheVariants.{Shown as ShownKind}
 
--- a race that is held again and again takes the words that divide a script
+-- a race that is held `runs` times takes the words that divide a script
 abbrev pub kind_of_race : (runs : Option ℕ) → LineKind
 kind_of_race None = Raced
 kind_of_race (Some runs) = Explored
@@ -34,7 +34,7 @@ kind_of_lines (Explore limit) = Explored
 kind_of_lines (Stops stores capacity) = Stopped
 kind_of_lines (Audit json) = ShownKind
 
--- no line is too long
+-- a number of bytes that no line exceeds
 abbrev pub any_length : ℕ
 any_length = 2 ^ 64 - 1
 

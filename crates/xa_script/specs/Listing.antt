@@ -1,9 +1,11 @@
 -- How the verdicts on several records are written, and which status counts. Every rule here is the project's own, but
 -- the form of TAP: the Test Anything Protocol, version 13.
 --     worse, worst_from    which of two statuses counts;  of many
+--     listed_line          a record as a line
+--     tap_point, tap_piece      a record as a test of TAP, without notes and with them
 --     piece, pieces        what is written for one of several records;  for many
 --     heading              what is written before the first
---     is_list              whether verdicts are listed so
+--     is_list              whether verdicts are listed, a piece for each
 --     only_of              the name of a single record
 use Rattle.std.specs.Prelude.{◌==◌, ◌+◌, ◌++◌, ◌∷◌, [], ◌||◌, if◌then◌else◌, nat_lt, ℕ, Bool, true, false, List}
 use Rattle.std.specs.Prelude.{Option, Some, None}
@@ -42,11 +44,11 @@ abbrev pub notes_of : List (List ℕ) → List ℕ
 notes_of [] = []
 notes_of (line ∷ lines) = note line ++ notes_of lines
 
--- what a verdict says, as comments: below LEGAL its first line alone
+-- what a verdict says, as comments: of LEGAL (status 0) its first line alone
 abbrev pub notes_on : (status : ℕ) → (text : List ℕ) → List ℕ
 notes_on status text = if status == 0 then note (first_line text) else notes_of (lines_of text)
 
--- a name in a line of TAP: `#` and `\` have a backslash before them, and what isn't printed is a blank
+-- a name in a line of TAP: `#` and `\` have a backslash before them, and a byte below 32 is a blank
 abbrev pub tap_name : List ℕ → List ℕ
 tap_name [] = []
 tap_name (byte ∷ bytes) =
@@ -65,12 +67,13 @@ tap_point number status name = tap_sign status ++ (decimal number ++ (codes " - 
 abbrev pub tap_piece : (number : ℕ) → (name : List ℕ) → (status : ℕ) → (text : List ℕ) → List ℕ
 tap_piece number name status text = tap_point number status name ++ notes_on status text
 
--- what is written for the record of this number and name, whose verdict is a status and a text
+-- what is written for the record of this number and name, whose verdict is a status and a text: a test of TAP, or a
+-- line
 abbrev pub piece : (tap : Bool) → (number : ℕ) → (name : List ℕ) → ℕ × List ℕ → List ℕ
 piece true number name verdict = tap_piece number name verdict.0 verdict.1
 piece false number name verdict = listed_line name verdict.1
 
--- what is written for several records as tests of TAP, the first of which has this number
+-- what is written for several records, the first of which has this number, as far as both lists go
 abbrev pub pieces : (tap : Bool) → (number : ℕ) → (names : List (List ℕ)) → List (ℕ × List ℕ) → List ℕ
 pieces tap number [] verdicts = []
 pieces tap number (name ∷ names) [] = []
@@ -82,7 +85,7 @@ abbrev pub heading : (tap : Bool) → (count : ℕ) → List ℕ
 heading true count = codes "TAP version 13" ++ (10 ∷ codes "1.." ++ (decimal count ++ 10 ∷ []))
 heading false count = []
 
--- verdicts are listed where there are several records, or that is asked for
+-- verdicts are listed where there are several records, or TAP is asked for
 abbrev pub is_list : (tap : Bool) → (count : ℕ) → Bool
 is_list tap count = tap || nat_lt 1 count
 

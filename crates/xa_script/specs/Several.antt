@@ -1,5 +1,6 @@
 -- What is written for several records that are judged in one call, and how that ends.
 --     IsVerdictOn          a verdict is right for a record
+--     AreVerdicts          verdicts are right for records, one for each
 --     ListsOne             one record more was judged and listed
 --     IsListing            a text is what is written for records, and a status is the one that counts
 --     AppendsListing       the writer got such a text
@@ -53,7 +54,7 @@ pub record IsListing (base : State) (allowances : List Allowance) (asked : Asked
   pub counts : status ≡ worst_from 0 (map (λ verdict. verdict.0) verdicts)
   pub text_is : text ≡ before ++ pieces tap 1 names verdicts
 
--- the writer got what is written for the records, and the status is for that
+-- the writer got what is written for the records, and the status is the one that counts
 abbrev pub AppendsListing : State → List Allowance → Asked → (tap : Bool) → (names records : List (List ℕ))
     → (status : ℕ) → Option (List ℕ) → Option (List ℕ) → Type 0
 AppendsListing base allowances asked tap names records status old new =
@@ -67,7 +68,7 @@ ListsAll base allowances asked strict tap names records status old new =
     (faulty : Bool) × (worst : ℕ) × (status ≡ strict_status strict faulty worst)
     × AppendsListing base allowances asked tap names records worst old new
 
--- a prefix of that if a write failed, else nothing
+-- what a fault leaves in the writer: a prefix of what is written for the records if a write failed, else nothing
 abbrev pub AfterListing : State → List Allowance → Asked → (tap : Bool) → (names records : List (List ℕ)) → ScriptFault
     → Option (List ℕ) → Option (List ℕ) → Type 0
 AfterListing base allowances asked tap names records Write old new =

@@ -64,7 +64,7 @@ abbrev pub status_of_job : Result ℕ ScriptFault → ℕ
 status_of_job (Ok status) = status
 status_of_job (Err fault) = status_after fault
 
--- 8 in place of 0 where a line was faulty, if that is asked for (own rule)
+-- 8 in place of 0 where a line was faulty, if `--strict` asks for that; any other status stays (own rule)
 abbrev pub strict_status : (strict faulty : Bool) → (status : ℕ) → ℕ
 strict_status strict faulty status = if strict && faulty && status == 0 then 8 else status
 
@@ -151,7 +151,8 @@ abbrev pub AppendsAuditBy : List (List ℕ) → AuditForm → (status : ℕ) →
 AppendsAuditBy histories form status old new =
     (ended : AuditEnded) × (status ≡ status_of_audit ended) × AppendsAudit histories form ended old new
 
--- a prefix of that where a write failed, and nothing after another fault
+-- what a fault of an audit leaves in the writer: a prefix of what is written where a write failed, else nothing. An
+-- audit has no log, no gate and no threads
 abbrev pub AfterAuditing : List (List ℕ) → AuditForm → ScriptFault → Option (List ℕ) → Option (List ℕ) → Type 0
 AfterAuditing histories form Read old new = Keeps old new
 AfterAuditing histories form TooLong old new = Keeps old new
@@ -161,7 +162,7 @@ AfterAuditing histories form Full old new = ⊥
 AfterAuditing histories form GateShut old new = ⊥
 AfterAuditing histories form ThreadRefused old new = ⊥
 
--- an object of JSON where that is asked, else the last line alone where that is
+-- the form of an audit: an object of JSON with `--json`, else the last line alone with `--quiet`, else all lines
 abbrev pub audit_form : (json quiet : Bool) → AuditForm
 audit_form true quiet = AuditJson
 audit_form false true = LastLine

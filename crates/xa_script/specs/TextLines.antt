@@ -43,7 +43,7 @@ behind_first text = drop 1 (after_word text)
 abbrev pub first_number : List ℕ → Option ℕ
 first_number text = number_of_word (first_word text)
 
--- what comes after the first word if that is a number
+-- what comes after the first word if that is a number, else the text
 abbrev pub past_number : List ℕ → List ℕ
 past_number text = if is_some (first_number text) then behind_first text else text
 
@@ -51,15 +51,16 @@ past_number text = if is_some (first_number text) then behind_first text else te
 abbrev pub could_be : List ℕ → Bool
 could_be line = starts_with nat_eq line (codes "COULD BE ")
 
--- what was seen: a line of a record, in canonical form
+-- whether the line is one that says what was seen: a line of a record, in canonical form
 abbrev pub was_seen : List ℕ → Bool
 was_seen line = starts_with nat_eq line (codes "SEEN ")
 
--- its reply, behind the session and the sign
+-- the reply in a line that says what was seen, behind the session and the sign
 abbrev pub seen_reply : List ℕ → List ℕ
 seen_reply line = behind_first (past_number (drop 5 line))
 
--- the text of the call of what was seen, behind the line's number, the session and the sign
+-- the text of the call of what was seen, in its line `CALL line ..`: behind the line's number, the session and the
+-- sign
 abbrev pub called_text : List ℕ → List ℕ
 called_text line = behind_first (past_number (past_number (drop 10 line)))
 
@@ -69,7 +70,8 @@ abbrev pub rows_in_verdict : List ℕ → ℕ
 rows_in_verdict line =
     if could_be line then rows_of (drop 9 line) else (if was_seen line then rows_of (seen_reply line) else 0)
 
--- how many rows a line says that the next lines are: an answer's reply comes after its session and its place
+-- how many rows a line says that the next lines are. An answer's reply comes after its session and its place; objects
+-- and the lines of TAP have no rows
 abbrev pub rows_after : LineForm → (line : List ℕ) → ℕ
 rows_after Answers line = rows_of (past_number (past_number line))
 rows_after Shown line = rows_of (past_number (past_number line))
@@ -77,7 +79,7 @@ rows_after Verdict line = rows_in_verdict line
 rows_after Object line = 0
 rows_after Noted line = 0
 
--- whether the bytes of a row have room for a gtrid and bqual of these lengths, if both could be read
+-- whether the bytes of a row have room for a gtrid and bqual of these lengths; true if one of these can't be read
 abbrev pub holds_texts : Option ℕ → Option ℕ → (bytes : List ℕ) → Bool
 holds_texts (Some gtrid) (Some bqual) bytes = nat_le (gtrid + bqual) (length bytes)
 holds_texts gtrid bqual bytes = true
@@ -102,20 +104,22 @@ is_given Blank = false
 is_given Bad = false
 is_given (Given session text) = has_form (read_of text)
 
--- the call of what was seen is of a statement that has a canonical form
+-- whether the line has the call of what was seen, of a statement that has a canonical form
 abbrev pub is_called : List ℕ → Bool
 is_called line = starts_with nat_eq line (codes "CALL line ") && has_form (read_of (called_text line))
 
--- an answer, what was seen, or a line of the store
+-- whether the line has an answer that could have been, what was seen, or a branch or row of the store
 abbrev pub is_of_job : List ℕ → Bool
 is_of_job line = could_be line || (was_seen line || starts_with nat_eq line (codes "  "))
 
--- a line of a verdict is a client's own unless it is an answer, what was seen, of the store, or a statement that has a
--- canonical form
+-- a line of a verdict is a client's own if the job writes no part of it in literals, so `--text` leaves it as it is.
+-- Not own are an answer that could have been (COULD BE), what was seen (SEEN), a branch or row of the store, and a
+-- call or a session's statement that has a canonical form
 abbrev pub is_own : (line : List ℕ) → Bool
 is_own line = not (is_of_job line) && (not (is_called line) && not (is_given (line_of line)))
 
--- a test point, or a line of a verdict in a comment that is a client's own
+-- with TAP: whether the line is no comment, as a test point, or its comment is a line of a verdict that is a client's
+-- own
 abbrev pub is_point_or_own : (line : List ℕ) → Bool
 is_point_or_own line = if starts_with nat_eq line (codes "# ") then is_own (drop 2 line) else true
 

@@ -3,7 +3,7 @@
 --     word_text       what is written for a word
 --     with_texts      what is written for a line
 --     IsTooLong       there is no room for so many bytes
---     IsWithTexts     a line is written so wherever there is room
+--     IsWithTexts     a text is what is written for a line, or the line itself if there is no room
 use Rattle.std.specs.Prelude.{◌≡◌, ◌<◌, ◌⊎◌, ℕ, Bool, true, ◌==◌, ◌||◌, ◌&&◌, nat_le, if◌then◌else◌, List, [], ◌∷◌}
 use Rattle.std.specs.Prelude.{◌++◌, length, Ok, Err}
 use Rattle.xa_xid.specs.Literal.{Reading, literal_ahead}
@@ -46,17 +46,17 @@ word_text word = said_or word (literal_ahead word)
 abbrev pub is_between : ℕ → Bool
 is_between byte = byte == 32 || byte == 44 || byte == 10
 
--- the text from here on, where these bytes of a word have come
+-- what is written for the word that begins with the bytes `word`, and for the text after these
 abbrev pub texts_from : (word text : List ℕ) → List ℕ
 texts_from word [] = word_text word
 texts_from word (byte ∷ text) =
     if is_between byte then word_text word ++ byte ∷ texts_from [] text else texts_from (word ++ byte ∷ []) text
 
--- each word as it is written
+-- the line, with `word_text` in place of each word
 abbrev pub with_texts : List ℕ → List ℕ
 with_texts line = texts_from [] line
 
--- there is room for 512 bytes of a line
+-- the line has more bytes than there is room for, which is 512
 abbrev pub IsTooLong : List ℕ → Type 0
 IsTooLong line = 512 < length line
 

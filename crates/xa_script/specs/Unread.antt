@@ -45,7 +45,7 @@ abbrev pub is_no_call : Call → Bool
 is_no_call (Unread place) = true
 is_no_call call = false
 
--- what comes after the session of a line
+-- what comes after the session of a line, or nothing if it names none
 abbrev pub given_by : Line → List ℕ
 given_by Blank = []
 given_by Bad = []
@@ -63,7 +63,7 @@ is_no_call_of_record text = has_sign (codes ">") text && goes_wrong (read_of (be
 abbrev pub is_no_record : List ℕ → Bool
 is_no_record line = is_bad (reading_of_line line) || is_no_call_of_record (given_by (line_of line))
 
--- a line isn't one for a job that reads lines of this kind
+-- whether a line isn't one for a job that reads lines of this kind
 abbrev pub is_unread_by : LineKind → List ℕ → Bool
 is_unread_by Stated line = is_faulty (line_of line)
 is_unread_by Raced line = is_faulty (line_of line)
@@ -88,7 +88,8 @@ kind_after Called line = Called
 kind_after Stopped line = Stopped
 kind_after Recorded line = Recorded
 
--- a line isn't read: it is longer than it may be, or it isn't one for the job, or not a row while rows have to come
+-- whether a line isn't read: it is longer than it may be, isn't a row while rows have to come, or isn't one for the
+-- job
 abbrev pub is_unread : LineKind → (most rows : ℕ) → List ℕ → Bool
 is_unread kind most rows line =
     if nat_lt most (length line) then true else (if nat_lt 0 rows then is_no_row line else is_unread_by kind line)

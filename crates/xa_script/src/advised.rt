@@ -14,7 +14,7 @@ pub struct Advised<'r, S: LineServer + Drop, R> {
     inner: S,
     /// The runtime whose standard error is written to.
     rt: &'r R,
-    /// The number of the last line, from 1.
+    /// The number of the last line, from 1; 0 before the first.
     number: u64,
     /// How far each transaction has come.
     standings: Standings,
@@ -53,10 +53,13 @@ impl<'r, S: LineServer + Drop, R: Eprint + Alloc<A = Global>> Advised<'r, S, R> 
     fn count(&mut self)
         ensures { self.new.inner ≡ self.old.inner }
     {
+        // So many lines never come. The sum saturates only because it mustn't overflow.
         self.number = self.number.saturating_add(1);
     }
 
-    /// Looks at a line and its answer.
+    /// If the call of a line was out of turn, as its answer says, and its transaction was begun, writes on the standard
+    /// error how far that has come and what the call needs. Then notes how far transactions have come by this answer.
+    /// Does nothing after memory was refused once.
     fn look(&mut self, line: &[u8], answer: &[u8])
         ensures { self.new.inner ≡ self.old.inner }
     {
@@ -90,6 +93,7 @@ impl<'r, S: LineServer + Drop, R: Eprint + Alloc<A = Global>> LineServer for Adv
     }
 
     fn answer_long(&mut self) -> Answer {
+        // A line that is too long is no call. It is only counted, for the numbers of the lines after it.
         self.count();
         self.inner.answer_long()
     }

@@ -64,6 +64,7 @@ pub fn allowed<R: Files + Eprint + Alloc<A = Global>>(
         Some(name) => {
             let mut file = opened(rt, name)?;
             let allowed = allowances_in(rt, &mut file);
+            // `read_all` takes at most so many bytes.
             tell_file_too_long(rt, "--allow", "1,048,576", &allowed);
             allowed
         }

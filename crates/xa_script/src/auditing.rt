@@ -46,7 +46,8 @@ pub fn form_asked(json: bool, quiet: bool) -> Form
     }
 }
 
-/// Takes the history of the next store. If that fails, the standard error names the file.
+/// Adds the history of the next store to an audit. If it can't be read or is too long, the standard error names the
+/// file.
 fn take_next<I: Read + Drop, R: Eprint + Alloc<A = Global>>(
     rt: &R,
     audit: &mut Audit,
@@ -65,11 +66,12 @@ fn take_next<I: Read + Drop, R: Eprint + Alloc<A = Global>>(
         input.tell_unread();
     }
     taken?;
+    // An audit has no `--strict`, so this only asks whether memory was refused for looking at the lines.
     input.has_faults()?;
     Ok(())
 }
 
-/// Takes the history of each store.
+/// Returns the audit of these histories, store by store, which isn't written yet.
 fn take_each<I: Read + Drop, R: Eprint + Alloc<A = Global>>(
     rt: &R,
     inputs: Vec<Watch<'_, I, R>>,
@@ -87,8 +89,8 @@ fn take_each<I: Read + Drop, R: Eprint + Alloc<A = Global>>(
     Ok(audit)
 }
 
-/// Takes the histories of stores 1, 2, .., writes their audit or the lines that aren't read, and returns the
-/// exit status for it. There are at most 64.
+/// Takes the histories of stores 1, 2, .., writes their audit in this form, or, whatever the form, only the lines that
+/// aren't read, and returns the exit status for it. There are at most 64.
 ///
 /// Errors: as `add_history` and `write_audit`. After `Write` a prefix of the text was written, after any other
 /// error nothing.

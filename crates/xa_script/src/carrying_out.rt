@@ -60,8 +60,12 @@ fn judging_in(job: Job) -> Option<Asked>
     }
 }
 
-/// Does a job, and returns the exit status. Only `audit` reads the histories, and only `judge` the records.
-pub fn carry_out<R: Files + Clock + Input + Print + Eprint + Alloc<A = Global> + Threads + Wait + Sync>(
+/// Does a job, and returns the exit status: `COMMAND_FAULT` if the file of `--allow` or of `--from` has a faulty line,
+/// which the standard error names; `audit` reads neither. Only `audit` reads the histories, and only `judge` the
+/// records.
+pub fn carry_out<
+    R: Files + Clock + Input + Print + Eprint + Alloc<A = Global> + Threads + Wait + Sync,
+>(
     rt: &R,
     job: Job,
     manner: &Manner<'_>,
@@ -102,10 +106,12 @@ fn carry_out_from<
     if let Some(asked) = judging_in(job)
         && records.are_listed()
     {
+        // A list reports that the limit was passed behind the name of each such record.
         let done = carry_out_records(rt, asked, manner, records, allowances, base);
         tell_too_long(rt, job, manner.verbose, &done);
         return done;
     }
+    // A single record that is named is read as the file of `--file` would be.
     let done = match records.only_name().or(manner.file) {
         None => carry_out_on(rt, rt.reader(), job, manner, allowances, base),
         Some(name) => {
@@ -118,7 +124,8 @@ fn carry_out_from<
     done
 }
 
-/// Opens each history, the first store's first, or each record. Their lines are looked at if `speaks` or `counts`.
+/// Opens each history, the first store's first, or each record. Their lines are of this kind, and are looked at as
+/// `Watch::new` says of `speaks` and `counts`.
 ///
 /// Errors: `Read` if one can't be opened; the standard error then names it. `NoMemory`.
 fn opened_each<'r, R: Files + Eprint + Alloc<A = Global>>(
@@ -138,7 +145,8 @@ fn opened_each<'r, R: Files + Eprint + Alloc<A = Global>>(
     Ok(inputs)
 }
 
-/// Judges records that readers hold, and returns the exit status that counts.
+/// Judges records that readers hold, and writes what each came to: in the Test Anything Protocol if `tap`, else on a
+/// line for each. Returns the exit status that counts: the least of theirs that isn't 0.
 fn carry_out_each<I: Read + Drop, R: Clock + Print + Eprint + Alloc<A = Global>>(
     rt: &R,
     inputs: Vec<Watch<'_, I, R>>,
@@ -151,6 +159,8 @@ fn carry_out_each<I: Read + Drop, R: Clock + Print + Eprint + Alloc<A = Global>>
     requires limit { IsLimit asked.limit }
     requires count { length inputs.items ≤ 1000 }
 {
+    // Without TAP a record has one line: its name, and the first line of its verdict, which has no literals, or an
+    // object, which stays as it is.
     if manner.text && tap {
         let mut output = jobs::text_output(rt, manner.verbose, LineForm::Noted)?;
         return jobs::judge_each(
@@ -177,7 +187,8 @@ fn carry_out_each<I: Read + Drop, R: Clock + Print + Eprint + Alloc<A = Global>>
     )
 }
 
-/// Judges the record that a reader holds, lists what it came to, and returns the exit status.
+/// Judges the record that a reader holds, lists what it came to as `carry_out_each` does, and returns the exit
+/// status.
 fn carry_out_one<I: Read + Drop, R: Clock + Print + Eprint + Alloc<A = Global>>(
     rt: &R,
     input: Watch<'_, I, R>,
@@ -194,7 +205,8 @@ fn carry_out_one<I: Read + Drop, R: Clock + Print + Eprint + Alloc<A = Global>>(
     carry_out_each(rt, inputs, asked, manner, tap, allowances, base)
 }
 
-/// Judges the record of `--file`, or else of the standard input, lists what it came to, and returns the exit status.
+/// Judges the record of `--file`, or else of the standard input, lists what it came to as `carry_out_each` does, and
+/// returns the exit status.
 fn carry_out_alone<R: Files + Clock + Input + Print + Eprint + Alloc<A = Global>>(
     rt: &R,
     asked: Asked,
@@ -219,8 +231,8 @@ fn carry_out_alone<R: Files + Clock + Input + Print + Eprint + Alloc<A = Global>
     }
 }
 
-/// Judges the records that are named, or else a single one, writes what each came to, and returns the exit status that
-/// counts.
+/// Judges the records that are named, or else the one of `--file` or the standard input, writes what each came to as
+/// `carry_out_each` does, and returns the exit status that counts.
 fn carry_out_records<R: Files + Clock + Input + Print + Eprint + Alloc<A = Global>>(
     rt: &R,
     asked: Asked,
@@ -269,6 +281,8 @@ fn carry_out_audit<R: Files + Print + Eprint + Alloc<A = Global>>(
     requires { length histories.now.names.items ≤ 64 }
 {
     let names = histories.names.as_slice();
+    // A history has statements and comments, as what `show` reads. An audit has no `--strict`, so it isn't counted
+    // whether lines are faulty.
     let inputs = opened_each(rt, names, LineKind::Shown, manner.verbose, false)?;
     let done = carry_out_readers(rt, inputs, job, form, manner);
     tell_too_long(rt, job, manner.verbose, &done);

@@ -26,7 +26,7 @@ pub enum Job {
         capacity: u64,
         /// How the sessions come to their lines.
         schedule: Schedule,
-        /// Whether the race goes on over a store without an end, whose ring has so many rows.
+        /// Whether the race is over a store without an end, whose ring has `capacity` rows.
         renews: bool,
         /// How often the script is raced to count its outcomes, in `[1, 1_000_000]`, if it is.
         runs: Option<u64>,
@@ -42,7 +42,7 @@ pub enum Job {
     },
     /// Answers each line of the standard input before it reads more.
     Serve,
-    /// Answers likewise, and shows the store after each answer.
+    /// Answers as `Serve` does, and shows the store after each answer.
     Show,
     /// Judges the record of the standard input.
     Judge {
@@ -76,7 +76,7 @@ pub enum Job {
     },
 }
 
-/// The capacity that was found for a race.
+/// The value of `--capacity`; None if it isn't a number from 1 to 1024.
 fn capacity_in(found: &ArgMatches<'_>) -> Option<u64>
     ensures some { IfSome result (λ capacity. IsSomeAnd (one_text (found_of found.now) (codes "capacity"))
         (IsCapacityText capacity)) }
@@ -84,12 +84,13 @@ fn capacity_in(found: &ArgMatches<'_>) -> Option<u64>
         (IsCapacityText capacity) → ⊥ }
 {
     match found.get_one::<u64>("capacity") {
+        // The option's parser takes no other number. That isn't known here.
         Some(capacity) if 1 <= capacity && capacity <= 1024 => Some(capacity),
         _ => None,
     }
 }
 
-/// The seed that was found.
+/// The value of `--shuffle`; None without a seed.
 fn seed_in(found: &ArgMatches<'_>) -> Option<u64>
     ensures some { IfSome result (λ seed. IsSomeAnd (one_text (found_of found.now) (codes "shuffle"))
         (IsSeedText seed)) }
@@ -103,10 +104,11 @@ fn begins_together(found: &ArgMatches<'_>) -> bool
     ensures given { result ≡ true → one_text (found_of found.now) (codes "together") ≡ Some (codes "true") }
     ensures other { result ≡ false → one_text (found_of found.now) (codes "together") ≢ Some (codes "true") }
 {
+    // Without a value the option isn't given.
     found.get_one::<bool>("together").unwrap_or(false)
 }
 
-/// Returns how the sessions come to their lines.
+/// Returns how the sessions come to their lines. A seed counts before `--together`.
 fn schedule_in(found: &ArgMatches<'_>) -> Schedule
     ensures { IsScheduleOf (one_text (found_of found.now) (codes "together"))
         (one_text (found_of found.now) (codes "shuffle")) result }
@@ -123,26 +125,27 @@ fn schedule_in(found: &ArgMatches<'_>) -> Schedule
     }
 }
 
-/// Returns the number of an option that takes one from 1 to 1,000,000, if it was found.
+/// Returns the value of an option that takes a number from 1 to 1,000,000; None without such a number.
 fn limit_in(found: &ArgMatches<'_>, name: &str) -> Option<u64>
     ensures some { IfSome result (λ limit. IsSomeAnd (one_text (found_of found.now) name.now) (IsLimitText limit)) }
     ensures none { result ≡ None → (limit : ℕ) → IsSomeAnd (one_text (found_of found.now) name.now) (IsLimitText limit)
         → ⊥ }
 {
     match found.get_one::<u64>(name) {
+        // The option's parser takes no other number. That isn't known here.
         Some(limit) if 1 <= limit && limit <= 1_000_000 => Some(limit),
         _ => None,
     }
 }
 
-/// The number of runs that was found.
+/// The value of `--runs`; None without a number from 1 to 1,000,000.
 fn runs_in(found: &ArgMatches<'_>) -> Option<u64>
     ensures { IsRunsOf (one_text (found_of found.now) (codes "runs")) result }
 {
     limit_in(found, "runs")
 }
 
-/// The race that was found.
+/// The race that the options of `race` ask for; None if the capacity isn't one.
 fn race_in(found: &ArgMatches<'_>) -> Option<Job>
     ensures some { IfSome result
         (IsRaceOf (one_text (found_of found.now) (codes "capacity")) (one_text (found_of found.now) (codes "together"))
@@ -156,13 +159,14 @@ fn race_in(found: &ArgMatches<'_>) -> Option<Job>
             capacity,
             schedule: schedule_in(found),
             renews: flag_in(found, "renew"),
+            // The option's parser takes no number out of its range, so None means that the option isn't given.
             runs: runs_in(found),
         }),
         None => None,
     }
 }
 
-/// The number of stores that was found.
+/// The value of `--stores`; None if it isn't a number from 1 to 16.
 fn stores_in(found: &ArgMatches<'_>) -> Option<u64>
     ensures some { IfSome result (λ stores. IsSomeAnd (one_text (found_of found.now) (codes "stores"))
         (IsStoresText stores)) }
@@ -170,12 +174,13 @@ fn stores_in(found: &ArgMatches<'_>) -> Option<u64>
         (IsStoresText stores) → ⊥ }
 {
     match found.get_one::<u64>("stores") {
+        // The option's parser takes no other number. That isn't known here.
         Some(stores) if 1 <= stores && stores <= 16 => Some(stores),
         _ => None,
     }
 }
 
-/// The calls over so many stores that were found.
+/// The job that the options of `coordinate` ask for; None if the number of stores or the capacity isn't one.
 fn coordinate_in(found: &ArgMatches<'_>) -> Option<Job>
     ensures some { IfSome result
         (λ job. IsCoordinateOf (one_text (found_of found.now) (codes "stores"))
@@ -198,7 +203,7 @@ fn coordinate_in(found: &ArgMatches<'_>) -> Option<Job>
     }
 }
 
-/// The stops over so many stores that were found.
+/// The job that the options of `stops` ask for; None if the number of stores or the capacity isn't one.
 fn stops_in(found: &ArgMatches<'_>) -> Option<Job>
     ensures some { IfSome result
         (IsStopsOf (one_text (found_of found.now) (codes "stores"))
@@ -215,7 +220,7 @@ fn stops_in(found: &ArgMatches<'_>) -> Option<Job>
     }
 }
 
-/// The job to judge, with its limit and its flags as they were found; none if the limit isn't one.
+/// The job that the options of `judge` ask for; None if the limit isn't one.
 fn judge_in(found: &ArgMatches<'_>) -> Option<Job>
     ensures some { IfSome result
         (IsJudgeOf (one_text (found_of found.now) (codes "limit")) (one_text (found_of found.now) (codes "explain"))
@@ -236,7 +241,7 @@ fn judge_in(found: &ArgMatches<'_>) -> Option<Job>
     }
 }
 
-/// The exploring with the limit that was found.
+/// The job that the options of `explore` ask for; None if the limit isn't one.
 fn explore_in(found: &ArgMatches<'_>) -> Option<Job>
     ensures some { IfSome result (λ job. IsExploreOf (one_text (found_of found.now) (codes "limit")) job) }
     ensures none { result ≡ None → (job : Job) → IsExploreOf (one_text (found_of found.now) (codes "limit")) job → ⊥ }
@@ -247,7 +252,7 @@ fn explore_in(found: &ArgMatches<'_>) -> Option<Job>
     }
 }
 
-/// The auditing that was found.
+/// The job that the options of `audit` ask for.
 fn audit_in(found: &ArgMatches<'_>) -> Job
     ensures { IsAuditOf (one_text (found_of found.now) (codes "json")) result }
 {
@@ -256,7 +261,8 @@ fn audit_in(found: &ArgMatches<'_>) -> Job
     }
 }
 
-/// The job of the subcommand that was found.
+/// The job of the subcommand that was found; None if there is no such job, or if a capacity, a number of stores or a
+/// limit of it isn't in its range.
 fn job_in(matches: &ArgMatches<'_>) -> Option<Job>
     ensures some { IfSome result (λ job. IsSomeAnd (subcommand_rows_of matches.now) (IsJob job)) }
     ensures none { result ≡ None → (job : Job) → IsSomeAnd (subcommand_rows_of matches.now) (IsJob job) → ⊥ }
@@ -287,7 +293,7 @@ fn job_in(matches: &ArgMatches<'_>) -> Option<Job>
     }
 }
 
-/// The job that the words name, by this command.
+/// Returns the job that the words name, as this command reads them. Errors: those of `read_command`.
 fn job_by<'a, S: AsStr>(command: &mut Command<'a>, words: &'a [S]) -> Result<Job, Error>
     requires { app_of command.old ≡ script_app }
     ensures job { IfOk result (Names (map S.text words.entry.now)) }
@@ -297,6 +303,8 @@ fn job_by<'a, S: AsStr>(command: &mut Command<'a>, words: &'a [S]) -> Result<Job
     let matches = command.try_get_matches_from_mut(words)?;
     match job_in(&matches) {
         Some(job) => Ok(job),
+        // The command requires one of its subcommands, and their options' parsers test the ranges. That isn't known
+        // here.
         None => Err(command.error(ErrorKind::InvalidSubcommand, "no such job")?),
     }
 }

@@ -20,7 +20,7 @@ const UNDECIDED: u8 = 5;
 /// The status if faulty lines were listed.
 const FAULTY: u8 = 6;
 
-/// Returns the exit status for how exploring a script ended.
+/// Returns the exit status for how exploring a script ended, or racing it again and again to count its outcomes.
 pub fn status_of_end(ended: Ended) -> u8
     ensures { result ≡ status_of ended }
 {
@@ -33,7 +33,7 @@ pub fn status_of_end(ended: Ended) -> u8
 
 /// Explores a script, writes its outcomes or its faulty lines, and returns the exit status for it.
 ///
-/// `limit` is in `[1, 1_000_000]`.
+/// `limit`, in `[1, 1_000_000]`: how many ways may be kept at once.
 /// Errors: as `explore_script`. After `Write` a prefix of the text was written, after any other error
 /// nothing.
 /// May return `NoMemory`. Doesn't wait, unless the reader or the writer does.
@@ -51,6 +51,7 @@ pub fn explore_within<R: Read, W: Write>(
     ensures fault { IfErr result (λ fault. AfterExploreFault limit fault (R.remaining reader.old)
         (W.contents writer.old) (W.contents writer.new)) }
 {
+    // A limit of at most 1,000,000 stays the same.
     let ended = explore_script(alloc, reader, writer, limit as usize)?;
     Ok(status_of_end(ended))
 }
@@ -58,7 +59,7 @@ pub fn explore_within<R: Read, W: Write>(
 /// Explores a script, writes each line of its outcomes, or of its faulty lines, as an object, and returns the exit
 /// status for it.
 ///
-/// `limit` is in `[1, 1_000_000]`.
+/// `limit`, in `[1, 1_000_000]`: how many ways may be kept at once.
 /// Errors: as `explore_script`. After `Write` a prefix of the objects was written, after any other error nothing.
 /// May return `NoMemory`. Doesn't wait, unless the reader or the writer does.
 /// Own rule: docs/COMMANDS.md#output-as-json.
@@ -81,15 +82,16 @@ pub fn explore_objects<R: Read, W: Write>(
         (R.remaining reader.old) before after) fault
         (W.contents writer.old) (W.contents writer.new)) }
 {
+    // All lines are made in memory first, so nothing is written if that fails.
     let mut text = Vec::new(alloc);
     let status = in_memory(explore_within(alloc, reader, &mut text, limit))?;
     write_objects(alloc, writer, text.as_slice())?;
     Ok(status)
 }
 
-/// Explores a script, and writes lines, or if `json` their objects.
+/// Explores a script, writes lines, or if `json` their objects, and returns the exit status.
 ///
-/// `limit` is in `[1, 1_000_000]`.
+/// `limit`, in `[1, 1_000_000]`: how many ways may be kept at once.
 /// Errors: as `explore_within`. May return `NoMemory`. Doesn't wait, unless the reader or the writer does.
 pub fn explore_as<R: Read, W: Write>(
     alloc: Global,

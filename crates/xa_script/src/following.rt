@@ -26,9 +26,9 @@ pub struct Following<'r, I: Read, R> {
     allowances: &'r [Allowance],
     /// What is asked of judging.
     asked: Asked,
-    /// Whether lines are judged before the end.
+    /// Whether lines are still judged as they come.
     follows: bool,
-    /// What has been read.
+    /// What has been read, as long as `follows`.
     text: Vec<u8>,
     /// How many bytes of it were judged.
     judged: usize,
@@ -66,7 +66,7 @@ impl<'r, I: Read, R: Eprint + Alloc<A = Global>> Following<'r, I, R> {
         }
     }
 
-    /// Returns how many bytes the lines have that have come whole.
+    /// Returns how many bytes the lines have that have come whole, at least `judged`.
     fn count_whole(&self) -> usize {
         let mut count = self.judged;
         for at in self.judged..self.text.len() {
@@ -83,14 +83,17 @@ impl<'r, I: Read, R: Eprint + Alloc<A = Global>> Following<'r, I, R> {
         if verdict.is_empty() {
             return;
         }
+        // The first line is `ILLEGAL line n`, so it is UTF-8.
         let (line, _) = split_line(verdict);
         if let Ok(line) = str::from_utf8(line) {
             let _ = eprintln!(self.rt; "xa_script: {line}, as far as the record has come");
         }
     }
 
-    /// Judges the first bytes of what was read, and says whether later lines are to be judged, too.
+    /// Judges the first bytes of what was read, and tells if they are ILLEGAL. Returns whether later lines are to be
+    /// judged, too.
     fn judge_front(&self, count: usize) -> Result<bool, NoMemory> {
+        // At least so many bytes have come, so this doesn't fail.
         let Some(front) = self.text.get(..count) else {
             return Ok(false);
         };
@@ -104,18 +107,20 @@ impl<'r, I: Read, R: Eprint + Alloc<A = Global>> Following<'r, I, R> {
             &mut Silent,
         )?;
         match judged.outcome {
+            // It is told only once. At its end the whole record is judged.
             Outcome::Illegal => {
                 self.tell(judged.text.as_slice());
                 Ok(false)
             }
-            // More lines can't be decided either.
+            // To judge more lines might pass the limit each time. At its end the whole record is judged.
             Outcome::Undecided => Ok(false),
             // A line may be faulty only until the rows that belong to it have come.
             Outcome::Legal | Outcome::Faulty | Outcome::Empty => Ok(true),
         }
     }
 
-    /// Judges the lines that have come since the last time, if there are some.
+    /// Judges all that has come, if whole lines have come since the last time. Returns whether later lines are to be
+    /// judged, too.
     fn judge_more(&mut self) -> Result<bool, NoMemory>
         ensures { self.new.inner ≡ self.old.inner }
     {
@@ -127,7 +132,8 @@ impl<'r, I: Read, R: Eprint + Alloc<A = Global>> Following<'r, I, R> {
         self.judge_front(count)
     }
 
-    /// Takes what was read. If the writer `pauses`, what has come is judged.
+    /// Takes what was read. If the writer `pauses`, what has come is judged. Returns whether later lines are to be
+    /// judged, too.
     fn take(&mut self, bytes: &[u8], pauses: bool) -> Result<bool, NoMemory>
         ensures { self.new.inner ≡ self.old.inner }
     {
@@ -138,7 +144,8 @@ impl<'r, I: Read, R: Eprint + Alloc<A = Global>> Following<'r, I, R> {
         self.judge_more()
     }
 
-    /// Follows what was read, as long as there is memory for it.
+    /// Takes what was read as `take` does. If that returns false or memory was refused, later lines aren't judged as
+    /// they come any more.
     fn follow(&mut self, bytes: &[u8], pauses: bool)
         ensures { self.new.inner ≡ self.old.inner }
     {

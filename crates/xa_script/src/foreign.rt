@@ -26,7 +26,8 @@ fn is_marked(text: &[u8]) -> bool
     }
 }
 
-/// Returns whether a text begins with a byte order mark of UTF-16, or with two characters of ASCII in UTF-16.
+/// Returns whether a text has at least four bytes, and they begin with a byte order mark of UTF-16 or are two units of
+/// UTF-16 below 256, as those of ASCII are.
 fn is_utf16(text: &[u8]) -> bool
     ensures { result ≡ begins_as_utf16 text.now }
 {
@@ -79,6 +80,7 @@ pub fn foreign_in(text: &[u8]) -> Option<Foreign>
     //   carriage return.
     ensures { result ≡ foreign_of text.now }
 {
+    // How a text begins says more than its carriage returns, which may be parts of other units in UTF-16.
     if is_utf16(text) {
         Some(Foreign::Utf16)
     } else if is_marked(text) {

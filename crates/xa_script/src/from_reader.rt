@@ -20,7 +20,8 @@ use xa_lines::{LINE_BYTES, ScriptFault};
 use xa_record::Allowance;
 use xa_server::Server;
 
-/// Returns how a job reads its lines, and how many bytes a line may have.
+/// Returns how a job reads its lines, and above how many bytes a line counts as too long: `usize::MAX`, so never, for
+/// the jobs that read their whole input first.
 fn lines_of(job: Job) -> (LineKind, usize)
     // Proved (scripts, lines-of-a-job): Each job looks at its lines as the page says: as statements, calls or a
     //   record, with comments or without. Only the jobs that answer line by line have a longest line.
@@ -37,11 +38,13 @@ fn lines_of(job: Job) -> (LineKind, usize)
         Job::Show => (LineKind::Shown, LINE_BYTES),
         Job::Audit { .. } => (LineKind::Shown, usize::MAX),
         Job::Judge { .. } => (LineKind::Record, usize::MAX),
+        // Counted races take the words that divide a script, too.
         Job::Explore { .. } | Job::Race { runs: Some(_), .. } => (LineKind::Explored, usize::MAX),
     }
 }
 
-/// Returns the form of the lines that a job writes, if they aren't written as objects.
+/// Returns the form of the lines that a job writes where `Manner::json` doesn't make them objects. `judge` and `audit`
+/// have a `json` of their own, which makes what they write an object.
 fn form_of(job: Job) -> LineForm
     ensures { result ≡ form_of_job job }
 {
@@ -76,7 +79,7 @@ pub fn text_form(job: Job, manner: &Manner<'_>) -> Option<LineForm>
     }
 }
 
-/// Does a job on a reader, and returns the exit status.
+/// Does a job that isn't to audit, from a reader to the standard output, and returns the exit status.
 pub fn carry_out_on<
     I: Read + Drop,
     R: Clock + Print + Eprint + Alloc<A = Global> + Threads + Wait + Sync,
@@ -103,8 +106,9 @@ pub fn carry_out_on<
     }
 }
 
-/// Returns how a job ends whose lines were looked at, by whether one of them was faulty. If that isn't known,
-/// memory ran out.
+/// Returns how a job ends that came to `done`, and whose lines were looked at. A fault stays. Else it is `NoMemory` if
+/// `faulty` is None: memory for looking at the lines was refused. Else status 0 becomes 8 if `strict` and a line was
+/// `faulty`, and any other status stays.
 pub fn looked_at(
     strict: bool,
     faulty: Option<bool>,
@@ -156,7 +160,7 @@ fn carry_out_to<
     looked_at(manner.strict, watch.has_faults().ok(), done)
 }
 
-/// Does a job from a reader to a writer.
+/// Does a job that isn't to audit, from a reader to a writer, and returns the exit status.
 fn carry_out_job<
     I: Read,
     W: Write + Drop,
@@ -199,6 +203,7 @@ fn carry_out_job<
             if fixed {
                 return jobs::coordinate_fixed(rt, input, output, manner.verbose, stores, capacity);
             }
+            // Such stores are never full, so `--capacity` has no effect.
             jobs::coordinate(rt, input, output, manner.verbose, stores)
         }
         Job::Serve => jobs::serve(rt, input, output),
@@ -214,6 +219,7 @@ fn carry_out_job<
             jobs::judge(rt, input, output, base, allowances, asked, manner)
         }
         Job::Explore { limit } => jobs::explore(rt, input, output, limit, json),
+        // Its stores are unbounded, so `--capacity` has no effect.
         Job::Stops { stores, .. } => jobs::stops(rt, input, output, stores, json),
         // `carry_out` does audits, which have several readers.
         Job::Audit { .. } => unreachable!(),

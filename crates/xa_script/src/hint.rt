@@ -34,13 +34,14 @@ fn record_words(wanted: LineWanted) -> &'static str {
     }
 }
 
-/// Writes what has to come at a byte of a line.
+/// Writes what has to come in the line of this number, from 1, at the byte `at`, from 0.
 fn tell_wanted<R: Eprint>(rt: &R, number: u64, at: u64, wanted: &str) {
     let _ = eprintln!(rt; "xa_script: line {number}, byte {at}: syntax fault; write {wanted} here");
 }
 
-/// Says what has to come in the line of this number, and at which byte. If only the statement is at fault,
-/// its own bytes are counted; in a line of a record those after its sign, and in a row those of the row.
+/// Says what has to come in the line of this number, and at which byte, from 0; of a line that is too long only how
+/// long it may be. If only the statement is at fault, its own bytes are counted; in a line of a record those after its
+/// sign and the blanks behind that, and in a row those of the row.
 ///
 /// Errors: `NoMemory`. Doesn't wait, unless the standard error does.
 pub fn tell_line<R: Eprint + Alloc<A = Global>>(
@@ -53,6 +54,7 @@ pub fn tell_line<R: Eprint + Alloc<A = Global>>(
             tell_wanted(rt, number, 0, "the number of a session, from 1 to 16,");
         }
         LineFault::NoStatement(text, at) => {
+            // The place is in the text or at its end, so it stays the same.
             let wanted = wanted_at(rt.alloc(), text, at as usize)?;
             tell_wanted(rt, number, at, wanted.as_str());
         }

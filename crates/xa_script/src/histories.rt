@@ -11,7 +11,7 @@ use clap::{ArgMatches, Command, Error};
 use std::alloc::{AllocError, Global};
 use std::convert::AsStr;
 
-/// The greatest number of histories.
+/// The greatest number of histories that an audit takes (own rule: docs/COMMANDS.md#audit).
 const MOST: usize = 64;
 
 /// The files of the histories that `audit` reads, that of the first store first.
@@ -21,7 +21,7 @@ pub struct Histories<'a> {
     pub names: Vec<&'a str>,
 }
 
-/// The histories that were found.
+/// The names that were found for `HISTORY..`; none if the job has no such argument.
 fn histories_in<'a>(alloc: Global, found: &ArgMatches<'a>) -> Result<Histories<'a>, AllocError>
     ensures { IfOk result (λ histories. map (λ name. name.now) histories.names.items
         ≡ unwrap_or (option_map raw_values (matched_of (found_of found.now) (codes "history"))) []) }
@@ -33,7 +33,7 @@ fn histories_in<'a>(alloc: Global, found: &ArgMatches<'a>) -> Result<Histories<'
     Ok(Histories { names })
 }
 
-/// The histories that the words name, by this command.
+/// Returns the histories that the words name, as this command reads them. Errors: those of `read_histories`.
 fn histories_by<'a, S: AsStr>(
     alloc: Global,
     command: &mut Command<'a>,
@@ -44,6 +44,7 @@ fn histories_by<'a, S: AsStr>(
     ensures most { IfOk result (λ histories. length histories.names.items ≤ 64) }
 {
     let matches = command.try_get_matches_from_mut(words)?;
+    // The command requires a subcommand. That isn't known here.
     let Some((_, found)) = matches.subcommand() else {
         return Err(command.error(ErrorKind::InvalidSubcommand, "no such job")?);
     };

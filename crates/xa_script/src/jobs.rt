@@ -1,6 +1,6 @@
 //! The jobs, from a reader to a writer. Each returns the exit status, or the fault that ended it.
 //!
-//! What a job writes depends on what it is asked for alone. `rt` and `speaks` are for the standard error.
+//! What a job writes depends on what it is asked for alone. `speaks` is for the standard error.
 ghost use Rattle.std.specs.Prelude.{◌≡◌, ◌≤◌, ◌⊎◌, [], ℕ, List, Some, Err, IfOk, IfErr, IfSome, OnOk, length, map};
 ghost use Rattle.std.specs.Prelude.{option_map, unwrap_or};
 ghost use Rattle.std.specs.Io.KnownBytes.{Appends, Keeps};
@@ -65,7 +65,8 @@ pub fn output<R: Print + Eprint + Alloc<A = Global>>(
     gathered(rt, Spoken::new(rt, io::writer(rt), speaks))
 }
 
-/// Returns the standard output, on which literals of printable bytes are written as `'text'`.
+/// Returns the standard output, on which literals of printable bytes are written as `'text'` in lines of this form.
+/// If `speaks`, the cause of a failed write is reported.
 pub fn text_output<R: Print + Eprint + Alloc<A = Global>>(
     rt: &R,
     speaks: bool,
@@ -121,7 +122,8 @@ pub fn run<I: Read, W: Write + Drop, R: Alloc<A = Global>>(
     flushed(output, done)
 }
 
-/// Races the script. If `json`, each line is written as an object.
+/// Races the script: over a store without an end whose ring has `capacity` rows if `renews`, else in one log with
+/// room for `capacity` entries. If `json`, each line is written as an object.
 pub fn race<I: Read, W: Write + Drop, R: Alloc<A = Global> + Threads + Wait + Sync>(
     rt: &R,
     input: &mut I,
@@ -139,7 +141,8 @@ pub fn race<I: Read, W: Write + Drop, R: Alloc<A = Global> + Threads + Wait + Sy
     flushed(output, done)
 }
 
-/// Races the script `runs` times. If `json`, each line is written as an object.
+/// Races the script `runs` times, each time over a store as `race` has it, and counts the outcomes. If `json`, each
+/// line is written as an object.
 pub fn races<I: Read, W: Write + Drop, R: Alloc<A = Global> + Threads + Wait + Sync>(
     rt: &R,
     input: &mut I,
@@ -159,7 +162,8 @@ pub fn races<I: Read, W: Write + Drop, R: Alloc<A = Global> + Threads + Wait + S
     flushed(output, done)
 }
 
-/// Judges the record, which begins with this server.
+/// Judges the record, which begins with the state of `base`. Of `manner` it takes whether progress isn't reported
+/// (`quiet`), and whether lines are judged as they come, too (`follow`).
 pub fn judge<I: Read, W: Write + Drop, R: Clock + Eprint + Alloc<A = Global>>(
     rt: &R,
     input: &mut I,
@@ -182,7 +186,9 @@ pub fn judge<I: Read, W: Write + Drop, R: Clock + Eprint + Alloc<A = Global>>(
     flushed(output, done)
 }
 
-/// Judges records, which begin with this server. If `tap`, what each came to is written in the Test Anything Protocol.
+/// Judges records, each of which begins with the state of `base`. If `tap`, what each came to is written in the Test
+/// Anything Protocol. Of `manner` it takes whether progress isn't reported (`quiet`), and whether a faulty line changes
+/// the status (`strict`).
 pub fn judge_each<I: Read + Drop, W: Write + Drop, R: Clock + Eprint + Alloc<A = Global>>(
     rt: &R,
     inputs: Vec<Watch<'_, I, R>>,
@@ -253,7 +259,7 @@ pub fn explore<I: Read, W: Write + Drop, R: Alloc<A = Global>>(
     flushed(output, done)
 }
 
-/// Returns a client over the reader and the writer, whose buffer is the only one.
+/// Returns a client over the reader and the writer. `output` has a buffer already, so the client's own has no room.
 fn client_over<'a, I: Read, W: Write + Drop>(
     alloc: Global,
     input: &'a mut I,
@@ -265,7 +271,8 @@ fn client_over<'a, I: Read, W: Write + Drop>(
     }
 }
 
-/// Has a server answer each call, and explains each one that is out of turn.
+/// Has a server answer each call, and explains each one that is out of turn. `NoMemory` also if memory was refused for
+/// that.
 fn serve_advised<S: LineServer + Drop, I: Read, W: Write + Drop, R: Eprint + Alloc<A = Global>>(
     rt: &R,
     client: &mut Transport<&mut I, &mut BufWriter<W>>,
@@ -293,6 +300,7 @@ pub fn coordinate<I: Read, W: Write + Drop, R: Eprint + Alloc<A = Global> + Wait
     ensures { HasConversed result }
 {
     let mut client = client_over(rt.alloc(), input, output)?;
+    // Nothing is explained, so nobody has to follow the transactions.
     if !speaks {
         converse_lasting(rt, rt.alloc(), &mut client, stores)?;
         return Ok(DONE);
@@ -301,7 +309,8 @@ pub fn coordinate<I: Read, W: Write + Drop, R: Eprint + Alloc<A = Global> + Wait
     serve_advised(rt, &mut client, BesideServer::new(rt, manager))
 }
 
-/// Carries out the calls over stores whose histories have room for `capacity` entries.
+/// Carries out the calls over stores whose histories have room for `capacity` entries. If `speaks`, each call that is
+/// out of turn is explained.
 pub fn coordinate_fixed<I: Read, W: Write + Drop, R: Eprint + Alloc<A = Global> + Wait>(
     rt: &R,
     input: &mut I,
@@ -315,6 +324,7 @@ pub fn coordinate_fixed<I: Read, W: Write + Drop, R: Eprint + Alloc<A = Global> 
     ensures { HasConversed result }
 {
     let mut client = client_over(rt.alloc(), input, output)?;
+    // The first session of each store is the coordinator's, the second that of other clients.
     let (stores, firsts, seconds) = open_stores(rt.alloc(), stores, capacity)?;
     let stores = stores.as_slice();
     // Nothing is explained, so nobody has to follow the transactions.
@@ -339,7 +349,7 @@ pub fn serve<I: Read, W: Write + Drop, R: Alloc<A = Global>>(
     Ok(DONE)
 }
 
-/// Answers likewise, and shows the store after each answer.
+/// Answers each line before it reads more, and shows the store after each answer.
 pub fn show<I: Read, W: Write + Drop, R: Alloc<A = Global>>(
     rt: &R,
     input: &mut I,

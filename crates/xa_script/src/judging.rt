@@ -59,6 +59,7 @@ pub fn asked(limit: u64, explains: bool, json: bool, strict_calls: bool, shrinks
     ensures all { result ≡ asked_of limit explains json strict_calls shrinks }
 {
     let form = if json { Form::Json } else { Form::Plain };
+    // A limit of at most 1,000,000 stays the same.
     Asked {
         limit: limit as usize,
         form,

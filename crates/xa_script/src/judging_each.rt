@@ -21,7 +21,8 @@ use xa_lines::{ScriptFault, in_memory, write_whole};
 use xa_record::{Allowance, Asked};
 use xa_server::Server;
 
-/// Says on the standard error of which record it is that judging it ended so, and what to do.
+/// Says on the standard error, with the record's name, that it can't be read, or that the limit was passed and what
+/// to do. Says nothing of any other end.
 fn tell_end<I: Read + Drop, R: Eprint + Alloc<A = Global>>(
     rt: &R,
     input: &Watch<'_, I, R>,
@@ -40,7 +41,8 @@ fn tell_end<I: Read + Drop, R: Eprint + Alloc<A = Global>>(
     }
 }
 
-/// Judges the next record. What the standard error says of it comes behind its name, also that it can't be read.
+/// Judges the next record, and returns its verdict. What the standard error says of the record comes behind its name,
+/// also that it can't be read. If `quiet`, progress isn't reported.
 fn verdict_on<I: Read + Drop, R: Clock + Eprint + Alloc<A = Global>>(
     rt: &R,
     base: &Server,
@@ -58,7 +60,7 @@ fn verdict_on<I: Read + Drop, R: Clock + Eprint + Alloc<A = Global>>(
     let mut text = Vec::new(rt.alloc());
     let telling = &mut telling;
     let name = Some(input.name());
-    // Several records are files, which have come whole.
+    // `--follow` is for a single record whose verdict isn't listed.
     let done = in_memory(judge_read(
         rt, base, input, name, &mut text, allowances, asked, false, telling,
     ));
@@ -85,6 +87,7 @@ fn add_verdict<I: Read + Drop, R: Clock + Eprint + Alloc<A = Global>>(
 {
     let name = input.name();
     let verdict = verdict_on(rt, base, input, allowances, asked, quiet)?;
+    // Test points are numbered from 1.
     listed.count += 1;
     push_piece(&mut listed.text, listed.tap, listed.count, name, &verdict)?;
     listed.status = worse(listed.status, verdict.status);
@@ -111,7 +114,7 @@ fn list_next<I: Read + Drop, R: Clock + Eprint + Alloc<A = Global>>(
     add_verdict(rt, base, listed, &mut input, allowances, asked, quiet)
 }
 
-/// Judges each record.
+/// Judges each record, in order, and returns what is written for them all.
 fn list_each<I: Read + Drop, R: Clock + Eprint + Alloc<A = Global>>(
     rt: &R,
     base: &Server,
@@ -145,8 +148,8 @@ fn list_each<I: Read + Drop, R: Clock + Eprint + Alloc<A = Global>>(
 
 /// Judges records, writes what each came to, and returns the exit status that counts. There are at most 1,000.
 ///
-/// With `--strict` the status is 8 instead of 0 if a line had a syntax fault. The limit of `asked` is in
-/// `[1, 1_000_000]`.
+/// With `--strict` the status is 8 instead of 0 if a line had a syntax fault; with `--quiet` progress isn't reported.
+/// The limit of `asked` is in `[1, 1_000_000]`.
 /// Errors: as `judge_read`, at the first record that ends so: nothing was written then. After `Write` a prefix was.
 /// May return `NoMemory`. Doesn't wait, unless a reader, the writer or the standard error does.
 /// Own rule: docs/COMMANDS.md#several-records.

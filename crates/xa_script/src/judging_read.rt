@@ -16,14 +16,14 @@ use xa_lines::{ScriptFault, read_within};
 use xa_record::{Allowance, Asked};
 use xa_server::Server;
 
-/// The greatest length of a record, in bytes.
+/// The greatest length of a record, in bytes: 16 MiB (own rule).
 const RECORD_BYTES: usize = 16_777_216;
 
 /// The greatest number of reads for a record, which are ample for a reader that gives one byte at a time.
 const RECORD_READS: u64 = 33_554_432;
 
-/// Says on the standard error in which form a record is, if its lines aren't read as its writer meant them. The record's
-/// `name` comes first, if it has one.
+/// Says on the standard error in which form a record is, if its lines aren't read as its writer meant them. The
+/// record's `name` comes first, if it has one.
 fn tell_form<R: Eprint>(rt: &R, name: Option<&str>, record: &[u8]) {
     if let Some(form) = foreign_in(record) {
         if let Some(name) = name {

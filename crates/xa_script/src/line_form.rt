@@ -16,19 +16,19 @@ use xa_xid::{Statement, skip_blanks};
 /// The form of the lines that a job writes.
 #[derive(Clone, Copy, Debug, PartialEq, Eq)]
 pub enum LineForm {
-    /// Answers, and a history.
+    /// Answers; also a history, outcomes, stops or an audit.
     Answers,
     /// Answers, and the store after each.
     Shown,
     /// A verdict, and the store that explains it.
     Verdict,
-    /// A verdict as a JSON object.
+    /// JSON objects.
     Object,
     /// Test points, and a verdict in the comments below each.
     Noted,
 }
 
-/// Returns what comes after the first word and one more byte.
+/// Returns what comes after the first word and one more byte; nothing if no byte comes after that word.
 fn behind_first(text: &[u8]) -> &[u8]
     ensures { result.now ≡ after_first text.now }
 {
@@ -45,7 +45,7 @@ fn first_number(text: &[u8]) -> Option<u64>
     number_in(split_word(text).0)
 }
 
-/// Returns what comes after `COULD BE ` in a line of a verdict.
+/// Returns what comes after `COULD BE ` in a line of a verdict; None if the line doesn't begin so.
 fn could_be(line: &[u8]) -> Option<&[u8]>
     ensures { MatchOption result (is_answer line.now ≡ false)
         (λ reply. (is_answer line.now ≡ true) × (reply.now ≡ drop 9 line.now)) }
@@ -53,7 +53,7 @@ fn could_be(line: &[u8]) -> Option<&[u8]>
     line.strip_prefix(b"COULD BE ")
 }
 
-/// Returns what comes after `SEEN ` in a line of a verdict.
+/// Returns what comes after `SEEN ` in a line of a verdict; None if the line doesn't begin so.
 fn seen_in(line: &[u8]) -> Option<&[u8]>
     ensures { MatchOption result (was_seen line.now ≡ false)
         (λ seen. (was_seen line.now ≡ true) × (seen.now ≡ drop 5 line.now)) }
@@ -72,7 +72,7 @@ fn is_statement(text: &[u8]) -> bool
     }
 }
 
-/// Whether a line of a verdict has a statement that isn't a client's own text.
+/// Whether a line of a verdict is a session's statement that has a canonical form, in which the verdict then has it.
 fn has_statement(line: &[u8]) -> bool
     ensures { result ≡ is_given (line_of line.now) }
 {
@@ -82,11 +82,13 @@ fn has_statement(line: &[u8]) -> bool
     }
 }
 
-/// Whether a line of a verdict is the call of what was seen, and has a statement that isn't a client's own text.
+/// Whether a line of a verdict is the call of what was seen, and its statement has a canonical form, in which the
+/// verdict then has it.
 fn has_call(line: &[u8]) -> bool
     ensures { result ≡ is_called line.now }
 {
     match line.strip_prefix(b"CALL line ") {
+        // The line's number, the session and the sign come before the statement.
         Some(rest) => is_statement(behind_first(past_number(past_number(rest)))),
         None => false,
     }
@@ -106,14 +108,14 @@ fn is_of_job_itself(line: &[u8]) -> bool
     could_be(line).is_some() || seen_in(line).is_some() || is_of_store(line)
 }
 
-/// Whether a line of a verdict has nothing that is written in literals of the job's own.
+/// Whether a line of a verdict is a client's own: no part of it is written by the job in literals.
 fn is_said(line: &[u8]) -> bool
     ensures { result ≡ is_own line.now }
 {
     !is_of_job_itself(line) && !has_call(line) && !has_statement(line)
 }
 
-/// Returns how many rows a reply says that the next lines are.
+/// Returns how many rows a reply says that the next lines are; 0 unless it is `ROWS` and a number.
 fn rows_of(reply: &[u8]) -> u64
     ensures { result ≡ rows_said reply.now }
 {
@@ -142,13 +144,15 @@ fn reply_in(line: &[u8]) -> &[u8]
     past_number(past_number(line))
 }
 
-/// Returns how many rows a line of a verdict says that the next lines are.
+/// Returns how many rows a line of a verdict says that the next lines are; 0 unless it begins with `COULD BE` or
+/// `SEEN`.
 fn rows_of_verdict(line: &[u8]) -> u64
     ensures { result ≡ rows_in_verdict line.now }
 {
     match could_be(line) {
         Some(reply) => rows_of(reply),
         None => match seen_in(line) {
+            // The session and the sign come before the reply.
             Some(seen) => rows_of(behind_first(past_number(seen))),
             None => 0,
         },
@@ -156,8 +160,8 @@ fn rows_of_verdict(line: &[u8]) -> u64
 }
 
 impl LineForm {
-    /// Returns whether a line is written as it is, since it is a client's own: a comment, or a text that
-    /// isn't a statement.
+    /// Returns whether a line is written as it is: each object and test point, a comment among shown stores, and a
+    /// client's own text in a verdict.
     ///
     /// The line is without its line feed. Takes no memory. Doesn't wait.
     pub fn keeps(self, line: &[u8]) -> bool
@@ -193,8 +197,8 @@ impl LineForm {
     }
 }
 
-/// Returns whether a row is whole when a line feed comes next: both texts of the row have all their bytes. In
-/// digits these hold no line feed.
+/// Returns whether a row is whole when a line feed comes next: behind its first three words it has as many bytes as
+/// gtrid and bqual together. A row in digits has two for each, and no line feed, so it is whole at the first.
 ///
 /// Takes no memory. Doesn't wait.
 pub fn is_whole_row(row: &[u8]) -> bool
@@ -204,7 +208,9 @@ pub fn is_whole_row(row: &[u8]) -> bool
     let second = behind_first(lengths);
     let data = behind_first(second);
     match (first_number(lengths), first_number(second)) {
+        // The words may be any numbers, so their sum could overflow. No data reaches such a sum.
         (Some(gtrid), Some(bqual)) => data.len() as u64 >= gtrid.saturating_add(bqual),
+        // Without two lengths the bytes are no row, and any line feed ends them.
         _ => true,
     }
 }

@@ -79,15 +79,18 @@ fn has_number(line: &[u8], words: usize) -> bool {
     number_in(split_word(behind(line, words)).0).is_some()
 }
 
-/// Why a line that isn't read as a call isn't one.
+/// Why a line that isn't read as a call isn't one. If it is a `WORK` or an `AT` up to its statement, that is the
+/// statement's fault, or `NoWork` if `WORK` doesn't take the statement; else it is `NoCall`.
 fn call_fault(line: &[u8]) -> LineFault<'_> {
     let (word, _) = split_word(skip_blanks(line));
     let works = word == b"WORK".as_slice() && has_number(line, 1) && has_number(line, 2);
     let asks = word == b"AT".as_slice() && has_number(line, 1);
-    // With these first words the line was to give a statement, so that is what may be wrong.
+    // With these first words the line was to give a statement, so that is what may be wrong. One that is read isn't
+    // for WORK.
     if works {
         statement_fault(behind(line, 3)).unwrap_or(LineFault::NoWork)
     } else if asks {
+        // `AT` takes every statement, so such a line is read, and the default isn't taken.
         statement_fault(behind(line, 2)).unwrap_or(LineFault::NoCall)
     } else {
         LineFault::NoCall
@@ -100,6 +103,7 @@ fn stopped_fault(line: &[u8]) -> Option<LineFault<'_>>
 {
     match read_call(line) {
         Call::Unread(_) => match call_fault(line) {
+            // `stops` takes fewer calls, and what is said of the fault names just these.
             LineFault::NoCall => Some(LineFault::NoStopped),
             fault => Some(fault),
         },
@@ -119,7 +123,7 @@ fn given_in(line: &[u8]) -> &[u8]
     }
 }
 
-/// Returns how many rows a line of a record says that the next lines are.
+/// Returns how many rows a line of a record says that the next lines are; 0 unless it is a return of `ROWS`.
 pub fn rows_behind(line: &[u8]) -> u64 {
     // No rows follow a line that isn't read.
     if wanted_in(line).is_some() {
@@ -128,6 +132,7 @@ pub fn rows_behind(line: &[u8]) -> u64 {
     let (sign, rest) = split_word(given_in(line));
     let (word, count) = split_word(skip_blanks(rest));
     if sign == b"<".as_slice() && word == b"ROWS".as_slice() {
+        // The line is one of a record, so this is a number, and the default isn't taken.
         number_in(split_word(skip_blanks(count)).0).unwrap_or(0)
     } else {
         0
@@ -146,7 +151,8 @@ pub fn row_fault(line: &[u8]) -> Option<LineFault<'_>>
     }
 }
 
-/// Why what comes after the session of a line of a record isn't a call of a statement, if it is a call.
+/// Why the text of a call in a record isn't a statement. `text` is what comes after the line's session. None if it is
+/// no call, or the call of a statement.
 fn recorded_call_fault(text: &[u8]) -> Option<LineFault<'_>>
     ensures { is_some result ≡ is_no_call_of_record text.now }
 {
@@ -182,7 +188,8 @@ fn raced_by(line: &[u8]) -> LineKind
 }
 
 impl LineKind {
-    /// Returns the kind that this line, and all after it, are of.
+    /// Returns the kind that this line is of, and those after it until one of them changes it. Only the kind of a
+    /// script that is raced ever changes, once, by its first line that isn't blank.
     ///
     /// The line is without its line feed. Takes no memory. Doesn't wait.
     pub fn settled_by(self, line: &[u8]) -> LineKind
@@ -204,8 +211,11 @@ impl LineKind {
         //   line, a comment where there are comments, and a word that divides a script to explore never is.
         ensures { is_some result ≡ is_unread_by self line.now }
     {
+        // Where lines are statements alone, a comment is faulty. Of calls `read_call` takes comments as silent itself.
         let silent = skip_blanks(line).is_empty() || is_comment(line);
         match self {
+            // The first line that isn't blank settles the kind of a raced script before it is looked at, so the lines
+            // that still are `Raced` are blank.
             LineKind::Statement | LineKind::Raced => script_fault(line),
             LineKind::Shown => { if silent { None } else { script_fault(line) } }
             LineKind::Explored => {

@@ -28,7 +28,7 @@ pub fn worse(one: u8, other: u8) -> u8
     }
 }
 
-/// Returns the first line, without its line feed.
+/// Returns the first line, without its line feed; of an empty text an empty one.
 fn first_line(text: &[u8]) -> &[u8]
     ensures { result.now ≡ first_line_of text.now }
 {
@@ -60,7 +60,8 @@ fn push_notes(out: &mut Vec<u8>, text: &[u8]) -> Result<(), NoMemory>
     Ok(())
 }
 
-/// Appends what a verdict says, as comments. Below LEGAL an order would say little.
+/// Appends what a verdict says, as comments. Of a LEGAL record only the first line is, since an order says little
+/// there.
 fn push_verdict_notes(out: &mut Vec<u8>, verdict: &Verdict) -> Result<(), NoMemory>
     ensures { OnOk result (out.new.items ≡ out.old.items ++ notes_on verdict.now.status verdict.now.text.items) }
 {
@@ -146,7 +147,8 @@ pub fn push_piece(
     }
 }
 
-/// Returns what is written before the first of so many records.
+/// Returns what is written before the first of `count` records: the version and how many test points come, if `tap`;
+/// else nothing.
 ///
 /// May return `NoMemory`. Doesn't wait.
 /// Own rule: docs/COMMANDS.md#several-records.

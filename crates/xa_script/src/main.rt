@@ -104,6 +104,7 @@ fn status<
         Err(error) => return refuse_words(rt, &error),
     };
     let words = words.as_slice();
+    // Each reads the whole command line. If several fail, the first of them says why.
     match (
         read_command(rt.alloc(), words),
         read_manner(rt.alloc(), words),
@@ -122,7 +123,8 @@ fn status<
     }
 }
 
-/// Reports the fault of a job, if it had one, and returns the exit status.
+/// Reports the fault of a job, if it had one, and with `--verbose` what to do if its history is full. Returns the exit
+/// status.
 fn ended<R: Eprint>(rt: &R, manner: &Manner<'_>, done: Result<u8, ScriptFault>) -> u8
     // Proved (scripts, status-of-a-job): The program's exit status is the job's own, or the one after its fault,
     //   whatever the options are.
@@ -165,7 +167,7 @@ fn refuse<R: Print + Eprint>(rt: &R, error: &Error) -> u8 {
         return GAVE_OUT;
     }
     let printed = error.print(rt);
-    // Else help or the version was asked for.
+    // What isn't for the standard error is help or the version, which was asked for.
     if error.use_stderr() {
         COMMAND_FAULT
     } else if printed.is_err() {

@@ -10,7 +10,8 @@ use clap::{ArgMatches, Command, Error};
 use std::alloc::Global;
 use std::convert::AsStr;
 
-/// How a job is done: the options of every job, and four of `judge`. `audit` has one of these too.
+/// How a job is done: the options of every job that reads one input, `--json`, and four of `judge`. `audit` has
+/// `--verbose`, `--text`, `--json` and `--quiet` of these.
 #[derive(Clone, Copy, Debug, PartialEq, Eq)]
 pub struct Manner<'a> {
     /// The file that is read instead of the standard input.
@@ -33,14 +34,15 @@ pub struct Manner<'a> {
     pub follow: bool,
 }
 
-/// Returns whether an option without a value is given.
+/// Returns whether the option of this name, which has no value, is given.
 pub fn flag_in(found: &ArgMatches<'_>, name: &str) -> bool
     ensures { IsFlagOf (one_text (found_of found.now) name.now) result }
 {
+    // A job that has no such option has no value of it.
     found.get_one::<bool>(name).unwrap_or(false)
 }
 
-/// The manner that was found.
+/// The manner that the options which were found give.
 fn manner_in<'a>(found: &ArgMatches<'a>) -> Manner<'a>
     ensures { IsManner (first_value (found_of found.now) (codes "file"))
         (first_value (found_of found.now) (codes "allow"))
@@ -62,7 +64,7 @@ fn manner_in<'a>(found: &ArgMatches<'a>) -> Manner<'a>
     }
 }
 
-/// The manner that the words name, by this command.
+/// Returns the manner that the words name, as this command reads them. Errors: those of `read_command`.
 fn manner_by<'a, S: AsStr>(command: &mut Command<'a>, words: &'a [S]) -> Result<Manner<'a>, Error>
     requires { app_of command.old ≡ script_app }
     ensures { IfOk result (HasManner (map S.text words.entry.now)) }
@@ -70,6 +72,7 @@ fn manner_by<'a, S: AsStr>(command: &mut Command<'a>, words: &'a [S]) -> Result<
     let matches = command.try_get_matches_from_mut(words)?;
     match matches.subcommand() {
         Some((_, found)) => Ok(manner_in(found)),
+        // The command requires a subcommand. That isn't known here.
         None => Err(command.error(ErrorKind::InvalidSubcommand, "no such job")?),
     }
 }

@@ -15,7 +15,8 @@ use xa_lines::{ScriptFault, in_memory, read_all, uncommented, write_objects};
 use xa_races::{race_script, race_script_in_rounds};
 use xa_store::{Gate, OpenGate, ShuffledGate, TogetherGate};
 
-/// Races a script at a gate, over a store without an end if `renews`.
+/// Races a script at a gate: over a store without an end whose ring has `capacity` rows if `renews`, else in one log
+/// with room for `capacity` entries.
 fn race_behind<I: Read, O: Write, G: Gate + Sync, R: Alloc<A = Global> + Threads + Wait + Sync>(
     rt: &R,
     input: &mut I,
@@ -37,7 +38,7 @@ fn race_behind<I: Read, O: Write, G: Gate + Sync, R: Alloc<A = Global> + Threads
 
 /// Races a script at the gate of a schedule, over a store without an end if `renews`.
 ///
-/// `capacity` is in `[1, 1024]`.
+/// `capacity`, in `[1, 1024]`: how many entries the log has room for, or if `renews` how many rows the ring has.
 /// Errors: as `race_script` and `race_script_in_rounds`. Waits.
 pub fn race_by<I: Read, O: Write, R: Alloc<A = Global> + Threads + Wait + Sync>(
     rt: &R,
@@ -67,7 +68,7 @@ pub fn race_by<I: Read, O: Write, R: Alloc<A = Global> + Threads + Wait + Sync>(
 /// Races a script at the gate of a schedule, over a store without an end if `renews`. If its first line that isn't
 /// blank is a comment, comments count as blank lines.
 ///
-/// `capacity` is in `[1, 1024]`.
+/// `capacity`, in `[1, 1024]`: how many entries the log has room for, or if `renews` how many rows the ring has.
 /// Errors: as `race_script` and `race_script_in_rounds`. Waits.
 /// Own rule: docs/COMMANDS.md#race.
 pub fn race_commented<I: Read, O: Write, R: Alloc<A = Global> + Threads + Wait + Sync>(
@@ -91,9 +92,9 @@ pub fn race_commented<I: Read, O: Write, R: Alloc<A = Global> + Threads + Wait +
     race_by(rt, &mut rest, output, capacity, schedule, renews)
 }
 
-/// Races a script likewise, and writes each line of the outcome, or of its faulty lines, as an object.
+/// Races a script as `race_commented` does, and writes each line of the outcome, or of its faulty lines, as an object.
 ///
-/// `capacity` is in `[1, 1024]`.
+/// `capacity`, in `[1, 1024]`: how many entries the log has room for, or if `renews` how many rows the ring has.
 /// Errors: as `race_commented`. Waits.
 /// Own rule: docs/COMMANDS.md#output-as-json.
 pub fn race_objects<I: Read, O: Write, R: Alloc<A = Global> + Threads + Wait + Sync>(
@@ -110,6 +111,7 @@ pub fn race_objects<I: Read, O: Write, R: Alloc<A = Global> + Threads + Wait + S
         (λ script. AppendsObjects (AppendsRaceBy renews capacity (uncommented_text script)) (O.contents output.old)
         (O.contents output.new))) }
 {
+    // All lines are made in memory first, so nothing is written if that fails.
     let mut text = Vec::new(rt.alloc());
     let done = race_commented(rt, input, &mut text, capacity, schedule, renews);
     in_memory(done)?;
@@ -128,7 +130,7 @@ fn ended(done: Result<(), ScriptFault>) -> Result<u8, ScriptFault>
 
 /// Races a script, writes lines, or if `json` their objects, and returns the exit status.
 ///
-/// `capacity` is in `[1, 1024]`.
+/// `capacity`, in `[1, 1024]`: how many entries the log has room for, or if `renews` how many rows the ring has.
 /// Errors: as `race_commented`. Waits.
 pub fn race_as<I: Read, O: Write, R: Alloc<A = Global> + Threads + Wait + Sync>(
     rt: &R,

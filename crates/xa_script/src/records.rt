@@ -13,7 +13,7 @@ use clap::{ArgMatches, Command, Error};
 use std::alloc::{AllocError, Global};
 use std::convert::AsStr;
 
-/// The greatest number of records.
+/// The greatest number of records that are judged in one call (own rule: docs/COMMANDS.md#several-records).
 const MOST: usize = 1_000;
 
 /// The records that `judge` reads by name, and how it lists their verdicts.
@@ -49,7 +49,7 @@ impl<'a> Records<'a> {
     }
 }
 
-/// The records that were found.
+/// The names that were found for `RECORD..`, none if no record is named or the job takes none, and whether `--tap` was.
 fn records_in<'a>(alloc: Global, found: &ArgMatches<'a>) -> Result<Records<'a>, AllocError>
     ensures named { IfOk result (λ records. map (λ name. name.now) records.names.items
         ≡ unwrap_or (option_map raw_values (matched_of (found_of found.now) (codes "record"))) []) }
@@ -65,7 +65,7 @@ fn records_in<'a>(alloc: Global, found: &ArgMatches<'a>) -> Result<Records<'a>, 
     })
 }
 
-/// The records that the words name, by this command.
+/// Returns the records that the words name, as this command reads them. Errors: those of `read_records`.
 fn records_by<'a, S: AsStr>(
     alloc: Global,
     command: &mut Command<'a>,
@@ -76,6 +76,7 @@ fn records_by<'a, S: AsStr>(
     ensures most { IfOk result (λ records. length records.names.items ≤ 1000) }
 {
     let matches = command.try_get_matches_from_mut(words)?;
+    // The command requires a subcommand. That isn't known here.
     let Some((_, found)) = matches.subcommand() else {
         return Err(command.error(ErrorKind::InvalidSubcommand, "no such job")?);
     };
@@ -84,7 +85,7 @@ fn records_by<'a, S: AsStr>(
         let message = "judge takes at most 1000 records";
         return Err(command.error(ErrorKind::TooManyValues, message)?);
     }
-    // Only `judge` takes names, and each of them is a file.
+    // Only `judge` takes names. Each names a file, so that of `--file` would be one more input.
     if !records.names.is_empty() && found.get_str("file").is_some() {
         let message = "judge takes records either by their names or by --file";
         return Err(command.error(ErrorKind::ArgumentConflict, message)?);

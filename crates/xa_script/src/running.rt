@@ -17,7 +17,8 @@ use xa_lines::{ScriptFault, in_memory, write_objects};
 use xa_races::{ReshuffledGate, runs_script};
 use xa_store::{Gate, OpenGate, TogetherGate};
 
-/// Races a script `runs` times at a gate, with no limit on its entries if `renews`.
+/// Races a script `runs` times at a gate, and returns the exit status. In each race the log has room for `capacity`
+/// entries of the lines side by side; if `renews`, it has no end, and a ring of as many rows.
 fn run_behind<I: Read, O: Write, G: Gate + Sync, R: Alloc<A = Global> + Threads + Wait + Sync>(
     rt: &R,
     input: &mut I,
@@ -41,8 +42,8 @@ fn run_behind<I: Read, O: Write, G: Gate + Sync, R: Alloc<A = Global> + Threads 
 /// Races a script `runs` times at the gate of a schedule, writes which outcomes came, or its faulty lines,
 /// and returns the exit status for it.
 ///
-/// `capacity` is in `[1, 1024]`, `runs` in `[1, 1_000_000]`. If `renews`, no race has a limit on its entries. If the
-/// schedule is shuffled, each race takes the seed after the last one's.
+/// `capacity` is in `[1, 1024]`, and as in `run_behind`; `runs` is in `[1, 1_000_000]`. If `renews`, no race has a
+/// limit on its entries. If the schedule is shuffled, each race takes the seed after the last one's.
 /// Errors: as `runs_script`. After `Write` a prefix of the text was written, after any other error nothing.
 /// May return `NoMemory`. Waits.
 /// Own rule: docs/COMMANDS.md#race-statistics.
@@ -76,7 +77,8 @@ pub fn run_by<I: Read, O: Write, R: Alloc<A = Global> + Threads + Wait + Sync>(
     }
 }
 
-/// Races a script `runs` times, and writes each line of which outcomes came, or of its faulty lines, as an object.
+/// Races a script `runs` times, writes each line of which outcomes came, or of its faulty lines, as an object, and
+/// returns the exit status.
 ///
 /// It takes, returns and waits as `run_by` does.
 /// Errors: as `runs_script`. After `Write` a prefix of the objects was written, after any other error nothing.
@@ -102,6 +104,7 @@ pub fn run_objects<I: Read, O: Write, R: Alloc<A = Global> + Threads + Wait + Sy
         AfterObjects (λ before after. (status : ℕ) × AppendsCame runs status (I.remaining input.old) before after) fault
         (O.contents output.old) (O.contents output.new)) }
 {
+    // All lines are made in memory first, so nothing is written if that fails.
     let mut text = Vec::new(rt.alloc());
     let done = run_by(rt, input, &mut text, capacity, schedule, renews, runs);
     let status = in_memory(done)?;
@@ -109,7 +112,7 @@ pub fn run_objects<I: Read, O: Write, R: Alloc<A = Global> + Threads + Wait + Sy
     Ok(status)
 }
 
-/// Races a script `runs` times, and writes lines, or if `json` their objects.
+/// Races a script `runs` times, writes lines, or if `json` their objects, and returns the exit status.
 ///
 /// It takes, returns and waits as `run_by` does.
 /// Errors: as `run_by`. May return `NoMemory`. Waits.

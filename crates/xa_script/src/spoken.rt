@@ -6,7 +6,8 @@ ghost use Rattle.std.specs.Io.KnownBytes.{WriteAppends, Keeps};
 use std::io;
 use std::io::Write;
 
-/// A writer that reports on the standard error why a write failed, once, if `speaks`.
+/// A writer that reports on the standard error why a write failed, once, if `speaks`. Why `inner` can't be flushed
+/// isn't reported.
 #[derive(Drop)]
 pub struct Spoken<'r, W: Write + Drop, R> {
     /// The writer that is written to.
@@ -27,7 +28,7 @@ impl<'r, W: Write + Drop, R: Eprint> Spoken<'r, W, R> {
         Spoken { inner, rt, speaks }
     }
 
-    /// Reports why a write failed, unless it did so before.
+    /// Reports why a write failed, if it `speaks` and didn't do so before.
     fn tell(&mut self, fault: &io::Error)
         ensures { self.new.inner ≡ self.old.inner }
     {

@@ -11,7 +11,7 @@ pub struct Standings {
     standings: Vec<Standing>,
 }
 
-/// Returns the vote that an answer reports.
+/// Returns the vote that an answer reports; None if it reports none.
 fn voted(answer: &[u8]) -> Option<Standing> {
     if answer == b"READY\n".as_slice() {
         Some(Standing::Ready)
@@ -26,7 +26,8 @@ fn voted(answer: &[u8]) -> Option<Standing> {
     }
 }
 
-/// Returns how far a transaction has come after an answer to its ending.
+/// Returns how far a transaction has come after an answer to FINISH or ABANDON: `standing` if the answer says that it
+/// has ended, also in a hazard; `Unfinished`; or None if it says neither.
 fn ended(answer: &[u8], standing: Standing) -> Option<Standing> {
     if answer.starts_with(b"UNFINISHED ") {
         return Some(Standing::Unfinished);
@@ -37,7 +38,7 @@ fn ended(answer: &[u8], standing: Standing) -> Option<Standing> {
     if has_ended { Some(standing) } else { None }
 }
 
-/// Returns what a call needs, and the transaction that it is about.
+/// Returns the transaction that a call is about, and what the call needs; None of a call that is never out of turn.
 fn wanted_by(call: &Call) -> Option<(u64, &'static str)> {
     match call {
         Call::Work { number, .. } => Some((*number, "WORK needs one that still takes work")),
@@ -70,7 +71,7 @@ impl Standings {
         Some(self.standings[(number - 1) as usize])
     }
 
-    /// Notes how far a transaction has come, if it was begun.
+    /// Notes how far a transaction has come. Nothing changes if that is None, or if the transaction wasn't begun.
     fn put(&mut self, number: u64, standing: Option<Standing>) {
         if let Some(standing) = standing
             && number != 0
@@ -80,7 +81,8 @@ impl Standings {
         }
     }
 
-    /// Takes note of a call and its answer.
+    /// Takes note of a call and its answer: `BEGIN` adds a transaction, and `PREPARE`, `FINISH` and `ABANDON` set how
+    /// far theirs has come, each only if the answer says so. Other calls change nothing.
     ///
     /// Errors: `NoMemory`, only when a transaction begins. Doesn't wait.
     pub fn note(&mut self, call: &Call, answer: &[u8]) -> Result<(), NoMemory> {
@@ -102,7 +104,8 @@ impl Standings {
     /// Returns the transaction that a call out of turn is about, how far it has come, and what the call
     /// needs.
     ///
-    /// Returns `None` if the answer isn't that the call is out of turn. Takes no memory. Doesn't wait.
+    /// Returns `None` if the answer isn't that the call is out of turn, if no such call ever is, or if the
+    /// transaction wasn't begun. Takes no memory. Doesn't wait.
     pub fn out_of_turn(&self, call: &Call, answer: &[u8]) -> Option<(u64, Standing, &'static str)> {
         // This answer alone says that the call came out of turn.
         if !answer.starts_with(b"WRONG STAGE ") {

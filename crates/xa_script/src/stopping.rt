@@ -78,13 +78,15 @@ pub fn stop_objects<H: Wait, R: Read, W: Write>(
         (R.remaining reader.old) before after) fault
         (W.contents writer.old) (W.contents writer.new)) }
 {
+    // All lines are made in memory first, so nothing is written if that fails.
     let mut text = Vec::new(alloc);
     let status = in_memory(stop_each(rt, alloc, reader, &mut text, stores))?;
     write_objects(alloc, writer, text.as_slice())?;
     Ok(status)
 }
 
-/// Stops the coordinator of a script at each place, and writes lines, or if `json` their objects.
+/// Stops the coordinator of a script at each place, writes lines, or if `json` their objects, and returns the exit
+/// status.
 ///
 /// `stores` is in `[1, 16]`.
 /// Errors: as `stop_each`. May return `NoMemory`. Waits.

@@ -30,7 +30,7 @@ fn with_common<'a>(alloc: Global, command: Command<'a>) -> Result<Command<'a>, A
         .arg(text_option(alloc))
 }
 
-/// Returns a subcommand without options, with the text that its help shows after these.
+/// Returns a subcommand that has no options yet. Its help begins with `about`, and shows `help` after the options.
 fn plain_command<'a>(alloc: Global, name: &'a str, about: &'a str, help: &'a str) -> Command<'a>
     ensures app { app_of result ≡ new_app name.entry.now }
     ensures local { IsLocal result }
@@ -151,7 +151,7 @@ fn bare_command<'a>(alloc: Global) -> Command<'a>
         .subcommand_required(true)
 }
 
-/// Adds a subcommand without options.
+/// Adds a subcommand that has only the options of every job that reads one input.
 fn with_plain<'a>(
     command: Command<'a>,
     alloc: Global,

@@ -45,7 +45,9 @@ impl<'r, R: Clock + Eprint + Alloc<A = Global>> Telling<'r, R> {
         }
     }
 
-    /// Returns whether a report is due: a second after the last one, or after the first event that was judged.
+    /// Returns whether a report is due: at least a second after the last one, or after the first event that was judged.
+    /// If neither time is noted, as at the first call, which is at that event, notes the time now and returns false.
+    /// Without a clock that can be read no report is due.
     fn is_due(&mut self) -> bool {
         match self.last {
             None => {
@@ -58,7 +60,7 @@ impl<'r, R: Clock + Eprint + Alloc<A = Global>> Telling<'r, R> {
         }
     }
 
-    /// Writes a line.
+    /// Writes a line that says how far the judging is.
     fn say(&self, so_far: SoFar) -> Result<(), NoMemory> {
         let alloc = self.rt.alloc();
         let done = grouped(alloc, so_far.done())?;
@@ -75,6 +77,7 @@ impl<'r, R: Clock + Eprint + Alloc<A = Global>> Progress for Telling<'r, R> {
     fn judged(&mut self, so_far: SoFar) {
         // Less than a second after the last line a new one would say little.
         if !self.quiet && self.is_due() {
+            // If there is no memory for the line, judging goes on without it.
             let _ = self.say(so_far);
             self.last = Instant::now(self.rt).ok();
         }

@@ -6,7 +6,7 @@ ghost use Rattle.xa_script.specs.Texts.{texts_from, with_texts, IsTooLong};
 use arrayvec::ArrayVec;
 use xa_xid::literal_of;
 
-/// Room for a line.
+/// Room for 512 bytes: no line with literals of the job's own has more.
 pub type Room = ArrayVec<u8, 512>;
 
 /// The beginning of a line, as it is written, and the bytes of the word that has begun after it.
@@ -36,7 +36,7 @@ fn are_plain(bytes: &[u8]) -> bool
     true
 }
 
-/// Appends a byte, if there is room.
+/// Appends a byte; None if there is no room.
 fn put(text: &mut Room, byte: u8) -> Option<()>
     ensures some { IfSome result (λ _. text.new.items ≡ text.old.items ++ byte ∷ []) }
     ensures none { IfNone result (IsTooLong (text.old.items ++ byte ∷ [])) }
@@ -48,7 +48,7 @@ fn put(text: &mut Room, byte: u8) -> Option<()>
     Some(())
 }
 
-/// Appends a word as it is, if there is room.
+/// Appends a word as it is; None if there is no room for all of it.
 fn put_word(text: &mut Room, word: &[u8]) -> Option<()>
     ensures some { IfSome result (λ _. text.new.items ≡ text.old.items ++ word.now) }
     ensures none { IfNone result (IsTooLong (text.old.items ++ word.now)) }
@@ -59,7 +59,7 @@ fn put_word(text: &mut Room, word: &[u8]) -> Option<()>
     }
 }
 
-/// Appends bytes as they are written between quotes, if there is room.
+/// Appends bytes as they are written between quotes; None if there is no room for all.
 fn put_between(text: &mut Room, bytes: &[u8]) -> Option<()>
     ensures some { IfSome result (λ _. text.new.items ≡ text.old.items ++ between_quotes bytes.now) }
     ensures none { IfNone result (IsTooLong (text.old.items ++ between_quotes bytes.now)) }
@@ -74,7 +74,7 @@ fn put_between(text: &mut Room, bytes: &[u8]) -> Option<()>
     Some(())
 }
 
-/// Appends bytes as a text in quotes, if there is room.
+/// Appends bytes as a text in quotes; None if there is no room for all of it.
 fn put_text(text: &mut Room, bytes: &[u8]) -> Option<()>
     ensures some { IfSome result (λ _. text.new.items ≡ text.old.items ++ quoted bytes.now) }
     ensures none { IfNone result (IsTooLong (text.old.items ++ quoted bytes.now)) }
@@ -84,8 +84,8 @@ fn put_text(text: &mut Room, bytes: &[u8]) -> Option<()>
     put(text, b'\'')
 }
 
-/// Appends a word, if there is room: a literal of printable bytes as a text in quotes, any other word as it
-/// is.
+/// Appends a word: a literal of printable bytes as a text in quotes, any other word as it is. None if there is no room
+/// for all of it.
 fn put_written(text: &mut Room, word: &[u8]) -> Option<()>
     ensures some { IfSome result (λ _. text.new.items ≡ text.old.items ++ word_text word.now) }
     ensures none { IfNone result (IsTooLong (text.old.items ++ word_text word.now)) }
@@ -112,7 +112,7 @@ fn divides(byte: u8) -> bool
 }
 
 impl TextLine {
-    /// Takes a byte of the line, if there is room.
+    /// Takes a byte of the line; one that divides words has the word before it written. None if there is no room.
     fn take(&mut self, byte: u8) -> Option<()>
         ensures some { IfSome result (λ _. (rest : List ℕ)
             → self.new.text.items ++ texts_from self.new.word.items rest ≡ self.old.text.items
@@ -133,7 +133,9 @@ impl TextLine {
 
 /// Returns a line with its literals of printable bytes as texts in quotes.
 ///
-/// Returns `None` if the line or the result has more than 512 bytes. Takes no memory. Doesn't wait.
+/// Returns `None` only if the line or the result has more than 512 bytes, and always if the result has. A longer line
+/// is still written if each of its words has at most 512 bytes, and its literals get short enough.
+/// Takes no memory. Doesn't wait.
 /// Own rule: docs/COMMANDS.md#options-of-every-job.
 pub fn text_line(line: &[u8]) -> Option<Room>
     // Proved (scripts, text-lines): With `--text` each literal of printable bytes in a line becomes a text in
@@ -150,6 +152,7 @@ pub fn text_line(line: &[u8]) -> Option<Room>
     for byte in line {
         so_far.take(*byte)?;
     }
+    // Nothing that divides words comes after the last word, so it isn't written yet.
     let TextLine { mut text, word } = so_far;
     put_written(&mut text, word.as_slice())?;
     Some(text)

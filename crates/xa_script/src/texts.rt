@@ -12,7 +12,7 @@ use std::{io, mem};
 /// A writer that writes the literals of printable bytes in its lines as texts in quotes.
 ///
 /// A line is written when it is whole. A line of more than 512 bytes has no literals of the job's own, and
-/// passes unchanged. So does a line that a flush cuts off.
+/// passes unchanged. So does a line that would have more with its texts, and one that a flush cuts off.
 #[derive(Drop)]
 pub struct Texts<W> {
     /// The writer that is written to.
@@ -33,7 +33,7 @@ pub struct Texts<W> {
     ghost apart: { passes ≡ true → held.items ≡ [] },
 }
 
-/// Returns how many bytes the first line has, with its line feed.
+/// Returns how many bytes the first line has, with its line feed; all of them if there is none.
 fn line_length(bytes: &[u8]) -> usize
     ensures { result ≤ length bytes.now }
 {
@@ -75,7 +75,7 @@ impl<W: Write + Drop> Texts<W> {
         }
     }
 
-    /// Writes once of what is due.
+    /// Writes some of what is due, by one call. A call that takes nothing is the error `WriteZero`.
     fn give_some(&mut self) -> io::Result<()>
         requires { self.old.given < length self.old.due.items }
         ensures sent { Keeps (sent_of W.contents self.old) (sent_of W.contents self.new) }
@@ -142,7 +142,8 @@ impl<W: Write + Drop> Texts<W> {
         self.give()
     }
 
-    /// Writes what is due, and what has been taken of the line.
+    /// Writes what is due, and what has been taken of the line, if anything; the rest of that line then passes
+    /// unchanged.
     fn settle(&mut self) -> io::Result<()>
         ensures kept { Keeps (known_of W.contents self.old) (known_of W.contents self.new) }
         ensures due { OnOk result (drop self.new.given self.new.due.items ≡ []) }
@@ -159,7 +160,8 @@ impl<W: Write + Drop> Texts<W> {
         self.let_pass()
     }
 
-    /// Writes what is due, and what has been taken of a line for which there is no more room.
+    /// Writes what is due. If there is no more room for the line, writes also what has been taken of it; its rest
+    /// then passes unchanged.
     fn make_room(&mut self) -> io::Result<()>
         ensures kept { Keeps (known_of W.contents self.old) (known_of W.contents self.new) }
         ensures due { OnOk result (drop self.new.given self.new.due.items ≡ []) }
@@ -187,7 +189,8 @@ impl<W: Write + Drop> Texts<W> {
         held.ends_with(b"\n") && (self.rows == 0 || is_whole_row(without_feed(held)))
     }
 
-    /// Returns what is written for a line, which ends in a line feed.
+    /// Returns what is written for a line that ends in a line feed and isn't a row: the line with its literals as
+    /// texts; or the line as it is, if the form keeps it, or if it would have more than 512 bytes with these.
     fn written(form: LineForm, line: Room) -> Room
         ensures { IsWrittenAs form line.items result.items }
     {
@@ -200,7 +203,8 @@ impl<W: Write + Drop> Texts<W> {
         }
     }
 
-    /// Takes the line that is whole.
+    /// Has the whole line that was taken written next: a row as it is, any other line as `written` says. Then counts
+    /// how many rows are still to come.
     fn end_line(&mut self)
         requires { drop self.old.given self.old.due.items ≡ [] }
         ensures written { IsEnded self.old.form self.old.rows self.old.held.items self.new.due.items self.new.rows }
@@ -242,7 +246,8 @@ impl<W: Write + Drop> Texts<W> {
         taken
     }
 
-    /// Writes the rest of the line, or of these bytes, unchanged, and returns how many were written.
+    /// Writes the first of these bytes, at most to the first line feed, unchanged and by one call. Returns how many
+    /// were written. What passes isn't counted as a row, and no rows are taken from it.
     fn pass(&mut self, bytes: &[u8]) -> io::Result<usize>
         requires { self.old.passes ≡ true }
         ensures bound { WritesAtMost result bytes.now }
@@ -287,6 +292,7 @@ impl<W: Write + Drop> Write for Texts<W> {
         ensures full { OnErr result (self.new.passes ≡ true → (self.old.passes ≡ true)
             ⊎ (length self.old.held.items ≡ 512)) }
     {
+        // What is due goes first. A line for which there is no more room then begins to pass.
         self.make_room()?;
         if self.passes {
             self.pass(buf)

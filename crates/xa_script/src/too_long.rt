@@ -5,8 +5,8 @@ ghost use Rattle.xa_script.specs.Lines.{tells_length};
 use crate::Job;
 use xa_lines::ScriptFault;
 
-/// Returns what a job reads that may be too long, and what to do about it. The jobs that answer line by line read
-/// any length.
+/// Returns what a job reads that may be too long, and what to do about it. The jobs that answer line by line read any
+/// length, so their text is never needed.
 fn advice(job: Job) -> &'static str {
     match job {
         Job::Run =>
@@ -47,7 +47,7 @@ pub fn tell_too_long<R: Eprint>(rt: &R, job: Job, verbose: bool, done: &Result<u
     }
 }
 
-/// Says that the file of an option is too long, if reading it ended so.
+/// Says that the file of an option is too long, if reading it ended so. `most` is the limit, in digits.
 ///
 /// Takes no memory. Doesn't wait, unless the standard error does.
 /// Own rule: docs/COMMANDS.md#messages.

@@ -20,7 +20,7 @@ pub fn tell_limit<R: Eprint>(rt: &R) {
     );
 }
 
-/// Says the same of a job, if it ended so.
+/// Says what to do, if a job's status is that of a limit that was passed.
 ///
 /// Takes no memory. Doesn't wait, unless the standard error does.
 /// Own rule: docs/COMMANDS.md#messages.

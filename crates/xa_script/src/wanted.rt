@@ -34,7 +34,8 @@ const TOKENS: [(&[u8], &str); 24] = [
     (b"XID", "XID"),
 ];
 
-/// Returns whether some statement goes on with this token after the front.
+/// Returns whether reading doesn't go wrong at this token, a blank after the front. If the front begins some
+/// statement, that is whether some statement goes on with the token.
 fn takes(alloc: Global, front: &[u8], token: &[u8]) -> Result<bool, NoMemory>
     // Proved (scripts, wanted-tokens): A token is named as wanted at a syntax fault exactly if reading
     //   doesn't go wrong at it there.
@@ -46,6 +47,7 @@ fn takes(alloc: Global, front: &[u8], token: &[u8]) -> Result<bool, NoMemory>
     text.extend_from_slice(token)?;
     match read_statement(text.as_slice()) {
         Ok(_) => Ok(true),
+        // A fault at another place, as at the end of the text, isn't the token's.
         Err(fault) => Ok(fault.at != place),
     }
 }
@@ -68,7 +70,7 @@ fn names_behind(alloc: Global, front: &[u8]) -> Result<Vec<&'static str>, NoMemo
     Ok(names)
 }
 
-/// Returns the names in one text.
+/// Returns the names in one text, with commas between them and `or` before the last.
 fn joined(alloc: Global, names: &[&str]) -> Result<String, NoMemory> {
     let mut text = String::new(alloc);
     for index in 0..names.len() {
@@ -92,6 +94,7 @@ fn joined(alloc: Global, names: &[&str]) -> Result<String, NoMemory> {
 /// Errors: `NoMemory`. Doesn't wait.
 /// Own rule: docs/COMMANDS.md#options-of-every-job.
 pub fn wanted_at(alloc: Global, text: &[u8], at: usize) -> Result<String, NoMemory> {
+    // A fault is never behind the text's end, but only a slice within the text can be taken.
     let front = &text[..at.min(text.len())];
     let names = names_behind(alloc, front)?;
     joined(alloc, names.as_slice())

@@ -45,8 +45,9 @@ pub struct Watch<'r, I: Read + Drop, R> {
 }
 
 impl<'r, I: Read + Drop, R: Eprint + Alloc<A = Global>> Watch<'r, I, R> {
-    /// Returns a reader that looks at the lines of this one if `speaks` or `counts`. Lines have at most
-    /// `most` bytes.
+    /// Returns a reader of the same bytes that looks at their lines, if `speaks` or `counts`: it notes whether some
+    /// line is faulty, and if `speaks`, reports what has to come in each that is. A line of more than `most` bytes is
+    /// faulty.
     ///
     /// Takes no memory. Doesn't wait.
     pub fn new(
@@ -79,8 +80,8 @@ impl<'r, I: Read + Drop, R: Eprint + Alloc<A = Global>> Watch<'r, I, R> {
         }
     }
 
-    /// Returns a reader of a file, one of several, that looks at its lines if `speaks` or `counts`. No line of it is
-    /// too long.
+    /// Returns a reader of a file, one of several, that looks at its lines as `new` says of `speaks` and `counts`. No
+    /// line of it is too long.
     ///
     /// Takes no memory. Doesn't wait.
     pub fn of_file(
@@ -111,7 +112,7 @@ impl<'r, I: Read + Drop, R: Eprint + Alloc<A = Global>> Watch<'r, I, R> {
         }
     }
 
-    /// Returns whether a line had a syntax fault.
+    /// Returns whether a line was faulty; false also if lines aren't looked at.
     ///
     /// Errors: `NoMemory` if memory was refused for looking at the lines.
     /// Takes no memory. Doesn't wait.
@@ -145,7 +146,7 @@ impl<'r, I: Read + Drop, R: Eprint + Alloc<A = Global>> Watch<'r, I, R> {
         }
     }
 
-    /// Reports what the line that has been read lacks.
+    /// Reports, if it speaks, what the line that has been read lacks, and before the first fault the file's name.
     fn blame(&self, fault: LineFault<'_>) -> Result<(), NoMemory> {
         if self.speaks {
             self.tell_name();
@@ -158,6 +159,7 @@ impl<'r, I: Read + Drop, R: Eprint + Alloc<A = Global>> Watch<'r, I, R> {
     fn fault(&self) -> Option<LineFault<'_>>
         ensures { is_some result ≡ is_unread self.now.kind self.now.most self.now.rows self.now.line.items }
     {
+        // Only its front is kept, of which nothing else can be said.
         if self.line.len() > self.most {
             return Some(LineFault::TooLong);
         }
@@ -167,7 +169,7 @@ impl<'r, I: Read + Drop, R: Eprint + Alloc<A = Global>> Watch<'r, I, R> {
         self.kind.fault_in(self.line.as_slice())
     }
 
-    /// Counts the rows that the line says that the next lines are, or the line as one of them.
+    /// Counts the rows that the line says that the next lines are, or the line as one of them, faulty or not.
     fn count_rows(&mut self)
         ensures inner { self.new.inner ≡ self.old.inner }
         ensures faulty { self.new.faulty ≡ self.old.faulty }
@@ -196,18 +198,22 @@ impl<'r, I: Read + Drop, R: Eprint + Alloc<A = Global>> Watch<'r, I, R> {
         ensures kind { OnOk result (self.new.kind ≡ kind_after self.old.kind self.old.line.items) }
         ensures begun { OnOk result (self.new.line.items ≡ []) }
     {
+        // This line may settle the kind, and is then of that kind itself.
         self.kind = self.kind.settled_by(self.line.as_slice());
         if let Some(fault) = self.fault() {
             self.blame(fault)?;
+            // Only now, since the file's name is reported as long as no line was faulty.
             self.faulty = true;
         }
+        // The fault depends on whether this line has to be a row, so rows are counted after it.
         self.count_rows();
         self.line.clear();
+        // So many lines never come. The sum saturates only because it mustn't overflow.
         self.number = self.number.saturating_add(1);
         Ok(())
     }
 
-    /// Takes a byte. Of a line that is too long no more is kept than shows that.
+    /// Takes a byte; a line feed ends the line. Of a line that is too long one byte more is kept than it may have.
     fn take_byte(&mut self, byte: u8) -> Result<(), NoMemory>
         ensures inner { self.new.inner ≡ self.old.inner }
         // Proved (scripts, strict-lines)
@@ -220,6 +226,7 @@ impl<'r, I: Read + Drop, R: Eprint + Alloc<A = Global>> Watch<'r, I, R> {
         if byte == b'\n' {
             return self.end_line();
         }
+        // The one byte more shows at the line's end that it is too long.
         if self.line.len() <= self.most {
             self.line.push(byte)?;
         }
@@ -244,7 +251,8 @@ impl<'r, I: Read + Drop, R: Eprint + Alloc<A = Global>> Watch<'r, I, R> {
         }
     }
 
-    /// Looks at the end: its line may lack a line feed, and rows of a return may still be missing.
+    /// Looks at the end: its line may lack a line feed, and rows of a return may still be missing. Missing rows are
+    /// reported, if it speaks, and make no line faulty.
     fn look_at_end(&mut self)
         ensures { self.new.inner ≡ self.old.inner }
     {
@@ -255,6 +263,7 @@ impl<'r, I: Read + Drop, R: Eprint + Alloc<A = Global>> Watch<'r, I, R> {
             let wanted = LineWanted::Row;
             let missing = LineFault::NoRecord(LineGap { wanted, at: 0 });
             self.refused |= self.blame(missing).is_err();
+            // If the end is read again, this isn't reported again.
             self.rows = 0;
         }
     }

@@ -68,13 +68,13 @@ known_prepared state xid e = by (map.get state.branches xid) e
     by None e = absurd (true≢false (sym e))
     by (Some branch) e = refl
 
--- the branch that a session has open is known
+-- the ACTIVE branch that a session has open is known
 pub known_active : (state : State) (session : ℕ) (own : Xid) → association_of state session ≡ Active own
     → is_known state own ≡ true
 known_active state session own is =
     known_in state own PhaseActive (subst (IsOpen state) is (open_association state session))
 
--- a branch that is IDLE is there
+-- the IDLE branch that a session has open is known
 pub known_idle : (state : State) (session : ℕ) (own : Xid) → association_of state session ≡ Idle own
     → is_known state own ≡ true
 known_idle state session own is =
@@ -86,17 +86,17 @@ unprepared state xid e = ap (λ phase. option_map_or is_prepared_phase phase fal
 
 -- ---- tests that let a statement through
 
--- a reply that is Ok only if a test holds isn't a refusal: the test held
+-- if a reply that accepts only where a test holds isn't a refusal, the test holds
 pub passes : (b : Bool) (error : XaError) → is_refused (ok_if b error) ≡ false → b ≡ true
 passes true error e = refl
 passes false error e = absurd (true≢false e)
 
--- a reply that is a refusal if a test holds isn't one: the test failed
+-- if a reply that refuses where a test holds isn't a refusal, the test fails
 let_through : (b : Bool) (error : XaError) (reply : Reply) → is_refused (refused_if b error reply) ≡ false → b ≡ false
 let_through true error reply e = absurd (true≢false e)
 let_through false error reply e = refl
 
--- a statement that has to name the session's own branch wasn't refused: it names it
+-- if a statement that has to name the session's own branch isn't refused, it names it
 pub own_is : (xid own : Xid) (error : XaError) → is_refused (ok_if (same_xid xid own) error) ≡ false → xid ≡ own
 own_is xid own error e = same_is xids_total exact_xids xid own (passes (same_xid xid own) error e)
 
@@ -161,7 +161,7 @@ pub accepted_put : (state : State) (own : Xid) (key : List ℕ) (value : Text)
 unfolding table
 accepted_put state own key value e = let_through (is_held_against state (Active own) key) _ _ e
 
--- outside of a branch: only if no branch at all holds it
+-- a PUT outside a branch is accepted only if no branch holds the row
 pub accepted_put_free : (state : State) (key : List ℕ) (value : Text)
     → is_refused (table state Free (Put key value)) ≡ false
     → is_held_against state Free key ≡ false
@@ -174,7 +174,7 @@ pub accepted_del : (state : State) (own : Xid) (key : List ℕ) → is_refused (
 unfolding table
 accepted_del state own key e = let_through (is_held_against state (Active own) key) _ _ e
 
--- outside of a branch: only if no branch at all holds it
+-- a DEL outside a branch is accepted only if no branch holds the row
 pub accepted_del_free : (state : State) (key : List ℕ) → is_refused (table state Free (Del key)) ≡ false
     → is_held_against state Free key ≡ false
 unfolding table
@@ -210,14 +210,15 @@ locked_again state own key held = by (map.get state.branches own) refl held
 
 -- ---- statements and their steps
 
--- the association's own test, as the answers to the session's statements have it
+-- if the reply to a session's statement isn't a refusal, the table doesn't refuse it for what the session has open
 pub accepted_there : (state : State) (session : ℕ) (statement : Statement)
     → is_refused (reply_to state session statement) ≡ false
     → is_refused (table state (association_of state session) statement) ≡ false
 unfolding reply_to
 accepted_there state session statement e = e
 
--- a reply to a session that isn't a refusal, by what the session has open
+-- if the reply to a session's statement isn't a refusal, the table doesn't refuse it for an association that the
+-- session has
 pub accepted_as : (state : State) (session : ℕ) (statement : Statement) (association : Association)
     → association_of state session ≡ association
     → is_refused (reply_to state session statement) ≡ false → is_refused (table state association statement) ≡ false
@@ -260,7 +261,7 @@ pub replied : (state : State) (session : ℕ) (association : Association) (state
 unfolding reply_to
 replied state session association statement reply is answered = answered ∙ ap (λ s. table state s statement) is
 
--- an allocation fails only where the statement enters and makes a record
+-- a statement that isn't refused, is logged and makes a record may take memory
 pub may_run_out : (old : State) (session : ℕ) (statement : Statement) →
     is_refused (reply_to old session statement) ≡ false → may_enter old (association_of old session) statement ≡ true
     → makes_record statement ≡ true
@@ -276,7 +277,8 @@ may_run_out old session statement accepted enters_it makes =
     or_true true = refl
     or_true false = refl
 
--- if a statement that isn't refused ends in a fault, it may enter: only such a one takes memory
+-- if a statement that isn't refused fails only where it is logged and makes a record, it fails only where it may take
+-- memory
 pub may_run_out_at : {T E : Type 0} (result : Result T E) (old : State) (session : ℕ) (statement : Statement) →
     is_refused (reply_to old session statement) ≡ false → OnErr result
     (may_enter old (association_of old session) statement ≡ true)

@@ -71,7 +71,7 @@ unneeded_mode xid row e = none_of (lock_by xid row) (by (is_some (lock_by xid ro
 unneeded_write : (xid : Xid) (row : RowRecord) → is_needed row ≡ false → write_by xid row ≡ None
 unneeded_write xid row e = unwritten xid (Some row) (ap is_some (unneeded_mode xid row e))
 
--- a record says what it said, kept or not, where one that isn't needed says nothing
+-- if a record says nothing where it isn't needed, it says the same once it is dropped where it isn't needed
 kept_says : {W : Type 0} (says : RowRecord → Option W) (row : RowRecord) → (is_needed row ≡ false → says row ≡ None)
     → option_and_then says (kept row) ≡ says row
 kept_says says row nothing = by (is_needed row) refl
@@ -80,7 +80,8 @@ kept_says says row nothing = by (is_needed row) refl
     by true e = refl
     by false e = sym (nothing e)
 
--- what a freed record says of another branch is what the record said
+-- if freeing changes nothing of what a record says, and one that isn't needed says nothing, a row's record says the
+-- same after it was freed, and dropped where it isn't needed
 freed_says : {W : Type 0} (says : RowRecord → Option W) → ((row : RowRecord) → is_needed row ≡ false → says row ≡ None)
     → (commits : Bool) (xid : Xid) →
     ((row : RowRecord) → says (freed_row commits xid row) ≡ says row) → (found : Option RowRecord)
@@ -95,7 +96,7 @@ freed_mode commits xid None = refl
 freed_mode commits xid (Some row) = kept_says (lock_by xid) (freed_row commits xid row)
     (unneeded_mode xid (freed_row commits xid row)) ∙ freed_own xid row.lock
 
--- the committed value of a record that was freed
+-- the committed value after a branch ended: its write, if it commits and wrote; else the value before
 value_after : Bool → Option Write → Option Text → Option Text
 value_after commits write value = cond commits (unwrap_or write value) value
 
@@ -125,7 +126,7 @@ unheld_value commits xid found none =
     same true = refl
     same false = refl
 
--- the branch's rows stand in the list
+-- each row that the branch holds is in the list
 abbrev pub IsListedIn : Xid → List (List ℕ) → RowMap → Type 0
 IsListedIn xid keys rows = (key : List ℕ) → is_some (mode_of xid (map.get rows key)) ≡ true
     → list_any (eq_by_cmp bytes_cmp key) keys ≡ true
@@ -158,7 +159,7 @@ beside_write commits xid keys old new frees other apart key =
         (λ row. freed_writes xid other row.lock apart) (map.get old key)
     at false = refl
 
--- a row that isn't listed isn't the branch's
+-- if the rows of a branch are in a list, it doesn't hold a row that isn't in the list
 unlisted : (xid : Xid) (keys : List (List ℕ)) (rows : RowMap) → IsListedIn xid keys rows → (key : List ℕ)
     → list_any (eq_by_cmp bytes_cmp key) keys ≡ false
     → is_some (mode_of xid (map.get rows key)) ≡ false
@@ -168,7 +169,7 @@ unlisted xid keys rows listed key none = by (is_some (mode_of xid (map.get rows 
     by true held = absurd (true≢false (sym (listed key held) ∙ none))
     by false e = refl
 
--- the branch that ended holds no row
+-- if each row of a branch is in a list, the branch holds no row after the rows of the list were freed
 pub own_mode : (commits : Bool) (xid : Xid) (keys : List (List ℕ)) (old new : RowMap) → Frees commits xid keys old new
     → IsListedIn xid keys old
     → (key : List ℕ) → is_some (mode_of xid (map.get new key)) ≡ false

@@ -19,7 +19,7 @@ refuted : (b : Bool) → not b ≡ false → b ≡ true
 refuted true e = refl
 refuted false e = absurd (true≢false e)
 
--- what has no place in the history does nothing
+-- a statement that isn't logged if it is accepted has no effect
 idles : (state : State) (session : ℕ) (association : Association) (statement : Statement)
     → may_enter state association statement ≡ false
     → effect state session association statement ≡ state

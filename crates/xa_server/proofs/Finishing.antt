@@ -30,7 +30,7 @@ is_ready found = option_map_or is_prepared_phase (option_map (λ (b : Branch). b
 
 -- ---- what makes a branch PREPARED
 
--- neither the old nor the new branch is PREPARED, so none is, whichever it becomes
+-- if neither the new nor the old branch is PREPARED, the one of them that a test takes isn't
 stays : (b : Bool) (new found : Option Branch) → is_ready found ≡ false → is_ready new ≡ false
     → is_ready (cond b new found) ≡ false
 stays true new found e n = n

@@ -27,7 +27,7 @@ use Rattle.xa_server.proofs.Holders.{none_of, itself}
 use mathlib.Core.Bool.{true≢false}
 use Rattle.std.proofs.lemmas.List.Folds.{list_any-append}
 
--- a branch that doesn't share a row isn't taken out
+-- taking a branch that doesn't share the row out of its sharers changes nothing
 not_there : (sharers : Sharing) (xid : Xid) → set.contains sharers xid ≡ false → set.remove sharers xid ≡ sharers
 not_there sharers xid none =
     same_set xids_total exact_xids _ _ (λ other. contains-remove xids_total sharers xid other
@@ -91,12 +91,13 @@ freed_twice commits xid (Some row) =
     by ended twice true e = rw e (ap kept twice ∙ rw e refl)
     by ended twice false e = rw e refl
 
--- a test of the keys of a list with one key
+-- a choice by a test, or by false, is the choice by that test
 any_one : (b : Bool) {A : Type 0} (x y : A) → cond (b || false) x y ≡ cond b x y
 any_one true x y = refl
 any_one false x y = refl
 
--- a row that is let go, and whose record is dropped where it isn't needed
+-- if one key's record is freed, and dropped where it isn't needed, and all others are as before, the records are
+-- freed of the list of that key
 pub frees_one :
     (commits : Bool) (xid : Xid) (key : List ℕ) (old new : RowMap) →
     map.get new key ≡ freed commits xid (map.get old key) →
@@ -170,7 +171,8 @@ frees_dropped commits xid key old mid new needed changes tells is gone =
         (λ other apart. get_removed_apart bytes_total exact_texts _ key other apart
         ∙ get_inserted_apart bytes_total exact_texts (rows_in old) key _ other apart))
 
--- what the loop over the keys keeps: what is left to free, of what is there, is what was to free
+-- what the loop over the keys keeps: freeing the rows of the keys that are left, from the records as they are now,
+-- gives what freeing all of the keys gives from the old records
 pub record IsFreed (commits : Bool) (xid : Xid) (all rest : List (List ℕ)) (old now : RowMap) : Type 0 where
   pub left : (key : List ℕ) →
       cond (list_any (eq_by_cmp bytes_cmp key) rest) (freed commits xid (map.get now key)) (map.get now key)
@@ -199,7 +201,7 @@ freed_one_more commits xid all rest key old now next is frees = record {
       ∙ is.left other;
 }
 
--- a branch comes to hold a row that has a record
+-- a row that has a record, with an exclusive lock set in it, is in the map a row that the branch holds with this change
 pub holds_known : (key : List ℕ) (xid : Xid) (change : Change) (old new : BTreeMap (List ℕ) RowRecord)
     (back : Option Lock) →
     MatchOption (tree.get bytes_cmp old key) (new ≡ old) (λ row. Updates bytes_cmp old new key
@@ -219,7 +221,8 @@ holds_known key xid change old new back changes told is = by (tree.get bytes_cmp
         ∙ ap (λ found. map.insert (rows_in old) key (held_row xid change found))
         (sym (get_view bytes_total exact_texts old key ∙ e))
 
--- a branch comes to hold a row that had no record
+-- a row that had no record, with one made of the exclusive lock, is in the map a row that the branch holds with this
+-- change
 pub holds_new : (key : List ℕ) (xid : Xid) (change : Change) (old mid new : BTreeMap (List ℕ) RowRecord)
     (back : Option Lock) (lock : Lock) →
     MatchOption (tree.get bytes_cmp old key) (mid ≡ old) (λ row. Updates bytes_cmp old mid key
@@ -280,7 +283,7 @@ nothing_shared xid key old new shares none = by (tree.get bytes_cmp old key) non
     by None e same = same
     by (Some row) e updates = absurd (true≢false e)
 
--- a branch comes to share a row that has a record
+-- a row that has a record, with one sharer more in it, is in the map a row that the branch shares
 pub shares_known : (xid : Xid) (key : List ℕ) (old new : BTreeMap (List ℕ) RowRecord) → Shares xid key old new
     → is_some (tree.get bytes_cmp old key) ≡ true →
     rows_in new ≡ map.insert (rows_in old) key (shared_row xid (map.get (rows_in old) key))
@@ -295,7 +298,7 @@ shares_known xid key old new shares there = by (tree.get bytes_cmp old key) refl
         row_set old new key _ updates ∙ ap (λ found. map.insert (rows_in old) key (shared_row xid found))
         (sym (get_view bytes_total exact_texts old key ∙ e))
 
--- a branch comes to share a row that had no record
+-- a row that had no record, with one made of this sharer, is in the map a row that the branch shares
 pub shares_new : (xid : Xid) (key : List ℕ) (old mid new : BTreeMap (List ℕ) RowRecord) (lock : Lock)
     → Shares xid key old mid
     → is_some (tree.get bytes_cmp old key) ≡ false →

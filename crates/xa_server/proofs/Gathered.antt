@@ -21,7 +21,7 @@ none_at true here e = e
 none_at false here e = refl
 
 module _ {K V W : Type 0} {R : K → K → Ordering} (total : IsTotalOrder R) (exact : CmpEqualImpliesEq R) where
-  -- at the key that comes first
+  -- what is gathered at a key and more keys has, at that key, what is found in its record
   first_at : (found : V → Option W) (records : FinMap R V) (ks : List K) (k q : K) → q ≡ k →
       get (gather_at found records ks) q ≡ cond (list_any (eq_by_cmp R q) ks)
       (option_and_then found (get records q)) None →
@@ -43,7 +43,7 @@ module _ {K V W : Type 0} {R : K → K → Ordering} (total : IsTotalOrder R) (e
       ∙ sym (ap (λ b. cond (b || list_any (eq_by_cmp R q) ks) (option_and_then found (get records q)) None)
       (ap (eq_by_cmp R q) (sym is) ∙ same_itself total exact q) ∙ e)
 
-  -- at another key
+  -- what is gathered at a key and more keys has, at another key, what is gathered there at the other keys
   beside : (found : V → Option W) (records : FinMap R V) (ks : List K) (k q : K) → eq_by_cmp R q k ≡ false →
       get (gather_at found records ks) q ≡ cond (list_any (eq_by_cmp R q) ks)
       (option_and_then found (get records q)) None →
@@ -56,7 +56,8 @@ module _ {K V W : Type 0} {R : K → K → Ordering} (total : IsTotalOrder R) (e
       get_inserted_apart total exact (gather_at found records ks) k w q apart ∙ rest
       ∙ sym (ap (λ b. cond (b || list_any (eq_by_cmp R q) ks) (option_and_then found (get records q)) None) apart)
 
-  -- at a key that stands in the list, what is found in its record
+  -- what is gathered at the keys of a list has, at each key of the list, what is found in its record, and nothing
+  -- elsewhere
   get-gather_at : (found : V → Option W) (records : FinMap R V) (ks : List K) (q : K) →
       get (gather_at found records ks) q ≡ cond (list_any (eq_by_cmp R q) ks)
       (option_and_then found (get records q)) None
@@ -68,12 +69,13 @@ module _ {K V W : Type 0} {R : K → K → Ordering} (total : IsTotalOrder R) (e
         | inr apart ↦ beside found records ks k q apart rest (option_and_then found (get records k))
       ]
 
+  -- what is found in a record, if there is a record, is what is found in it
   there_only : (found : V → Option W) (here : Option V) → cond (is_some here) (option_and_then found here) None
       ≡ option_and_then found here
   there_only found None = refl
   there_only found (Some v) = refl
 
-  -- at each key, what is found in its record
+  -- what is gathered has, at each key, what is found in its record
   pub get-gather : (found : V → Option W) (records : FinMap R V) (q : K)
       → get (gather found records) q ≡ option_and_then found (get records q)
   unfolding gather
@@ -82,17 +84,20 @@ module _ {K V W : Type 0} {R : K → K → Ordering} (total : IsTotalOrder R) (e
       ∙ ap (λ b. cond b (option_and_then found (get records q)) None) (sym (contains_key-keys records q))
       ∙ there_only found (get records q)
 
+  -- changing the values of entries leaves whether a key is below them all
   below-map_values : (change : K → V → W) (k : K) (es : List (K × V))
       → below_all R k (map_values change es) ≡ below_all R k es
   below-map_values change k [] = refl
   below-map_values change k (e ∷ es) = ap (λ b. is_lt (R k e.0) && b) (below-map_values change k es)
 
+  -- changing the values of entries leaves whether they are sorted
   sorted-map_values : (change : K → V → W) (es : List (K × V)) → is_sorted R (map_values change es) ≡ is_sorted R es
   sorted-map_values change [] = refl
   sorted-map_values change (e ∷ es) =
       ap (λ b. b && is_sorted R (map_values change es)) (below-map_values change e.0 es)
       ∙ ap (λ b. below_all R e.0 es && b) (sorted-map_values change es)
 
+  -- the entries of a map with its values changed are its entries with their values changed
   pub entries-mapped : (change : K → V → W) (records : FinMap R V)
       → entries (mapped change records) ≡ map_values change (entries records)
   unfolding mapped
@@ -100,16 +105,18 @@ module _ {K V W : Type 0} {R : K → K → Ordering} (total : IsTotalOrder R) (e
       entries-from_sorted R (map_values change (entries records))
       (subst T (sym (sorted-map_values change (entries records))) (entries_sorted records))
 
+  -- changing the values of entries leaves their keys
   keys-map_values : (change : K → V → W) (es : List (K × V))
       → map (λ (e : K × W). e.0) (map_values change es) ≡ map (λ (e : K × V). e.0) es
   keys-map_values change [] = refl
   keys-map_values change (e ∷ es) = ap (λ ks. e.0 ∷ ks) (keys-map_values change es)
 
-  -- the same keys
+  -- a map with its values changed has the same keys
   pub keys-mapped : (change : K → V → W) (records : FinMap R V) → keys (mapped change records) ≡ keys records
   keys-mapped change records =
       ap (map (λ (e : K × W). e.0)) (entries-mapped change records) ∙ keys-map_values change (entries records)
 
+  -- a look-up in entries with their values changed finds the changed value
   find-map_values : (change : K → V → W) (es : List (K × V)) (q : K)
       → find R q (map_values change es) ≡ option_map (change q) (find R q es)
   find-map_values change [] q = refl
@@ -126,7 +133,7 @@ module _ {K V W : Type 0} {R : K → K → Ordering} (total : IsTotalOrder R) (e
         ∙ sym (ap (option_map (change q)) (ap (λ b. cond b (Some e.1) (find R q es)) apart))
   ]
 
-  -- at each key the changed value
+  -- a map with its values changed has the changed value at each key
   pub get-mapped : (change : K → V → W) (records : FinMap R V) (q : K)
       → get (mapped change records) q ≡ option_map (change q) (get records q)
   get-mapped change records q =

@@ -23,7 +23,7 @@ use Rattle.xa_server.proofs.Maps.{same_or_apart, same_itself, same_is}
 
 -- ---- tests
 
--- a mode that is there if a test holds
+-- an option that is Some where a test holds, and else None, is Some as the test says
 pub some_if : (b : Bool) (mode : LockMode) → is_some (cond b (Some mode) None) ≡ b
 some_if true mode = refl
 some_if false mode = refl
@@ -127,7 +127,7 @@ none_passes p = same_any p (set.items (set.empty {R = xid_cmp})) []
 abbrev pub mode_of : Xid → Option RowRecord → Option LockMode
 mode_of xid found = option_and_then (lock_by xid) found
 
--- a row without a record is nobody's
+-- how a branch holds a row depends on the row's lock alone, which is nobody's if the row has no record
 pub mode_of-lock : (xid : Xid) (found : Option RowRecord) → mode_of xid found ≡ mode_in xid (lock_of found)
 mode_of-lock xid None = sym (ap (λ b. cond b (Some Shared) None) (contains-empty xid_cmp xid))
 mode_of-lock xid (Some row) = refl

@@ -35,7 +35,7 @@ front_of : (keys : List (List ℕ)) (key : List ℕ) → without_last (keys ++ k
 front_of keys key = rw (length-append) (let n : (length keys + 1) - 1 ≡ length keys = omega arith in
     rw n (take-append_seam keys (key ∷ [])))
 
--- the branches, one of which was changed by its name
+-- the records with one changed at an identifier are those with it changed at an equal identifier
 pub changed_as : (branches new : BranchMap) (own named : Xid) (change : BranchRecord → BranchRecord) → named ≡ own
     → new ≡ with_record branches named change → new ≡ with_record branches own change
 changed_as branches new own named change same is = is ∙ ap (λ xid. with_record branches xid change) same
@@ -65,7 +65,7 @@ back : (key : List ℕ) (branch : BranchRecord) → shorter (longer key branch) 
 unfolding longer shorter
 back key branch = λ i. record { phase = branch.phase; owner = branch.owner; held = front_of branch.held key i }
 
--- to take the key out again leaves the records as they were
+-- listing a key in the record of one branch and dropping it again leaves all records as they were
 pub unlisted : (branches : BranchMap) (xid : Xid) (key : List ℕ)
     → with_record (with_record branches xid (longer key)) xid shorter ≡ branches
 unlisted branches xid key = by (map.get branches xid) refl
@@ -103,7 +103,8 @@ known_longer branches xid key known =
     by None e = e
     by (Some branch) e = refl
 
--- what holding a row that the branch didn't hold leaves, where no other holds it
+-- if a branch comes to hold, with a change, a row that no branch held, and lists it, the records stay whole; in the
+-- state the branch has that write and lock
 pub held_anew : (branches : BranchMap) (rows : RowMap) (own : Xid) (key : List ℕ) (change : Change)
     → IsWhole branches rows
     → is_known (state_of branches rows) own ≡ true →
@@ -122,7 +123,8 @@ held_anew branches rows own key change whole known unheld none =
           ∙ ap (λ s. with_changed s own (with_change key change)) (seen_listed branches rows own key),
     )
 
--- what a new change of a row that the branch holds, in either way, leaves
+-- if a branch makes a new change of a row that it holds, in either way, and no other does, the records stay whole; in
+-- the state the branch has that write and lock
 pub held_again : (branches : BranchMap) (rows : RowMap) (own : Xid) (key : List ℕ) (change : Change)
     → IsWhole branches rows
     → is_known (state_of branches rows) own ≡ true →
@@ -141,7 +143,7 @@ held_again branches rows own key change whole known unheld there =
       seen_held branches rows own key change (known_record branches rows own known) free,
     )
 
--- a row that isn't held against a branch, and that the branch doesn't hold, may be shared by the branch
+-- a row that no other branch holds exclusively, and that the branch doesn't hold, may be shared by the branch
 shareable : (branches : BranchMap) (rows : RowMap) (own : Xid) (key : List ℕ) → IsWhole branches rows
     → is_locked_against (state_of branches rows) (Active own) key ≡ false
     → holds (state_of branches rows) own key ≡ false →
@@ -151,7 +153,8 @@ shareable branches rows own key whole unlocked unheld = record {
   unlocked = sym (locked_against-seen branches rows (Active own) key whole) ∙ unlocked;
 }
 
--- what sharing a row that the branch didn't hold leaves, where no other holds it exclusively
+-- if a branch comes to share a row that it didn't hold and no other holds exclusively, and lists it, the records stay
+-- whole; in the state the branch has that lock
 pub shared_anew : (branches : BranchMap) (rows : RowMap) (own : Xid) (key : List ℕ) → IsWhole branches rows
     → is_known (state_of branches rows) own ≡ true →
     is_locked_against (state_of branches rows) (Active own) key ≡ false → holds (state_of branches rows) own key ≡ false

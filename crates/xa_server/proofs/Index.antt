@@ -55,7 +55,7 @@ indexed_empty nothing free = record {
   phased = λ session xid e. not_none session (ap owner_in (sym (get-empty xid_cmp xid)) ∙ e);
 }
 
--- records with the owners and the phases that they had
+-- the index stays right if the records have the owners and the phases that they had
 pub indexed_moved :
     (opened : List Association) (nothing : Association) (old new : BranchMap)
     → ((xid : Xid) → owner_of new xid ≡ owner_of old xid) →
@@ -68,7 +68,7 @@ indexed_moved opened nothing old new owner phase is = record {
       ∙ ap (λ p. association_in p xid) (sym (phase xid));
 }
 
--- an index in which each session has open what it had
+-- the index stays right if each session has open in it what it had
 pub indexed_grown :
     (opened longer : List Association) (nothing : Association) (branches : BranchMap)
     → ((at : ℕ) → opened_at longer at ≡ opened_at opened at) →
@@ -102,7 +102,7 @@ pub owner_within :
 owner_within opened nothing branches session xid owner is =
     named_within opened session xid (is.listed session xid owner)
 
--- the look-ups once the record of one identifier is this one
+-- what a look-up finds once the record of one identifier is this one, or none, and the others are as they were
 pub found_with : BranchMap → Xid → Option BranchRecord → Xid → Option BranchRecord
 found_with old xid found other = cond (same_xid other xid) found (map.get old other)
 
@@ -134,7 +134,7 @@ pub record IsSeat (opened : List Association) (old : BranchMap) (session : ℕ) 
   pub owned : (at : ℕ) → owner_in found ≡ Some at → (named_in association ≡ Some xid)
       × (association ≡ association_in (phase_of found) xid)
 
--- a session's own branch is changed, and what the session has open with it
+-- the index stays right if a branch is changed and a session's place is set as `IsSeat` says
 pub indexed_set :
     (opened : List Association) (nothing : Association) (old new : BranchMap) (session : ℕ) (xid : Xid)
     (found : Option BranchRecord)
@@ -224,7 +224,7 @@ indexed_apart opened nothing old new xid found gets before after is = record {
       | inr apart ↦ gets other ∙ there old xid found other apart
     ]
 
--- a session that owned nothing starts a branch that nobody owned
+-- a session that owned nothing starts a branch that nobody owned: its place is set to that branch, ACTIVE
 pub seat_started :
     (opened : List Association) (old : BranchMap) (session : ℕ) (xid : Xid) (branch : BranchRecord) →
     session < length opened → owner_of old xid ≡ None → ((other : Xid) → owner_of old other ≢ Some session) →
@@ -242,10 +242,11 @@ seat_started opened old session xid branch within nobodys none owner phase = rec
 module _ (opened : List Association) (nothing : Association) (old : BranchMap) (session : ℕ) (xid : Xid)
     (owner_is : owner_of old xid ≡ Some session)
     (is : IsIndexed opened nothing old) where
+  -- the branch that the session owns is its only one
   only_own : (other : Xid) → owner_of old other ≡ Some session → other ≡ xid
   only_own other e = same_value other xid (sym (is.listed session other e) ∙ is.listed session xid owner_is)
 
-  -- a branch that a session owned is nobody's
+  -- the session's branch is changed or gone, with no owner: the session's place is set to nothing
   pub seat_freed : (found : Option BranchRecord) → owner_in found ≡ None → IsSeat opened old session xid found Free
   seat_freed found none = record {
     within = owner_within opened nothing old session xid owner_is is;
@@ -256,7 +257,7 @@ module _ (opened : List Association) (nothing : Association) (old : BranchMap) (
     owned = λ at e. not_none at (sym none ∙ e);
   }
 
-  -- a branch that a session owns is IDLE
+  -- the session's branch keeps its owner and is IDLE: the session's place is set to it, IDLE
   pub seat_idle : (branch : BranchRecord) → branch.owner ≡ Some session
       → Idle xid ≡ association_in (Some branch.phase) xid
       → IsSeat opened old session xid (Some branch) (Idle xid)
@@ -269,7 +270,7 @@ module _ (opened : List Association) (nothing : Association) (old : BranchMap) (
     owned = λ at e. (refl, phase);
   }
 
--- the look-ups once a record is put in
+-- once a record is put in, a look-up finds it at its identifier, and elsewhere what was there
 pub get-inserted : (old : BranchMap) (xid : Xid) (branch : BranchRecord) (other : Xid)
     → map.get (map.insert old xid branch) other ≡ found_with old xid (Some branch) other
 get-inserted old xid branch other = elim (same_or_apart xids_total exact_xids other xid) [
@@ -278,7 +279,7 @@ get-inserted old xid branch other = elim (same_or_apart xids_total exact_xids ot
       ∙ sym (there old xid (Some branch) other apart)
 ]
 
--- the look-ups once a record is taken out
+-- once a record is taken out, a look-up finds none at its identifier, and elsewhere what was there
 pub get-removed : (old : BranchMap) (xid : Xid) (other : Xid)
     → map.get (map.remove old xid) other ≡ found_with old xid None other
 get-removed old xid other = elim (same_or_apart xids_total exact_xids other xid) [
@@ -308,8 +309,9 @@ pub same_owner : (change : BranchRecord → BranchRecord)
 same_owner change same None = refl
 same_owner change same (Some branch) = same branch
 
--- the owners, and the phases, once one record is changed in neither
+-- changing one record leaves all owners if it leaves that record's owner, and all phases if it leaves its phase
 module _ (old : BranchMap) (xid : Xid) (change : BranchRecord → BranchRecord) where
+  -- the owners, if the change leaves the owner
   pub owner_of-changed : ((branch : BranchRecord) → (change branch).owner ≡ branch.owner) → (other : Xid)
       → owner_of (with_record old xid change) other ≡ owner_of old other
   owner_of-changed same other =
@@ -319,6 +321,7 @@ module _ (old : BranchMap) (xid : Xid) (change : BranchRecord → BranchRecord) 
         | inr apart ↦ ap owner_in (there old xid (option_map change (map.get old xid)) other apart)
       ]
 
+  -- the phases, if the change leaves the phase
   pub phase_in-changed : ((branch : BranchRecord) → (change branch).phase ≡ branch.phase) → (other : Xid)
       → phase_in (with_record old xid change) other ≡ phase_in old other
   phase_in-changed same other =
@@ -341,7 +344,7 @@ record_owned branches xid session owner = by (map.get branches xid) refl
     by None e = not_none session (sym (ap owner_in e) ∙ owner)
     by (Some branch) e = (branch, e, sym (ap owner_in e) ∙ owner)
 
--- nobody owns a branch that is changed so
+-- if a change leaves every branch without an owner, a branch that was changed so has none
 pub no_owner : (change : BranchRecord → BranchRecord) → ((branch : BranchRecord) → (change branch).owner ≡ None)
     → (found : Option BranchRecord)
     → owner_in (option_map change found) ≡ None
@@ -351,7 +354,7 @@ no_owner change frees (Some branch) = frees branch
 module _ (opened : List Association) (nothing : Association) (old : BranchMap) (session : ℕ) (xid : Xid)
     (owner_is : owner_of old xid ≡ Some session)
     (is : IsIndexed opened nothing old) where
-  -- the branch that a session owns is IDLE
+  -- the index stays right if the session's branch becomes IDLE, and the session's place is set to it, IDLE
   pub indexed_idle :
       (idle : BranchRecord → BranchRecord) → ((branch : BranchRecord) → (idle branch).owner ≡ branch.owner) →
       ((branch : BranchRecord) → (idle branch).phase ≡ PhaseIdle) →
@@ -368,7 +371,7 @@ module _ (opened : List Association) (nothing : Association) (old : BranchMap) (
           (ap (λ p. association_in (Some p) xid) (sym (phase branch))))
           is
 
-  -- the branch that a session owned is nobody's
+  -- the index stays right if the session's branch loses its owner, and the session's place is set to nothing
   pub indexed_freed :
       (change : BranchRecord → BranchRecord) → ((branch : BranchRecord) → (change branch).owner ≡ None) →
       IsIndexed (slice_set opened session Free) nothing (with_record old xid change)
@@ -379,7 +382,7 @@ module _ (opened : List Association) (nothing : Association) (old : BranchMap) (
       (no_owner change frees (map.get old xid)))
       is
 
-  -- or it is gone
+  -- the index stays right if the session's branch is removed, and the session's place is set to nothing
   pub indexed_removed : IsIndexed (slice_set opened session Free) nothing (map.remove old xid)
   indexed_removed =
       indexed_set opened nothing old (map.remove old xid) session xid None Free (λ other. get-removed old xid other)
@@ -389,7 +392,7 @@ module _ (opened : List Association) (nothing : Association) (old : BranchMap) (
 module _ (opened : List Association) (nothing : Association) (old : BranchMap) (xid : Xid)
     (nobodys : owner_of old xid ≡ None)
     (is : IsIndexed opened nothing old) where
-  -- a branch that nobody owns is changed, and nobody owns it
+  -- the index stays right if a branch that nobody owns is changed, and nobody owns it afterwards
   pub changed_apart :
       (change : BranchRecord → BranchRecord) → owner_in (option_map change (map.get old xid)) ≡ None
       → IsIndexed opened nothing (with_record old xid change)
@@ -398,12 +401,13 @@ module _ (opened : List Association) (nothing : Association) (old : BranchMap) (
       (λ other. get-changed old xid other change)
       nobodys after is
 
-  -- or it is gone
+  -- the index stays right if a branch that nobody owns is removed
   pub removed_apart : IsIndexed opened nothing (map.remove old xid)
   removed_apart = indexed_apart opened nothing old (map.remove old xid) xid None
       (λ other. get-removed old xid other) nobodys refl is
 
--- a session that owned nothing has started a branch under an identifier that no branch had
+-- the index stays right if a session that owned nothing starts a branch that nobody owned, and its place is set to
+-- that branch, ACTIVE
 pub indexed_started :
     (opened : List Association) (nothing : Association) (old : BranchMap) (session : ℕ) (xid : Xid)
     (branch : BranchRecord) →

@@ -58,6 +58,7 @@ module _ {K V W : Type 0} where
   kept found (e ∷ es) = with_kept e.0 (found e.1) (kept found es)
 
 module _ {K W : Type 0} where
+  -- a value in front of others, if there is one, makes them longer by one at most
   length-with : (k : K) (here : Option W) (rest : List (K × W)) → length (with_kept k here rest) ≤ suc (length rest)
   length-with k None rest = omega arith
   length-with k (Some w) rest = omega arith
@@ -73,12 +74,14 @@ module _ {K V W : Type 0} where
       omega arith
 
 module _ {K W : Type 0} (R : K → K → Ordering) where
+  -- a key that is below others stays so with an entry in front of them, if there is one, whose key is greater
   below_with : (k other : K) (here : Option W) (rest : List (K × W)) → is_lt (R k other) ≡ true
       → below_all R k rest ≡ true
       → below_all R k (with_kept other here rest) ≡ true
   below_with k other None rest e f = f
   below_with k other (Some w) rest e f = both (is_lt (R k other)) (below_all R k rest) e f
 
+  -- sorted entries stay so with an entry in front of them, if there is one, whose key is below theirs
   sorted_with : (k : K) (here : Option W) (rest : List (K × W)) → below_all R k rest ≡ true → is_sorted R rest ≡ true
       → is_sorted R (with_kept k here rest) ≡ true
   sorted_with k None rest e f = f
@@ -92,6 +95,7 @@ module _ {K W : Type 0} (R : K → K → Ordering) where
       ∙ find_none q es (second (is_lt (R q e.0)) (below_all R q es) h)
 
 module _ {K V W : Type 0} (R : K → K → Ordering) where
+  -- a key that is below all records is below what is found in them
   below_kept : (found : V → Option W) (k : K) (es : List (K × V)) → below_all R k es ≡ true
       → below_all R k (kept found es) ≡ true
   below_kept found k [] h = refl
@@ -99,6 +103,7 @@ module _ {K V W : Type 0} (R : K → K → Ordering) where
       below_with R k e.0 (found e.1) (kept found es) (first (is_lt (R k e.0)) (below_all R k es) h)
       (below_kept found k es (second (is_lt (R k e.0)) (below_all R k es) h))
 
+  -- what is found in sorted records is sorted
   sorted_kept : (found : V → Option W) (es : List (K × V)) → is_sorted R es ≡ true → is_sorted R (kept found es) ≡ true
   sorted_kept found [] h = refl
   sorted_kept found (e ∷ es) h =
@@ -107,7 +112,7 @@ module _ {K V W : Type 0} (R : K → K → Ordering) where
       (sorted_kept found es (second (below_all R e.0 es) (is_sorted R es) h))
 
 module _ {K V W : Type 0} {R : K → K → Ordering} (total : IsTotalOrder R) (exact : CmpEqualImpliesEq R) where
-  -- at the key that comes first
+  -- looking up the key of the first of sorted records among what is found finds what is found in that record
   find_here : (found : V → Option W) (e : K × V) (es : List (K × V)) (q : K) → q ≡ e.0 → below_all R e.0 es ≡ true
       → (here : Option W) → found e.1 ≡ here →
       find R q (with_kept e.0 here (kept found es)) ≡ option_and_then found
@@ -122,7 +127,7 @@ module _ {K V W : Type 0} {R : K → K → Ordering} (total : IsTotalOrder R) (e
       ∙ sym (ap (λ b. option_and_then found (cond b (Some e.1) (find R q es)))
       (ap (λ k. eq_by_cmp R k e.0) is ∙ same_itself total exact e.0) ∙ some)
 
-  -- at another key
+  -- looking up another key than the first record's finds what is found in the rest
   find_beside : (found : V → Option W) (e : K × V) (es : List (K × V)) (q : K) → eq_by_cmp R q e.0 ≡ false →
       find R q (kept found es) ≡ option_and_then found (find R q es) → (here : Option W) →
       find R q (with_kept e.0 here (kept found es)) ≡ option_and_then found
@@ -133,6 +138,7 @@ module _ {K V W : Type 0} {R : K → K → Ordering} (total : IsTotalOrder R) (e
       ap (λ b. cond b (Some w) (find R q (kept found es))) apart ∙ rest
       ∙ sym (ap (λ b. option_and_then found (cond b (Some e.1) (find R q es))) apart)
 
+  -- a look-up among what is found in sorted records finds what is found in the key's record
   find_kept : (found : V → Option W) (es : List (K × V)) (q : K) → is_sorted R es ≡ true
       → find R q (kept found es) ≡ option_and_then found (find R q es)
   find_kept found [] q h = refl
@@ -142,11 +148,13 @@ module _ {K V W : Type 0} {R : K → K → Ordering} (total : IsTotalOrder R) (e
         (found e.1)
   ]
 
+  -- what is found in a map's records is sorted
   kept_T : (found : V → Option W) (records : FinMap R V) → T (is_sorted R (kept found (entries records)))
   kept_T found records =
       subst T (sym (sorted_kept R found (entries records) (is_true (is_sorted R (entries records))
       (entries_sorted records)))) tt
 
+  -- what is gathered is the map that what is found in the records makes
   gather-kept : (found : V → Option W) (records : FinMap R V)
       → gather found records ≡ from_sorted {R = R} (kept found (entries records))
   gather-kept found records =
@@ -155,7 +163,7 @@ module _ {K V W : Type 0} {R : K → K → Ordering} (total : IsTotalOrder R) (e
       ∙ sym (find_kept found (entries records) q (is_true (is_sorted R (entries records)) (entries_sorted records)))
       ∙ sym (get-from_sorted R (kept found (entries records)) q (kept_T found records)))
 
-  -- what is gathered from records, in order
+  -- the entries of what is gathered are what is found in the records, in their order
   pub entries-gather : (found : V → Option W) (records : FinMap R V)
       → entries (gather found records) ≡ kept found (entries records)
   entries-gather found records = ap entries (gather-kept found records)
@@ -172,7 +180,7 @@ module _ {K V W : Type 0} {R : K → K → Ordering} (total : IsTotalOrder R) (e
       omega arith
 
 module _ {K V : Type 0} {R : K → K → Ordering} (total : IsTotalOrder R) (exact : CmpEqualImpliesEq R) where
-  -- a record that stands before those in question doesn't matter
+  -- entries that are found among all are found with one entry more in front, whose key is below theirs
   found_beside : (e : K × V) (all es : List (K × V)) → below_all R e.0 es ≡ true
       → AllByRecursion (λ (f : K × V). find R f.0 all ≡ Some f.1) es →
       AllByRecursion (λ (f : K × V). find R f.0 (e ∷ all) ≡ Some f.1) es
@@ -186,7 +194,7 @@ module _ {K V : Type 0} {R : K → K → Ordering} (total : IsTotalOrder R) (exa
             (second (is_lt (R e.0 f.0)) (below_all R e.0 es) below) h.1,
       )
 
-  -- each entry is found at its key
+  -- each of sorted entries is found at its key
   found_each : (es : List (K × V)) → is_sorted R es ≡ true → AllByRecursion (λ (e : K × V). find R e.0 es ≡ Some e.1) es
   found_each [] h = tt
   found_each (e ∷ es) h = (
@@ -195,16 +203,19 @@ module _ {K V : Type 0} {R : K → K → Ordering} (total : IsTotalOrder R) (exa
         (found_each es (second (below_all R e.0 es) (is_sorted R es) h)),
   )
 
+  -- each entry of a map is found at its key among the entries
   pub found_entries : (records : FinMap R V) → AllByRecursion (λ (e : K × V). find R e.0 (entries records) ≡ Some e.1)
       (entries records)
   found_entries records =
       found_each (entries records) (is_true (is_sorted R (entries records)) (entries_sorted records))
 
+  -- a key that is less than each key of the entries is below them all by the map's test
   below-strict : (k : K) (es : List (K × V)) → AllByRecursion (λ y. R k y ≡ Less) (map (λ (e : K × V). e.0) es)
       → below_all R k es ≡ true
   below-strict k [] h = refl
   below-strict k (e ∷ es) h = ap (λ r. is_lt r && below_all R k es) h.0 ∙ below-strict k es h.1
 
+  -- strictly ascending entries are sorted by the map's test
   sorted-strict : (es : List (K × V)) → IsStrictlySortedBy R (map (λ (e : K × V). e.0) es) → is_sorted R es ≡ true
   unfolding IsStrictlySortedBy
   sorted-strict [] h = refl

@@ -81,7 +81,7 @@ unfolding is_owned
 known_owned session None e = absurd (true≢false (sym e))
 known_owned session (Some branch) e = refl
 
--- a branch that the session alone of all branches could own, and owns, is the one that is found
+-- if a session owns this branch and no other, this one is found as its own
 pub own_found : (state : State) (session : ℕ) (xid : Xid) → owns state session xid ≡ true
     → ((other : Xid) → owns state session other ≡ true → xid ≡ other)
     → own_xid state session ≡ Some xid
@@ -128,7 +128,7 @@ accepted_prepare_own state session (Active associated) xid own e = absurd (true�
 accepted_prepare_own state session (Idle associated) xid own e =
     ap (owns state session) (own_is xid associated _ e) ∙ own
 
--- a reply that is a refusal in both cases isn't accepted
+-- a free session's one-phase XA COMMIT is refused, whether the branch is PREPARED (b) or not: so it is never accepted
 never_done : {A : Type 0} (b : Bool) → is_refused (refused_if (not b) Nota (Refused (Rmfail StatePrepared))) ≡ false → A
 never_done true e = absurd (true≢false e)
 never_done false e = absurd (true≢false e)
@@ -256,7 +256,7 @@ either : (other : ℕ) (b : Bool) (new found : Option Branch) → (is_owned othe
 either other true new found from e = from e
 either other false new found from e = e
 
--- a change that leaves the owner leaves who owns it
+-- if a change leaves the owner of every branch, a session that owns a branch after it owned it before
 same_owner : (other : ℕ) (change : Branch → Branch) → ((branch : Branch) → (change branch).owner ≡ branch.owner)
     → (found : Option Branch)
     → is_owned other (option_map change found) ≡ true → is_owned other found ≡ true
@@ -336,7 +336,8 @@ gained session other apart association statement at found e =
 
 -- ---- the law
 
--- states in which the session owns the same branches, which are as they were
+-- if a session owns after a statement only branches that it owned, and those are as they were, what it has open is as
+-- it was
 same_session : (old new : State) (session : ℕ) → LockLaw old
     → ((xid : Xid) → owns old session xid ≡ true → map.get new.branches xid ≡ map.get old.branches xid) →
     ((xid : Xid) → owns new session xid ≡ true → owns old session xid ≡ true) → LeavesSession old new session

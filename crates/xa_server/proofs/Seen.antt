@@ -222,7 +222,8 @@ association-free branches rows session free =
     ap (λ own. option_map_or (λ xid. association_in (phase_at (state_of branches rows) xid) xid) own Free)
     (own_xid-free branches rows session free)
 
--- what the index says that a session has open
+-- what the index says that a session has open, if it agrees with the records' owners and phases, is what it has open
+-- in the state
 pub association-opened : (branches : BranchMap) (rows : RowMap) (session : ℕ) (opened : Association)
     → IsWhole branches rows →
     ((xid : Xid) → named_in opened ≡ Some xid → owner_of branches xid ≡ Some session) →
@@ -309,7 +310,7 @@ pub holds-seen : (branches : BranchMap) (rows : RowMap) (xid : Xid) (key : List 
     → holds (state_of branches rows) xid key ≡ is_some (mode_of xid (map.get rows key))
 holds-seen branches rows xid key whole = ap is_some (lock_at-seen branches rows xid key whole)
 
--- a test of how the branches of others hold a row, by the row's record
+-- whether a branch that isn't the session's own holds a row in a way that passes a test, told from the row's record
 against : (branches : BranchMap) (rows : RowMap) (association : Association) (key : List ℕ)
     (passes : Option LockMode → Bool) (b : Bool) → IsWhole branches rows
     → passes None ≡ false →

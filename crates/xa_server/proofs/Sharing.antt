@@ -76,26 +76,26 @@ or_second false b e = refl
 
 -- ---- one is sought
 
--- a set of one identifier contains an identifier if that one is the same
+-- a set of one identifier contains an identifier exactly if that one is the same
 pub contains-one : (own xid : Xid) → set.contains (listed (own ∷ [])) xid ≡ same_xid xid own
 contains-one own xid = contains-from_list xids_total (own ∷ []) xid ∙ or_false (same_xid xid own)
 
--- a look-up in the set is one in the list and in the tree
+-- the set of a list and a tree contains an identifier exactly if the list or the tree does
 pub contains-several : (few : List Xid) (many : BTreeSet Xid) (xid : Xid)
     → set.contains (several_in few many) xid ≡ (list_any (same_xid xid) few || tree.contains xid_cmp many xid)
 contains-several few many xid =
     contains-from_list xids_total (few ++ many.keys) xid ∙ list_any-append (same_xid xid) few many.keys
 
--- a test that one of the list passes is one that one of the set's members passes
+-- some member of a list's set passes a test exactly if one of the list does
 pub any-listed : (p : Xid → Bool) (xids : List Xid) → list_any p (set.items (listed xids)) ≡ list_any p xids
 any-listed p xids = same_any p (set.items (listed xids)) xids
     (λ xid. sym (contains-items (listed xids) xid) ∙ contains-from_list xids_total xids xid)
 
--- some member of a set of one passes a test if that one passes
+-- some member of a set of one passes a test exactly if that one passes
 pub any-one : (p : Xid → Bool) (own : Xid) → list_any p (set.items (listed (own ∷ []))) ≡ p own
 any-one p own = any-listed p (own ∷ []) ∙ or_false (p own)
 
--- some member of a set passes if one of the first or one of the later ones does
+-- some member of the set of a list and a tree passes a test exactly if one of the list or of the tree's keys does
 pub any-several : (p : Xid → Bool) (few : List Xid) (many : BTreeSet Xid)
     → list_any p (set.items (several_in few many)) ≡ (list_any p few || list_any p many.keys)
 any-several p few many = any-listed p (few ++ many.keys) ∙ list_any-append p few many.keys
@@ -123,7 +123,7 @@ pub subset-one : (own : Xid) (all : Sharing) → set.contains all own ≡ true
     → set.is_subset (listed (own ∷ [])) all ≡ true
 subset-one own all has = subset-listed (own ∷ []) all (ap (λ b. b && true) has)
 
--- if few and many members are all in a set, the set of both is a subset of it
+-- if all of a list and of a tree's keys are in a set, the set of both is a subset of it
 pub subset-several : (few : List Xid) (many : BTreeSet Xid) (all : Sharing) → list_all (set.contains all) few ≡ true
     → list_all (set.contains all) many.keys ≡ true → set.is_subset (several_in few many) all ≡ true
 subset-several few many all has_few has_many = subset-listed (few ++ many.keys) all

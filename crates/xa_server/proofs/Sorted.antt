@@ -117,7 +117,7 @@ prepared-among es h =
 
 -- ---- going over a tree's entries
 
--- a PREPARED branch goes into the list
+-- the loop over entries: a PREPARED branch goes into the list
 pub goes_in : (xids all : List Xid) (left rest : List (Xid × BranchRecord)) (xid : Xid) (branch : BranchRecord)
     → xids ++ prepared_keys left ≡ all
     → left ≡ (xid, branch) ∷ rest → is_prepared_phase branch.phase ≡ true →

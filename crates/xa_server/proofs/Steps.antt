@@ -45,7 +45,7 @@ same_branches m n is = same_map xids_total exact_xids m n is
 -- ---- what is gathered from rows
 
 module _ {W : Type 0} (found : RowRecord → Option W) where
-  -- rows in which the same is found
+  -- if the same is found in each row's record, the same is gathered
   pub gather_same : (old new : RowMap) → ((key : List ℕ)
       → option_and_then found (map.get new key) ≡ option_and_then found (map.get old key))
       → gather found new ≡ gather found old
@@ -54,12 +54,13 @@ module _ {W : Type 0} (found : RowRecord → Option W) where
       (λ key. get-gather bytes_total exact_texts found new key ∙ is key
       ∙ sym (get-gather bytes_total exact_texts found old key))
 
+  -- if nothing is found in any row's record, nothing is gathered
   gather_none : (rows : RowMap) → ((key : List ℕ) → option_and_then found (map.get rows key) ≡ None)
       → gather found rows ≡ map.empty
   gather_none rows is = same_map bytes_total exact_texts _ _
       (λ key. get-gather bytes_total exact_texts found rows key ∙ is key ∙ sym (get-empty bytes_cmp key))
 
-  -- a row of which the same is found
+  -- setting a record in which the same is found as before leaves what is gathered
   gather_insert_same : (rows : RowMap) (key : List ℕ) (row : RowRecord)
       → found row ≡ option_and_then found (map.get rows key)
       → gather found (map.insert rows key row) ≡ gather found rows
@@ -69,6 +70,7 @@ module _ {W : Type 0} (found : RowRecord → Option W) where
         | inr apart ↦ ap (option_and_then found) (get_inserted_apart bytes_total exact_texts rows key row other apart)
       ])
 
+  -- removing a record in which nothing is found leaves what is gathered
   gather_remove_same : (rows : RowMap) (key : List ℕ) → option_and_then found (map.get rows key) ≡ None
       → gather found (map.remove rows key) ≡ gather found rows
   gather_remove_same rows key is =
@@ -77,7 +79,7 @@ module _ {W : Type 0} (found : RowRecord → Option W) where
         | inr apart ↦ ap (option_and_then found) (get_removed_apart bytes_total exact_texts rows key other apart)
       ])
 
-  -- a row of which this is found
+  -- setting a record in which a value is found sets that value in what is gathered
   gather_insert : (rows : RowMap) (key : List ℕ) (row : RowRecord) (w : W) → found row ≡ Some w
       → gather found (map.insert rows key row) ≡ map.insert (gather found rows) key w
   gather_insert rows key row w is = same_map bytes_total exact_texts _ _ (λ other.
@@ -90,6 +92,7 @@ module _ {W : Type 0} (found : RowRecord → Option W) where
             ∙ get-gather bytes_total exact_texts found rows other)
       ]))
 
+  -- removing a record removes what was found in it from what is gathered
   gather_remove : (rows : RowMap) (key : List ℕ) → gather found (map.remove rows key)
       ≡ map.remove (gather found rows) key
   gather_remove rows key = same_map bytes_total exact_texts _ _ (λ other.
@@ -102,7 +105,7 @@ module _ {W : Type 0} (found : RowRecord → Option W) where
             ∙ get-gather bytes_total exact_texts found rows other)
       ]))
 
--- records of rows that say the same of every branch stand for the same state
+-- records of rows that say the same of every branch stand for the same branches
 seen_same_rows : (branches : BranchMap) (old new : RowMap)
     → ((xid : Xid) → gather (write_by xid) new ≡ gather (write_by xid) old)
     → ((xid : Xid) → gather (lock_by xid) new ≡ gather (lock_by xid) old) →
@@ -169,7 +172,7 @@ seen_changed branches rows xid change seen is =
 pub nobodys : (xid : Xid) → mode_in xid (SharedBy set.empty) ≡ None
 nobodys xid = ap (λ b. cond b (Some Shared) None) (contains-empty xid_cmp xid)
 
--- a branch that holds no row has no writes and no locks
+-- a branch that a session has just started, and that no row's record names, is in the state as `started_by` says
 pub seen_fresh : (rows : RowMap) (xid : Xid) (session : ℕ)
     → ((key : List ℕ) → is_some (mode_of xid (map.get rows key)) ≡ false) →
     branch_seen rows xid (record { phase = PhaseActive; owner = Some session; held = [] }) ≡ started_by session
@@ -258,7 +261,8 @@ if_apart : {A : Type 0} (b : Bool) (x : A) → b ≡ false → cond b (Some x) N
 if_apart true x e = absurd (true≢false e)
 if_apart false x e = refl
 
--- the branch that comes to hold the row exclusively
+-- once a row's record says that a branch holds it with a change, the branch has that write and an exclusive lock in
+-- the state
 held_branch : (rows : RowMap) (xid : Xid) (key : List ℕ) (change : Change) (branch : BranchRecord) →
     branch_seen (map.insert rows key (held_row xid change (map.get rows key))) xid branch
     ≡ with_change key change (branch_seen rows xid branch)

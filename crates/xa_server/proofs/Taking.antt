@@ -71,17 +71,17 @@ share_exclusive locks key other = elim (same_or_apart bytes_total exact_texts ot
 
 -- ---- one branch for a row that is held exclusively
 
--- a branch that comes to hold a row is the session's, and no other holds it exclusively
+-- the branch may come to hold the row: it is the session's ACTIVE one, and no other holds the row exclusively
 abbrev pub IsTaking : State → Association → Xid → List ℕ → Type 0
 IsTaking state association at key =
     (association ≡ Active at) × ((other : Xid) → holds_exclusively state other key ≡ true → other ≡ at)
 
--- the branch may come to hold the row exclusively: it is the session's, and no other holds the row
+-- the branch may come to hold the row exclusively: it is the session's ACTIVE one, and no other holds the row
 abbrev pub IsLocking : State → Association → Xid → List ℕ → Type 0
 IsLocking state association at key =
     (association ≡ Active at) × ((other : Xid) → holds state other key ≡ true → other ≡ at)
 
--- a test of how a branch holds a row that a new branch passes only where the old one did, or where this holds
+-- if the new branch holds the row in a way that passes the test, the old one did, or `taking` holds
 unfoldable pub Before : (Option LockMode → Bool) → Type 0 → List ℕ → Option Branch → Option Branch → Type 0
 Before passes taking key new found = passes (mode_in key new) ≡ true → (passes (mode_in key found) ≡ true) ⊎ taking
 
@@ -100,7 +100,7 @@ unfolding Before mode_in
 before_started passes taking nothing key session found e =
     absurd (true≢false (sym e ∙ ap passes (get-empty bytes_cmp key) ∙ nothing))
 
--- a change that leaves what the branch holds
+-- a change that leaves a branch's locks leaves how it holds each row
 before_same : (passes : Option LockMode → Bool) (taking : Type 0) (key : List ℕ) (change : Branch → Branch)
     → ((branch : Branch) → (change branch).locks ≡ branch.locks) → (found : Option Branch)
     → Before passes taking key (option_map change found) found

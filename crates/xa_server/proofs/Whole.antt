@@ -107,7 +107,8 @@ whole_empty = record {
       ∙ sym (ap (λ found. once (is_some (mode_of xid found))) (get-empty bytes_cmp key));
 }
 
--- a branch that starts with no rows, whose session owned none
+-- the records stay whole if a branch starts under an identifier without a record: it is owned by a session that owned
+-- none, isn't PREPARED and lists no row
 pub whole_started : (branches : BranchMap) (rows : RowMap) (xid : Xid) (branch : BranchRecord) (session : ℕ) →
     map.get branches xid ≡ None → branch.owner ≡ Some session → is_prepared_phase branch.phase ≡ false
     → branch.held ≡ []
@@ -158,7 +159,8 @@ whole_started branches rows xid branch session unknown owner_is phase none free 
     one at left right e f (inr l) (inr r) =
         whole.one_owned at left right (sym (before left l) ∙ e) (sym (before right r) ∙ f)
 
--- a record that is changed, and whose owner stays or goes
+-- changing a record so that it has no owner exactly if it is PREPARED, and no new owner, keeps that this holds of all
+-- records and that a session owns at most one branch
 owners_changed : (branches : BranchMap) (xid : Xid) (change : BranchRecord → BranchRecord) →
     ((branch : BranchRecord) → map.get branches xid ≡ Some branch
     → is_none (change branch).owner ≡ is_prepared_phase (change branch).phase) →
@@ -220,7 +222,8 @@ changed_beside branches xid change other apart = by (map.get branches xid)
     by None = refl
     by (Some branch) = get_inserted_apart xids_total exact_xids branches xid (change branch) other apart
 
--- a record that is changed and lists what it listed
+-- the records stay whole if one is changed that lists what it listed, has no owner exactly if it is PREPARED, and has
+-- no new owner
 pub whole_changed : (branches : BranchMap) (rows : RowMap) (xid : Xid) (change : BranchRecord → BranchRecord) →
     ((branch : BranchRecord) → map.get branches xid ≡ Some branch
     → is_none (change branch).owner ≡ is_prepared_phase (change branch).phase) →
@@ -271,7 +274,7 @@ whole_row branches rows key row same whole =
           (get_inserted_apart bytes_total exact_texts rows key row other apart)
     ]) whole
 
--- a row that nobody holds, before and after
+-- the records stay whole if a row's record is set that no branch holds, and none held before
 pub whole_put : (branches : BranchMap) (rows : RowMap) (key : List ℕ) (row : RowRecord)
     → ((xid : Xid) → lock_by xid row ≡ None)
     → ((xid : Xid) → mode_of xid (map.get rows key) ≡ None) →

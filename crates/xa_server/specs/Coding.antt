@@ -106,7 +106,7 @@ change_back Delete = refl
 abbrev pub coded_change : Coded Change
 coded_change = code_by Write (coded_option coded_text) write_of change_of change_back
 
--- a lock is encoded as its holder, if it has one, and its sharers
+-- a lock as a pair: the branch that holds it exclusively, if one does, with its change; and the sharers
 abbrev pub holder_and_sharers : Lock → Option (Xid × Change) × Sharing
 holder_and_sharers (HeldBy holder change) = (Some (holder, change), set.empty)
 holder_and_sharers (SharedBy sharers) = (None, sharers)

@@ -1,5 +1,5 @@
 -- Finishing a prepared branch: what it means, and at which places of a history it happens.
---     Finishes        the statement ends the branch, if it is accepted
+--     Finishes        the statement finishes the branch, if it is accepted while the branch is PREPARED
 --     FinishesAt      a place of a history at which a prepared branch is finished
 --     PreparesAt      a place at which a branch is prepared
 use Rattle.std.specs.Prelude.{◌≡◌, ℕ, true, false, Some, List, take, slice_get}

@@ -2,6 +2,7 @@
 --     recorded_entry     a branch without its rows, by its record
 --     hold_in            how this branch holds a row, if it does, by the row's lock
 --     held_among         the rows that this branch holds in a list of records
+--     recorded_entries   every branch, by its record
 use Rattle.std.specs.Prelude.{ℕ, cond, Option, Some, None, List, [], ◌∷◌, map}
 use Rattle.std.specs.Option.{option_map_or}
 use Rattle.std.specs.FinMap as fin

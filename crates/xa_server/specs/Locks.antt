@@ -4,6 +4,7 @@
 --     is_held_against      whether a branch that isn't the session's own holds the row, in either way
 --     is_locked_against    whether such a branch holds it exclusively
 --     LockLaw              what every state of a server keeps
+--     is_another           the branch isn't the session's own
 use Rattle.std.specs.Prelude.{◌≡◌, ℕ, Bool, true, false, not, ◌&&◌, Option, Some, None, List, is_some}
 use Rattle.std.specs.List.{list_any}
 use Rattle.std.specs.Option.{option_and_then}

@@ -4,6 +4,7 @@
 --     rows_held, rows_of         the rows that a branch holds, ascending;  that the branch of an identifier holds
 --     keys_of                    the keys of these rows
 --     keys_about                 the rows that a statement is about
+--     keys_open                  the rows that the session's branch holds
 use Rattle.std.specs.Prelude.{ℕ, Option, Some, None, List, [], ◌∷◌, map}
 use Rattle.std.specs.Option.{option_map_or}
 use Rattle.std.specs.FinMap as fin
@@ -48,7 +49,7 @@ rows_of state xid = option_map_or rows_held (fin.get state.branches xid) []
 abbrev pub keys_of : List HeldRow → List (List ℕ)
 keys_of rows = map (λ row. row.key) rows
 
--- the rows that the session's branch holds
+-- the keys of the rows that the session's branch holds; none if the session is free
 abbrev pub keys_open : State → Association → List (List ℕ)
 keys_open state Free = []
 keys_open state (Active own) = keys_of (rows_of state own)

@@ -10,6 +10,10 @@
 --     with_change            the branch after it holds the row exclusively, with this change
 --     freed_row, freed       the record after the branch has ended
 --     Frees                  all records after the branch has ended
+--     write_in, mode_in, held_beside, locked_beside      the same as write_by, lock_by, held_against, locked_against,
+--                            by the row's lock
+--     with_sharer, freed_lock      the lock after the branch shares the row;  after it has ended
+--     is_needed, kept        whether a row needs its record;  the record, if it does
 use Rattle.std.specs.Prelude.{◌≡◌, ℕ, Bool, false, cond, ◌||◌, is_some, Option, Some, None, List}
 use Rattle.std.specs.List.{list_any}
 use Rattle.std.specs.Ordering.{eq_by_cmp}
@@ -56,7 +60,7 @@ abbrev pub write_in : Xid → Lock → Option Write
 write_in xid (HeldBy holder change) = cond (same_xid holder xid) (Some (write_of change)) None
 write_in xid (SharedBy sharers) = None
 
--- what a branch has written to a row, if it holds it exclusively and has
+-- the newest write of the row by this branch, if it wrote it, by the row's record
 abbrev pub write_by : Xid → RowRecord → Option Write
 write_by xid row = write_in xid row.lock
 
@@ -65,7 +69,7 @@ abbrev pub mode_in : Xid → Lock → Option LockMode
 mode_in xid (HeldBy holder change) = cond (same_xid holder xid) (Some Exclusive) None
 mode_in xid (SharedBy sharers) = cond (set.contains sharers xid) (Some Shared) None
 
--- how a branch has locked a row
+-- how this branch holds the row, if it does, by the row's record
 abbrev pub lock_by : Xid → RowRecord → Option LockMode
 lock_by xid row = mode_in xid row.lock
 
@@ -87,7 +91,7 @@ held_against association found = option_map_or (λ row. held_beside association 
 abbrev pub locked_against : Association → Option RowRecord → Bool
 locked_against association found = option_map_or (λ row. locked_beside association row.lock) found false
 
--- the value that the branch sees
+-- the value that the branch sees: its own newest write of the row, else the committed value
 abbrev pub value_seen : Xid → Option RowRecord → Option Text
 value_seen xid found = unwrap_or (option_and_then (write_by xid) found) (committed_of found)
 
@@ -122,7 +126,7 @@ freed_row commits xid row =
           row.lock;
     }
 
--- the record of a row that has a value or is held
+-- a row needs its record: it has a value, or a branch holds it
 abbrev pub is_needed : RowRecord → Bool
 is_needed row = is_some row.committed || held_beside Free row.lock
 
@@ -134,7 +138,8 @@ kept row = cond (is_needed row) (Some row) None
 abbrev pub freed : Bool → Xid → Option RowRecord → Option RowRecord
 freed commits xid found = option_and_then (λ row. kept (freed_row commits xid row)) found
 
--- the records after the end of a branch that held the rows of these keys
+-- the records after a branch holds the rows of these keys no more; if it commits, its writes are their values; the
+-- records of all other rows are as they were
 abbrev pub Frees : Bool → Xid → List (List ℕ) → RowMap → RowMap → Type 0
 Frees commits xid keys old new =
     (key : List ℕ) → map.get new key ≡ cond (list_any (eq_by_cmp bytes_cmp key) keys)

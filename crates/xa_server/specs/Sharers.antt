@@ -5,7 +5,7 @@ use Rattle.xa_xid.specs.Xid.{xid_cmp}
 use Rattle.xa_server.specs.declared.sharers.Branches.{Branches}
 use Rattle.xa_server.specs.declared.sharers.Branches.TheVariants.{Nobody, One, Several}
 
--- the set of these branches
+-- the branches as a set, by how many there are
 abbrev pub set_of : Branches → set.FinSet xid_cmp
 set_of Nobody = set.empty
 set_of (One xid) = set.insert set.empty xid

@@ -9,6 +9,9 @@
 --     IsOpen               the branch that an association names is in that phase
 --     committed_value, value_within      the value of a row as all see it;  as the branch sees it
 --     prepared_xids        the prepared branches, ascending
+--     phase_at, owner_at   the phase of the branch of an identifier;  the session that owns it
+--     own_xid              the branch that a session owns
+--     write_at             the branch's own newest write of a row
 use Rattle.std.specs.Prelude.{◌≡◌, ℕ, Bool, true, false, ◌==◌, Option, Some, None, List, find, filter}
 use Rattle.std.specs.Option.{option_map_or, option_and_then, option_map, unwrap_or}
 use Rattle.std.specs.FinMap as map

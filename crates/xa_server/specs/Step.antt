@@ -5,6 +5,11 @@
 --     enters          whether the statement is logged
 --     after_all       the state after a history
 --     may_take_memory     carrying the statement out may take memory
+--     with_branch, with_changed, without_branch    the state with a branch set;  with one changed;  with one gone
+--     committed       the state after a branch's commit
+--     row_written     the state after a write, at once or in a branch
+--     may_enter       whether the statement is logged if it is accepted
+--     makes_record    the statement makes a record, if it is accepted
 use Rattle.std.specs.Prelude.{◌≡◌, ℕ, Bool, true, false, cond, not, ◌&&◌, ◌||◌, Some, None, List, [], ◌∷◌}
 use Rattle.std.specs.Option.{option_map_or}
 use Rattle.std.specs.FinMap as map
@@ -124,7 +129,8 @@ abbrev pub is_list : Reply → Bool
 is_list (Recovered xids) = true
 is_list reply = false
 
--- whether the statement, if it is accepted, is logged (own rule)
+-- whether the statement, if it is accepted, is logged (own rule): of GET if it locks a row, of DISCONNECT if it ends a
+-- branch
 unfoldable pub may_enter : State → Association → Statement → Bool
 may_enter state association (Start xid) = true
 may_enter state association (End xid) = true

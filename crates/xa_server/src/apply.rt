@@ -13,8 +13,8 @@ use crate::{Reply, Server};
 use xa_xid::{Bytes, Key, NoMemory, SessionNo, Statement};
 
 impl Server {
-    /// Makes the session's branch share a row that it reads, if it doesn't hold it yet. After `NoMemory`
-    /// the server is unchanged.
+    /// Carries out a `GET` that the table of replies accepts: makes the session's ACTIVE branch, if there is one, share
+    /// the row, unless the branch holds it already. After `NoMemory` the server is unchanged.
     #[tactic(auto, unfolding(crate::specs::Step::effect, crate::specs::Step::may_enter))]
     fn lock_row(&mut self, session: SessionNo, key: &Key) -> Result<(), NoMemory>
         requires { is_refused (reply_to self.old session (Get key.now)) ≡ false }
@@ -22,10 +22,11 @@ impl Server {
         ensures err { OnErr result (self.new ≡ self.old) }
         ensures memory { OnErr result (may_enter self.old (association_of self.old session) (Get key.now) ≡ true) }
     {
+        // Outside a branch a read holds nothing, and in an IDLE branch it is refused.
         let Association::Active(own) = self.association(session) else {
             return Ok(());
         };
-        // Its hold is enough to read, also if it is exclusive.
+        // A branch that holds the row already, in share or exclusively, needs no other lock.
         if self.holds(own.xid(), key) {
             return Ok(());
         }
@@ -33,8 +34,8 @@ impl Server {
         self.share(&own, key)
     }
 
-    /// Gives a value to a row: at once, or in the session's branch. After `NoMemory` the server is
-    /// unchanged.
+    /// Carries out a `PUT` that the table of replies accepts: gives the row the value, at once if the session is free,
+    /// and else at the commit of its ACTIVE branch. After `NoMemory` the server is unchanged.
     #[tactic(auto, unfolding(crate::specs::Step::effect))]
     fn put(&mut self, session: SessionNo, key: &Key, value: &Bytes) -> Result<(), NoMemory>
         requires { is_refused (reply_to self.old session (Put key.now value.now)) ≡ false }
@@ -49,12 +50,13 @@ impl Server {
                 let value = SharedText::of(self.alloc(), value)?;
                 self.hold(&own, key, Change::Put(value))
             }
+            // The table of replies refuses it, so this doesn't come.
             Association::Idle(_) => Ok(()),
         }
     }
 
-    /// Removes the value of a row: at once, or in the session's branch. After `NoMemory` the server is
-    /// unchanged.
+    /// Carries out a `DEL` that the table of replies accepts: removes the row's value, at once if the session is free,
+    /// and else at the commit of its ACTIVE branch. After `NoMemory` the server is unchanged.
     #[tactic(auto, unfolding(crate::specs::Step::effect))]
     fn delete(&mut self, session: SessionNo, key: &Key) -> Result<(), NoMemory>
         requires { is_refused (reply_to self.old session (Del key.now)) ≡ false }
@@ -70,11 +72,12 @@ impl Server {
                 let own = own.try_clone()?;
                 self.hold(&own, key, Change::Delete)
             }
+            // The table of replies refuses it, so this doesn't come.
             Association::Idle(_) => Ok(()),
         }
     }
 
-    /// Rolls back the branch that a session leaves open.
+    /// Carries out a `DISCONNECT`: rolls back the branch that the session has open, ACTIVE or IDLE, if there is one.
     #[tactic(auto, unfolding(crate::specs::Step::effect))]
     fn disconnect(&mut self, session: SessionNo)
         ensures { self.new ≡ effect self.old session (association_of self.old session) Disconnect }
@@ -108,7 +111,9 @@ impl Server {
             Statement::Prepare(xid) => self.detach(xid),
             Statement::Commit { xid, one_phase: _ } => self.end_branch(xid, true),
             Statement::Rollback(xid) => self.end_branch(xid, false),
+            // `XA RECOVER` only lists.
             Statement::Recover { convert: _ } => {}
+            // The table of replies refuses it, so this doesn't come.
             Statement::Unsupported => {}
             Statement::Get(key) => return self.lock_row(session, key),
             Statement::Put(key, value) => return self.put(session, key, value),

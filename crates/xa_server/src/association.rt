@@ -52,7 +52,7 @@ impl Association {
     ghost use Rattle.xa_server.specs.Locks.{is_another as is_another_of};
     ghost use Rattle.xa_server.specs.Tables.{idle_of};
 
-    /// Returns the association after the branch's work has ended.
+    /// Returns the association after the branch's work has ended: IDLE if it was ACTIVE, else as it was.
     pub fn ended(self) -> Association
         ensures { result ≡ idle_of self }
     {
@@ -63,7 +63,8 @@ impl Association {
         }
     }
 
-    /// Returns whether the branch isn't the session's own.
+    /// Returns whether the branch of this identifier is another than the one that the session has open. A free session
+    /// has none open, so to it each is another.
     pub fn is_another(&self, xid: &Xid) -> bool
         ensures { result ≡ is_another_of self.now xid.now }
     {

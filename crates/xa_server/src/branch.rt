@@ -20,7 +20,8 @@ pub enum Phase {
     Prepared,
 }
 
-/// The server's record of a transaction branch. The records of rows have the rest.
+/// The server's record of a transaction branch. How it holds a row, and what it writes to it, is in the row's
+/// record.
 #[derive(Drop)]
 pub struct BranchRecord {
     /// Its phase.
@@ -43,7 +44,7 @@ impl Clone for BranchRecord {
     }
 }
 
-/// Returns whether two sessions are the same, or both are missing.
+/// Returns true only if two sessions are the same, or both are missing.
 fn is_same_owner(left: Option<SessionNo>, right: Option<SessionNo>) -> bool
     ensures { result ≡ true → left ≡ right }
 {
@@ -57,7 +58,7 @@ fn is_same_owner(left: Option<SessionNo>, right: Option<SessionNo>) -> bool
 }
 
 impl BranchRecord {
-    /// Returns whether both records are the same, with the rows in the same order.
+    /// Returns true only if both records are the same. They aren't if one lists its rows in another order.
     pub fn is_same(&self, other: &BranchRecord) -> bool
         ensures { result ≡ true → self.now ≡ other.now }
     {

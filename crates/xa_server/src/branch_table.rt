@@ -27,7 +27,7 @@ pub struct BranchTable {
     by_xid: BTreeMap<Xid, BranchRecord>,
     /// What each session has open, at the place of its number. A session past the end has nothing open.
     opened: Vec<Association>,
-    /// Nothing open: lent for a session past the end.
+    /// Returned for a session past the end of `opened`: nothing open.
     nothing: Association,
     /// Where memory for keys and lists is taken from.
     alloc: Global,
@@ -49,7 +49,7 @@ impl Model for BranchTable {
         (map.from_entries {R = xid_cmp} table.by_xid.entries) };
 }
 
-/// Returns the place of a session in the index.
+/// Returns the place of a session in the index, `opened`.
 fn place_of(session: SessionNo) -> usize
     ensures { result ≡ session }
 {
@@ -96,11 +96,13 @@ fn end_place(opened: &mut Vec<Association>, session: SessionNo)
     requires { session < length opened.old.items }
     ensures { opened.new.items ≡ slice_set opened.old.items session (idle_of (opened_in opened.old.items session)) }
 {
+    // `ended` takes the association itself, so another stands in for it meanwhile.
     let open = &mut opened[place_of(session)];
     *open = std::mem::replace(open, Association::Free).ended();
 }
 
-/// Sets the phase of a branch to IDLE, if there is one. Returns its owner.
+/// Sets the phase of a branch to IDLE, if there is such a branch. Returns its owner; None if it has none, or if there
+/// is no such branch.
 fn set_idle(by_xid: &mut BTreeMap<Xid, BranchRecord>, xid: &Xid) -> Option<SessionNo>
     ensures changed { MatchOption (tree.get xid_cmp by_xid.old xid.now) (by_xid.new ≡ by_xid.old)
         (λ branch. tree.Updates xid_cmp by_xid.old by_xid.new xid.now (Some (record branch { phase = Phase.Idle }))) }
@@ -111,8 +113,8 @@ fn set_idle(by_xid: &mut BTreeMap<Xid, BranchRecord>, xid: &Xid) -> Option<Sessi
     branch.owner
 }
 
-/// Sets the phase of a branch to PREPARED and removes its owner, if there is such a branch. Returns the
-/// owner.
+/// Sets the phase of a branch to PREPARED and removes its owner, if there is such a branch. Returns the owner; None if
+/// it had none, or if there is no such branch.
 fn set_prepared(by_xid: &mut BTreeMap<Xid, BranchRecord>, xid: &Xid) -> Option<SessionNo>
     ensures changed { MatchOption (tree.get xid_cmp by_xid.old xid.now) (by_xid.new ≡ by_xid.old)
         (λ branch. tree.Updates xid_cmp by_xid.old by_xid.new xid.now
@@ -124,7 +126,8 @@ fn set_prepared(by_xid: &mut BTreeMap<Xid, BranchRecord>, xid: &Xid) -> Option<S
     branch.owner.take()
 }
 
-/// Adds a key to those that a branch holds, if there is such a branch.
+/// Adds a key to those that a branch holds, if there is such a branch. After `NoMemory` the records are
+/// unchanged.
 fn list_key(by_xid: &mut BTreeMap<Xid, BranchRecord>, xid: &Xid, key: &Key) -> Result<(), NoMemory>
     ensures ok { OnOk result (MatchOption (tree.get xid_cmp by_xid.old xid.now) (by_xid.new ≡ by_xid.old)
         (λ branch. tree.Updates xid_cmp by_xid.old by_xid.new xid.now
@@ -149,7 +152,7 @@ fn unlist_key(by_xid: &mut BTreeMap<Xid, BranchRecord>, xid: &Xid)
     }
 }
 
-/// Lists the identifiers of the records of PREPARED branches, in order.
+/// Lists the identifiers of the PREPARED branches among these records, ascending.
 fn prepared_in(alloc: Global, by_xid: &BTreeMap<Xid, BranchRecord>) -> Result<Vec<Xid>, NoMemory>
     ensures listed { IfOk result (λ xids. xids.items ≡ prepared_keys by_xid.now.entries) }
     ensures ordered { tree.IsOrdered xid_cmp by_xid.now }
@@ -163,13 +166,14 @@ fn prepared_in(alloc: Global, by_xid: &BTreeMap<Xid, BranchRecord>) -> Result<Ve
     Ok(xids)
 }
 
-/// Returns whether the same branches have the same records.
+/// Returns true only if both have the same branches with the same records.
 fn has_same_records(
     by_xid: &BTreeMap<Xid, BranchRecord>,
     others: &BTreeMap<Xid, BranchRecord>,
 ) -> bool
     ensures { result ≡ true → by_xid.now.entries ≡ others.now.entries }
 {
+    // Both are ascending, so each record is compared with the one at the same place.
     let mut rest = others.iter();
     for (xid, branch) in by_xid {
         match rest.next() {
@@ -212,14 +216,14 @@ impl BranchTable {
         }
     }
 
-    /// Returns whether both have the same records.
+    /// Returns true only if both have the same branches with the same records.
     pub fn is_same(&self, other: &BranchTable) -> bool
         ensures { result ≡ true → self.now ≡ other.now }
     {
         has_same_records(&self.by_xid, &other.by_xid)
     }
 
-    /// Copies the records.
+    /// Copies the records, and what each session has open.
     pub fn copy(&self) -> Result<BranchTable, NoMemory>
         ensures { IfOk result (λ copy. copy ≡ self.now) }
     {
@@ -265,7 +269,8 @@ impl BranchTable {
         entries_in(alloc, &self.by_xid)
     }
 
-    /// Starts a branch for a session. After `NoMemory` the records are unchanged.
+    /// Starts an ACTIVE branch, under an identifier that no branch has, for a session that owns none. After `NoMemory`
+    /// the records are unchanged.
     pub fn start(&mut self, session: SessionNo, xid: &Xid) -> Result<(), NoMemory>
         requires unknown { map.get self.old xid.now ≡ None }
         requires free { (other : XidSeen) → owner_of self.old other ≢ Some session }
@@ -273,6 +278,7 @@ impl BranchTable {
             (record { phase = Phase.Active; owner = Some session; held = [] })) }
         ensures err { OnErr result (self.new ≡ self.old) }
     {
+        // What may fail comes first. A longer index changes nothing, as a new place has nothing open.
         let own = SharedXid::of(self.alloc, xid)?;
         make_place(&mut self.opened, session)?;
         let branch = BranchRecord {
@@ -285,7 +291,7 @@ impl BranchTable {
         Ok(())
     }
 
-    /// Sets the phase of a branch to IDLE, if there is one.
+    /// Sets the phase of a branch to IDLE, in its record and in the index, if there is such a branch.
     pub fn end_work(&mut self, xid: &Xid)
         ensures { self.new ≡ with_record self.old xid.now (λ branch. record branch { phase = Phase.Idle }) }
     {
@@ -294,7 +300,8 @@ impl BranchTable {
         }
     }
 
-    /// Removes the owner of a branch and sets its phase to PREPARED, if there is one.
+    /// Removes the owner of a branch and sets its phase to PREPARED, if there is such a branch. The session that
+    /// owned it has nothing open afterwards.
     pub fn detach(&mut self, xid: &Xid)
         ensures { self.new ≡ with_record self.old xid.now (λ branch. record branch
             { phase = Phase.Prepared; owner = None }) }
@@ -322,7 +329,8 @@ impl BranchTable {
         unlist_key(&mut self.by_xid, xid);
     }
 
-    /// Removes the record of a branch, and returns the keys that it holds.
+    /// Removes the record of a branch, and returns the keys of the rows that it held; `None` if there is no such
+    /// branch. The session that owned it has nothing open afterwards.
     pub fn remove(&mut self, xid: &Xid) -> Option<Keys>
         ensures removed { self.new ≡ map.remove self.old xid.now }
         ensures held { result ≡ option_map (λ branch. branch.held) (map.get self.old xid.now) }

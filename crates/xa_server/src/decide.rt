@@ -14,7 +14,7 @@ use xa_xid::{Key, NoMemory, SessionNo, Statement, Xid};
 // Each reply is made as the result that `reply` returns, so that it is moved once and not wrapped after
 // each call.
 
-/// Accepts the statement if the test holds, and else refuses it.
+/// Returns the reply `Ok` if the test `holds`, and else the refusal `error`; never `NoMemory`.
 fn ok_if(holds: bool, error: XaError) -> Result<Reply, NoMemory>
     ensures { result ≡ Ok (ok_reply_if holds error) }
 {
@@ -25,7 +25,7 @@ fn ok_if(holds: bool, error: XaError) -> Result<Reply, NoMemory>
     }
 }
 
-/// Refuses the statement in a state that doesn't allow it.
+/// Refuses the statement in a state that doesn't allow it, which the refusal names.
 fn rmfail(state: BranchState) -> Result<Reply, NoMemory>
     ensures { result ≡ Ok (Reply.Refused (XaError.Rmfail state)) }
 {
@@ -33,7 +33,7 @@ fn rmfail(state: BranchState) -> Result<Reply, NoMemory>
 }
 
 impl Server {
-    /// Replies to `XA START`.
+    /// Replies to `XA START`: a free session may start a branch, if no branch has the identifier.
     #[tactic(auto, unfolding(crate::specs::Replies::table))]
     fn reply_to_start(&self, association: &Association, xid: &Xid) -> Result<Reply, NoMemory>
         ensures { result ≡ Ok (table self.now association.now (Start xid.now)) }
@@ -51,7 +51,7 @@ impl Server {
         }
     }
 
-    /// Replies to `XA END`.
+    /// Replies to `XA END`: a session may end the work of its own ACTIVE branch.
     #[tactic(auto, unfolding(crate::specs::Replies::table))]
     fn reply_to_end(&self, association: &Association, xid: &Xid) -> Result<Reply, NoMemory>
         ensures { result ≡ Ok (table self.now association.now (End xid.now)) }
@@ -63,7 +63,7 @@ impl Server {
         }
     }
 
-    /// Replies to `XA PREPARE`.
+    /// Replies to `XA PREPARE`: a session may prepare its own IDLE branch.
     #[tactic(auto, unfolding(crate::specs::Replies::table))]
     fn reply_to_prepare(&self, association: &Association, xid: &Xid) -> Result<Reply, NoMemory>
         ensures { result ≡ Ok (table self.now association.now (Prepare xid.now)) }
@@ -75,7 +75,8 @@ impl Server {
         }
     }
 
-    /// Replies to `XA COMMIT`.
+    /// Replies to `XA COMMIT`: a free session may commit a PREPARED branch, without `ONE PHASE`, and a session
+    /// its own IDLE branch, with it.
     #[tactic(auto, unfolding(crate::specs::Replies::table))]
     fn reply_to_commit(
         &self,
@@ -106,7 +107,7 @@ impl Server {
         }
     }
 
-    /// Replies to `XA ROLLBACK`.
+    /// Replies to `XA ROLLBACK`: a free session may roll back a PREPARED branch, and a session its own IDLE one.
     #[tactic(auto, unfolding(crate::specs::Replies::table))]
     fn reply_to_rollback(&self, association: &Association, xid: &Xid) -> Result<Reply, NoMemory>
         ensures { result ≡ Ok (table self.now association.now (Rollback xid.now)) }
@@ -121,7 +122,8 @@ impl Server {
         }
     }
 
-    /// Replies to `GET`.
+    /// Replies to `GET`: a free session reads the committed value. An ACTIVE branch reads what it sees, unless
+    /// another branch holds the row exclusively. An IDLE branch reads nothing.
     #[tactic(auto, unfolding(crate::specs::Replies::table))]
     fn reply_to_get(&self, association: &Association, key: &Key) -> Result<Reply, NoMemory>
         ensures { result ≡ Ok (table self.now association.now (Get key.now)) }
@@ -139,7 +141,8 @@ impl Server {
         }
     }
 
-    /// Replies to `PUT` and `DEL`.
+    /// Replies to `PUT` and `DEL`: they are refused if another branch holds the row, in share or exclusively, and
+    /// if the session's branch is IDLE.
     #[tactic(auto, unfolding(crate::specs::Replies::table))]
     fn reply_to_write(&self, association: &Association, key: &Key) -> Result<Reply, NoMemory>
         ensures put { (value : Text) → result ≡ Ok (table self.now association.now (Put key.now value)) }
@@ -155,7 +158,8 @@ impl Server {
         }
     }
 
-    /// Replies to a statement of a session that has this open.
+    /// Returns the reply to a statement of a session that has `association` open. Carries nothing out. Returns
+    /// `NoMemory` only for `XA RECOVER`.
     #[tactic(auto, unfolding(crate::specs::Replies::table))]
     pub(crate) fn decide(
         &self,
@@ -184,7 +188,7 @@ impl Server {
         }
     }
 
-    /// Returns whether the statement is logged if it is accepted.
+    /// Returns whether the statement, of a session that has `association` open, is logged if it is accepted.
     #[tactic(auto, unfolding(crate::specs::Step::may_enter))]
     fn may_enter(&self, association: &Association, statement: &Statement) -> bool
         ensures { result ≡ may_enter_in self.now association.now statement.now }
@@ -202,11 +206,13 @@ impl Server {
             Statement::Del(_) => true,
             Statement::Recover { convert: _ } => false,
             Statement::Unsupported => false,
+            // In a branch a `GET` makes the branch share a row that it doesn't hold yet.
             Statement::Get(key) => match association {
                 Association::Active(own) => !self.holds(own.xid(), key),
                 Association::Free => false,
                 Association::Idle(_) => false,
             },
+            // A `DISCONNECT` is logged if it rolls back a branch: the one that the session has open.
             Statement::Disconnect => match association {
                 Association::Free => false,
                 Association::Active(_) => true,

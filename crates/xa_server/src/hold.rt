@@ -33,7 +33,7 @@ pub struct HeldRow {
     pub hold: Hold,
 }
 
-/// Returns how this branch holds a row, if it holds it.
+/// Returns how this branch holds the row that has this lock; None if it doesn't hold it.
 fn hold_in(xid: &Xid, lock: &Lock) -> Option<Hold>
     ensures { result ≡ hold_in_lock xid.now lock.now }
 {
@@ -57,7 +57,7 @@ fn hold_in(xid: &Xid, lock: &Lock) -> Option<Hold>
     }
 }
 
-/// Lists the rows that this branch holds, in order.
+/// Lists the rows that this branch holds, ascending by key. Returns `NoMemory` only if it holds one.
 pub fn held_in(
     alloc: Global,
     by_key: &BTreeMap<Key, RowRecord>,

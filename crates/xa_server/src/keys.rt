@@ -45,7 +45,7 @@ impl Keys {
         self.list.pop()
     }
 
-    /// Returns whether both have the same keys in the same order.
+    /// Returns true only if both have the same keys in the same order.
     pub fn is_same(&self, other: &Keys) -> bool
         ensures { result ≡ true → self.now ≡ other.now }
     {

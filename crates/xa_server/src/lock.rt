@@ -35,14 +35,14 @@ pub enum Lock {
     Shared(Sharers),
 }
 
-/// Returns whether two identifiers are known to be equal.
+/// Returns true only if two identifiers are equal.
 pub fn is_same_xid(left: &Xid, right: &Xid) -> bool
     ensures { result ≡ true → left.now ≡ right.now }
 {
     is_same(left, right)
 }
 
-/// Returns whether two texts have the same bytes.
+/// Returns true only if two texts have the same bytes.
 pub fn is_same_text(left: &Bytes, right: &Bytes) -> bool
     ensures { result ≡ true → left.now ≡ right.now }
 {
@@ -60,7 +60,7 @@ impl Change {
         }
     }
 
-    /// Returns whether both do the same to a row.
+    /// Returns true only if both do the same to a row.
     pub fn is_same(&self, other: &Change) -> bool
         ensures { result ≡ true → self.now ≡ other.now }
     {
@@ -73,7 +73,7 @@ impl Change {
         }
     }
 
-    /// Returns the value that the row has after it.
+    /// Returns the value that the row has after the change, or `None` if it has none.
     pub fn into_value(self) -> Option<SharedText>
         ensures { result ≡ write_of self }
     {
@@ -105,7 +105,7 @@ impl Lock {
         }
     }
 
-    /// Returns whether the same branches hold both in the same way.
+    /// Returns true only if the same branches hold both in the same way, with the same change.
     pub fn is_same(&self, other: &Lock) -> bool
         ensures { result ≡ true → self.now ≡ other.now }
     {
@@ -157,7 +157,7 @@ impl Lock {
         }
     }
 
-    /// Makes this branch share a row that no branch holds exclusively. After `NoMemory` the lock is
+    /// Makes this branch share the row. An exclusive lock stays as it is. After `NoMemory` the lock is
     /// unchanged.
     pub fn share(&mut self, xid: &SharedXid) -> Result<(), NoMemory>
         ensures ok { OnOk result (self.new ≡ with_sharer xid.now self.old) }
@@ -172,8 +172,8 @@ impl Lock {
         }
     }
 
-    /// Returns the lock without this branch, and the branch's change of the row if the branch held it
-    /// exclusively.
+    /// Returns the lock without this branch, and the branch's change of the row if the branch held it exclusively, else
+    /// None. The lock of a row that the branch doesn't hold stays as it is.
     pub fn without(self, alloc: Global, xid: &Xid) -> (Lock, Option<Change>)
         ensures lock { result.0 ≡ freed_lock xid.now self }
         ensures change { option_map write_of result.1 ≡ write_in xid.now self }

@@ -23,7 +23,8 @@ pub struct BranchEntry {
     pub owner: Option<SessionNo>,
 }
 
-/// Lists the branches of the records, in order.
+/// Lists the branches of these records without their rows, ascending by identifier. Returns `NoMemory` only if there
+/// is a branch.
 pub fn entries_in(
     alloc: Global,
     by_xid: &BTreeMap<Xid, BranchRecord>,
@@ -43,7 +44,7 @@ pub fn entries_in(
     Ok(branches)
 }
 
-/// Lists the keys of rows, in order.
+/// Lists the keys of these rows, in the order of the rows. Returns `NoMemory` only if there is a row.
 fn keys_of(alloc: Global, rows: &[HeldRow]) -> Result<Vec<Key>, NoMemory>
     ensures listed { IfOk result (λ keys. keys.items ≡ keys_of_rows rows.now) }
     ensures memory { OnErr result (keys_of_rows rows.now ≢ []) }
@@ -113,7 +114,7 @@ impl Server {
         self.committed_value(key)
     }
 
-    /// Lists the keys of the rows that the session's branch holds.
+    /// Lists the keys of the rows that the session's branch holds, ascending; none if the session is free.
     fn keys_open(&self, alloc: Global, session: SessionNo) -> Result<Vec<Key>, NoMemory>
         ensures listed { IfOk result (λ keys. keys.items ≡ keys_open_at self.now (association_of self.now session)) }
         ensures memory { OnErr result (keys_open_at self.now (association_of self.now session) ≢ []) }
@@ -125,7 +126,7 @@ impl Server {
         }
     }
 
-    /// Lists the keys of the rows that the branch of this identifier holds.
+    /// Lists the keys of the rows that the branch of this identifier holds, ascending; none if there is no such branch.
     fn keys_held(&self, alloc: Global, xid: &Xid) -> Result<Vec<Key>, NoMemory>
         ensures listed { IfOk result (λ keys. keys.items ≡ keys_of_rows (rows_of_branch self.now xid.now)) }
         ensures memory { OnErr result (keys_of_rows (rows_of_branch self.now xid.now) ≢ []) }

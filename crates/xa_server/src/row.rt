@@ -30,7 +30,7 @@ impl Clone for RowRecord {
     }
 }
 
-/// Returns whether two values are the same, or both are missing.
+/// Returns true only if two values are the same, or both are missing.
 fn is_same_value(left: &Option<SharedText>, right: &Option<SharedText>) -> bool
     ensures { result ≡ true → left.now ≡ right.now }
 {
@@ -44,7 +44,7 @@ fn is_same_value(left: &Option<SharedText>, right: &Option<SharedText>) -> bool
 }
 
 impl RowRecord {
-    /// Returns whether both records are the same.
+    /// Returns true only if both records are the same.
     pub fn is_same(&self, other: &RowRecord) -> bool
         ensures { result ≡ true → self.now ≡ other.now }
     {
@@ -52,7 +52,7 @@ impl RowRecord {
     }
 }
 
-/// Adds an owner of a value, if there is one.
+/// Adds an owner of a value, if there is one, and returns it.
 fn share_of_value(value: &Option<SharedText>) -> Result<Option<SharedText>, NoMemory>
     ensures { IfOk result (λ share. share ≡ value.now) }
 {
@@ -102,12 +102,14 @@ pub fn is_locked_against(association: &Association, row: Option<&RowRecord>) -> 
     }
 }
 
-/// Ends a branch's hold of a row, if it holds it; if the branch commits, its change becomes the row's
-/// value. Returns whether the record is still needed.
+/// Ends the branch's hold of a row, if the branch holds it. If the branch `commits`, and held the row exclusively, its
+/// change becomes the row's value. Returns whether the record is still needed: the row has a value, or a branch holds
+/// it.
 pub fn free(row: &mut RowRecord, alloc: Global, xid: &Xid, commits: bool) -> bool
     ensures row { row.new ≡ freed_row commits xid.now row.old }
     ensures needed { result ≡ is_needed row.new }
 {
+    // `without` takes the lock itself, so an empty one stands in for it meanwhile.
     let held = std::mem::replace(&mut row.lock, Lock::nobodys(alloc));
     let (lock, change) = held.without(alloc, xid);
     row.lock = lock;
@@ -117,6 +119,7 @@ pub fn free(row: &mut RowRecord, alloc: Global, xid: &Xid, commits: bool) -> boo
             row.committed = change.into_value();
         }
     }
+    // A free session has no branch, so any branch that holds the row holds it beside such a session.
     row.committed.is_some() || row.lock.is_held_beside(&Association::Free)
 }
 
@@ -130,11 +133,13 @@ pub fn is_held_by(own: &Xid, row: Option<&RowRecord>) -> bool
     }
 }
 
-/// Returns the value that this branch sees.
+/// Returns the value that this branch sees: by its own newest write of the row, and else the committed one. None if the
+/// row has no value for the branch.
 pub fn value_within(own: &Xid, row: Option<&RowRecord>) -> Option<Bytes>
     ensures { result ≡ value_seen own.now (option_copied row.entry) }
 {
     let record = row?;
+    // A branch writes a row only while it holds it exclusively.
     let Lock::Exclusive { holder, change } = &record.lock else {
         return copy_of_value(&record.committed);
     };

@@ -41,7 +41,7 @@ impl Model for RowTable {
     ghost view = { λ table. map.from_entries {R = bytes_cmp} table.by_key.entries };
 }
 
-/// Sets the lock of a row's record, or returns the lock if the row has no record.
+/// Sets the lock of a row's record, and returns None. If the row has no record, returns the lock.
 fn set_lock(by_key: &mut BTreeMap<Key, RowRecord>, key: &Key, lock: Lock) -> Option<Lock>
     ensures changed { MatchOption (tree.get bytes_cmp by_key.old key.now) (by_key.new ≡ by_key.old)
         (λ row. tree.Updates bytes_cmp by_key.old by_key.new key.now (Some (record row { lock = lock }))) }
@@ -56,7 +56,8 @@ fn set_lock(by_key: &mut BTreeMap<Key, RowRecord>, key: &Key, lock: Lock) -> Opt
     }
 }
 
-/// Adds a branch to the sharers of a row's record. Returns whether there is a record.
+/// Adds a branch to the sharers of a row's record. Returns whether the row has a record. After `NoMemory` the
+/// records are unchanged.
 fn share_in(
     by_key: &mut BTreeMap<Key, RowRecord>,
     key: &Key,
@@ -78,7 +79,8 @@ fn share_in(
     }
 }
 
-/// Ends a branch's hold of a row's record, if there is one. Returns whether the record is still needed.
+/// Ends a branch's hold of a row in the row's record. Returns whether the record is still needed; `true` also
+/// if the row has none, so that nothing is removed.
 fn free_in(
     by_key: &mut BTreeMap<Key, RowRecord>,
     alloc: Global,
@@ -104,10 +106,11 @@ fn take_out(by_key: &mut BTreeMap<Key, RowRecord>, key: &Key)
     let _row = by_key.remove(key);
 }
 
-/// Returns whether the same rows have the same records.
+/// Returns true only if both have the same rows with the same records.
 fn has_same_records(by_key: &BTreeMap<Key, RowRecord>, others: &BTreeMap<Key, RowRecord>) -> bool
     ensures { result ≡ true → by_key.now.entries ≡ others.now.entries }
 {
+    // Both are ascending, so each record is compared with the one at the same place.
     let mut rest = others.iter();
     for (key, row) in by_key {
         match rest.next() {
@@ -148,7 +151,7 @@ impl RowTable {
         self.by_key.len()
     }
 
-    /// Returns whether both have the same records.
+    /// Returns true only if both have the same rows with the same records.
     pub fn is_same(&self, other: &RowTable) -> bool
         ensures { result ≡ true → self.now ≡ other.now }
     {
@@ -187,6 +190,7 @@ impl RowTable {
         ensures err { OnErr result (self.new ≡ self.old) }
     {
         let lock = Lock::Exclusive { holder, change };
+        // A record takes the lock. If the row has none, the lock comes back, for a new record.
         let Some(lock) = set_lock(&mut self.by_key, key, lock) else {
             return Ok(());
         };
@@ -205,7 +209,7 @@ impl RowTable {
             (shared_row xid.now (map.get self.old key.now))) }
         ensures err { OnErr result (self.new ≡ self.old) }
     {
-        // The row has a record already.
+        // If the row has a record, that one takes the sharer, and no new one is needed.
         if share_in(&mut self.by_key, key, xid)? {
             return Ok(());
         }
@@ -219,7 +223,8 @@ impl RowTable {
         Ok(())
     }
 
-    /// Gives a value to a row that no branch holds. After `NoMemory` the records are unchanged.
+    /// Gives a value to a row that no branch holds: its record is replaced by one with the value and no holder. After
+    /// `NoMemory` the records are unchanged.
     pub fn put(&mut self, key: &Key, value: &Bytes) -> Result<(), NoMemory>
         ensures ok { OnOk result (self.new ≡ map.insert self.old key.now
             (record { committed = Some value.now; lock = Lock.Shared set.empty })) }
@@ -240,8 +245,8 @@ impl RowTable {
         take_out(&mut self.by_key, key);
     }
 
-    /// Ends a branch's hold of a row, if it holds it; if the branch commits, its change becomes the row's
-    /// value.
+    /// Ends the branch's hold of a row, if the branch holds it. If the branch `commits`, and held the row exclusively,
+    /// its change becomes the row's value.
     pub fn free(&mut self, key: &Key, xid: &Xid, commits: bool)
         ensures { Frees commits xid.now (key.now ∷ []) self.old self.new }
     {
@@ -251,10 +256,12 @@ impl RowTable {
         }
     }
 
-    /// Ends a branch's hold of the rows of these keys.
+    /// Ends the branch's hold of the rows of these keys. If the branch `commits`, its changes become the values of the
+    /// rows that it held exclusively.
     pub fn free_all(&mut self, mut keys: Keys, xid: &Xid, commits: bool)
         ensures { Frees commits xid.now keys self.old self.new }
     {
+        // From the last key to the first: each row is freed on its own, so the order doesn't matter.
         while let Some(key) = keys.pop() {
             self.free(&key, xid, commits);
         }

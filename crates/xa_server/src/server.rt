@@ -46,7 +46,7 @@ impl Model for Server {
     ghost invariant = { λ server. IsWhole server.branches server.rows };
 }
 
-/// Removes the key that a branch listed last, if the allocation for the row failed.
+/// Removes the key that a branch listed last, if `held` says that no memory was left for the row's record.
 fn unlist_refused(branches: &mut BranchTable, own: &Xid, held: &Result<(), NoMemory>)
     ensures held { OnOk held.now (branches.new ≡ branches.old) }
     ensures refused { OnErr held.now (branches.new ≡ with_record branches.old own.now
@@ -267,10 +267,11 @@ impl Server {
     {
         let xid = own.xid();
         let holder = own.try_clone()?;
-        // The branch has listed the key already.
+        // A branch that holds the row has listed the key already.
         if row::is_held_by(xid, self.rows.row(key)) {
             return self.rows.hold(key, holder, change);
         }
+        // The key is listed first: if there is no memory for the row's record, taking it off the list needs none.
         self.branches.list(xid, key)?;
         let held = self.rows.hold(key, holder, change);
         unlist_refused(&mut self.branches, xid, &held);
@@ -287,6 +288,7 @@ impl Server {
         ensures err { OnErr result (self.new ≡ self.old) }
     {
         let xid = own.xid();
+        // The key is listed first: if there is no memory for the row's record, taking it off the list needs none.
         self.branches.list(xid, key)?;
         let shared = self.rows.share(key, own);
         unlist_refused(&mut self.branches, xid, &shared);
@@ -311,8 +313,8 @@ impl Server {
         self.rows.delete(key);
     }
 
-    /// Ends a branch. If it commits, its writes become the committed values; otherwise they are dropped.
-    /// Its rows are free.
+    /// Ends a branch. If it `commits`, its writes become the committed values; otherwise they are dropped.
+    /// The branch holds no row any more; others may go on sharing rows that it shared.
     pub(crate) fn end_branch(&mut self, xid: &Xid, commits: bool)
         requires { is_known self.old xid.now ≡ true }
         ensures { self.new ≡ cond commits (committed self.old xid.now) (without_branch self.old xid.now) }

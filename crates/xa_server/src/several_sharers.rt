@@ -14,7 +14,7 @@ use std::collections::BTreeSet;
 use std::marker::Model;
 use xa_xid::{NoMemory, Xid};
 
-/// How many branches the list of a row has room for. A look-up passes all of them.
+/// How many branches the list of a row has room for: few, since a look-up passes all of them.
 const FEW: usize = 8;
 
 /// Several branches that share a row.
@@ -123,14 +123,14 @@ impl SeveralSharers {
         }
     }
 
-    /// Returns whether there are none.
+    /// Returns whether no branch shares the row.
     pub fn is_empty(&self) -> bool
         ensures { IsTrue result ↔ (self.now ≡ set.empty) }
     {
         self.few.is_empty() && self.many.is_empty()
     }
 
-    /// Returns whether each of them shares the row.
+    /// Returns true only if each of these branches is one of `sharers`.
     pub fn is_within(&self, sharers: &Sharers) -> bool
         ensures { result ≡ true → set.is_subset self.now sharers.now ≡ true }
     {
@@ -147,26 +147,27 @@ impl SeveralSharers {
         })
     }
 
-    /// Returns whether the branch is one of them.
+    /// Returns whether the branch is one of the sharers.
     pub fn contains(&self, xid: &Xid) -> bool
         ensures { result ≡ set.contains self.now xid.now }
     {
         is_in_list(&self.few, xid) || self.many.contains(xid)
     }
 
-    /// Returns whether a branch that isn't the session's own is one of them. Looks at two of them at most.
+    /// Returns whether a branch that isn't the session's own is one of the sharers. Looks at two of them at most.
     pub fn has_another(&self, association: &Association) -> bool
         ensures { result ≡ list_any (is_another_of association.now) (set.items self.now) }
     {
         has_another_in_list(&self.few, association) || has_another_in(&self.many, association)
     }
 
-    /// Adds a branch. After `NoMemory` they are unchanged.
+    /// Adds a branch. After `NoMemory` the sharers are unchanged.
     pub fn add(&mut self, xid: &SharedXid) -> Result<(), NoMemory>
         ensures ok { OnOk result (self.new ≡ set.insert self.old xid.now) }
         ensures err { OnErr result (self.new ≡ self.old) }
     {
-        // The list may have room again after a removal: the set isn't moved into it.
+        // The list may have room again after a removal: the set isn't moved into it. The list isn't searched for the
+        // branch first: the server adds a branch only if it doesn't hold the row yet.
         if self.few.len() < FEW {
             self.few.push(xid.try_clone()?)?;
         } else {
@@ -176,7 +177,7 @@ impl SeveralSharers {
         Ok(())
     }
 
-    /// Removes a branch, if it is one of them.
+    /// Removes a branch, if it is one of the sharers.
     pub fn remove(&mut self, xid: &Xid)
         ensures { self.new ≡ set.remove self.old xid.now }
     {
@@ -184,7 +185,8 @@ impl SeveralSharers {
         take_out(&mut self.many, xid);
     }
 
-    /// Removes the only one and returns it, if there is only one and it is in the list.
+    /// If there is only one branch, and it is in the list, removes and returns it. Else returns `None`, and changes
+    /// nothing.
     pub fn take_only(&mut self) -> Option<SharedXid>
         ensures { MatchOption result (self.new ≡ self.old) (λ only. self.old ≡ set.insert set.empty only) }
     {

@@ -70,7 +70,8 @@ fn both(alloc: Global, one: &SharedXid, other: &SharedXid) -> Result<Branches, N
     Ok(Branches::Several(Box::new(alloc, several)?))
 }
 
-/// Returns what is left of several branches, if that needs no place of its own.
+/// Returns what takes the place of `several` after a removal: nobody if it is empty, or its only branch, which is taken
+/// out, if that is in the list. `None` if more are left, or the only one is in the set: then `several` stays.
 fn left_of(several: &mut SeveralSharers) -> Option<Branches>
     ensures { MatchOption result (several.new ≡ several.old) (λ left. set_of left ≡ several.old) }
 {
@@ -83,7 +84,8 @@ fn left_of(several: &mut SeveralSharers) -> Option<Branches>
     }
 }
 
-/// Removes a branch, if it is one of them. Returns what is to take their place, if anything is.
+/// Removes a branch from the sharers, if it is one of them. Returns the sharers that are to take their place;
+/// `None` if those that are left stay where they are.
 fn leave(branches: &mut Branches, xid: &Xid) -> Option<Branches>
     ensures { option_map_or set_of result (set_of branches.new) ≡ set.remove (set_of branches.old) xid.now }
 {
@@ -114,14 +116,14 @@ impl Sharers {
         }
     }
 
-    /// Returns whether both are the same set, in whatever order they were added.
+    /// Returns true only if both are the same set, in whatever order the branches were added.
     pub fn is_same(&self, other: &Sharers) -> bool
         ensures { result ≡ true → self.now ≡ other.now }
     {
         self.has_all_of(other) && other.has_all_of(self)
     }
 
-    /// Returns whether each of the others is one of these.
+    /// Returns true only if each of the others is one of these.
     fn has_all_of(&self, other: &Sharers) -> bool
         ensures { result ≡ true → set.is_subset other.now self.now ≡ true }
     {
@@ -142,7 +144,7 @@ impl Sharers {
         })
     }
 
-    /// Returns whether the branch is one of them.
+    /// Returns whether the branch is one of the sharers.
     pub fn contains(&self, xid: &Xid) -> bool
         ensures { result ≡ set.contains self.now xid.now }
     {
@@ -153,7 +155,7 @@ impl Sharers {
         }
     }
 
-    /// Returns whether a branch that isn't the session's own is one of them. Looks at two of them at most.
+    /// Returns whether a branch that isn't the session's own is one of the sharers. Looks at two of them at most.
     pub fn has_another(&self, association: &Association) -> bool
         ensures { result ≡ list_any (is_another_of association.now) (set.items self.now) }
     {
@@ -182,7 +184,7 @@ impl Sharers {
         }
     }
 
-    /// Removes a branch, if it is one of them.
+    /// Removes a branch, if it is one of the sharers.
     pub fn remove(&mut self, xid: &Xid)
         ensures { self.new ≡ set.remove self.old xid.now }
     {

@@ -29,14 +29,16 @@ pub slice_get-last : (xs : List Entry) (entry : Entry) → slice_get (xs ++ entr
 slice_get-last [] entry = refl
 slice_get-last (x ∷ xs) entry = slice_get-last xs entry
 
--- the server's answer at the end of what is seen
+-- the answer's place is the end of what is seen, its reply is the server's there, and `enters_there` is whether the
+-- statement is logged there
 pub record IsReply (base : State) (statement : Statement) (answer : Answer) (enters_there : Bool)
     (known : Known) : Type 0 where
   pub place : answer.place ≡ length known.seen
   pub reply_is : answer.reply ≡ reply_to (state_at base known.seen (length known.seen)) known.number statement
   pub enters_is : enters_there ≡ enters (state_at base known.seen (length known.seen)) known.number statement
 
--- a replica that stands for all that is seen answers so
+-- if a server is the state after as many entries as are seen, then its reply to the pass's own session, with the end of
+-- what is seen as its place, is as `IsReply` says
 pub replied : (base : State) (statement : Statement) (answer : Answer) (entering : Bool) (known : Known)
     (server : State) (session replayed : ℕ)
     → answer.place ≡ length known.seen → server ≡ state_at base known.seen replayed → replayed ≡ length known.seen
@@ -53,12 +55,12 @@ replied base statement answer entering known server session replayed place state
           ∙ ap (λ n. enters (state_at base known.seen (length known.seen)) n statement) number;
     }
 
--- a look goes on from what a session knew: it sees no less
+-- a look advances what a session knows (`Advances`): it has seen no less
 pub advances_looked : (old new : Known) → Looked old new → Advances old new
 advances_looked old new looked =
     record { number = looked.number; seen = looked.seen; looks = omega arith; tries = omega arith }
 
--- and two steps that go on do together
+-- if each of two steps advances what a session knows, both together do
 pub advances_through : (old mid new : Known) → Advances old mid → Advances mid new → Advances old new
 advances_through old mid new first second = record {
   number = second.number ∙ first.number;
@@ -67,7 +69,7 @@ advances_through old mid new first second = record {
   tries = omega arith;
 }
 
--- a look and then a reply that doesn't enter the history are an answer
+-- after a look, the server's reply at the end of what is seen answers a statement that isn't logged there
 pub answered_outside : (base : State) (statement : Statement) (answer : Answer) (old new : Known) → Looked old new
     → IsReply base statement answer false new
     → IsAnswered base statement answer old new
@@ -92,7 +94,8 @@ answered_outside base statement answer old new looked is =
       outside = λ _. record { whole = sym is.place; mine = looked.mine };
     }
 
--- a statement that enters the history is answered once its entry is added
+-- a look, the server's reply at the end of what is seen to a statement that is logged there, and then an append of its
+-- entry: the statement is answered
 pub answered_entered : (base : State) (statement : Statement) (answer : Answer) (old mid new : Known) → Looked old mid
     → IsReply base statement answer true mid
     → IsAdded (entry_of mid.number statement) mid new → IsAnswered base statement answer old new
@@ -136,14 +139,15 @@ answered_entered base statement answer old mid new looked is added =
       outside = λ other. absurd (cc (entering, other));
     }
 
--- the entry that was added stands behind all that was seen
+-- after an append the entry stands at the place `replayed`, if that is how many entries were seen before
 pub next_added : (entry : Entry) (old new : Known) (replayed : ℕ) → IsAdded entry old new → replayed ≡ length old.seen
     → slice_get new.seen replayed ≡ Some entry
 next_added entry old new replayed added whole =
     ap (slice_get new.seen) whole ∙ ap (λ list. slice_get list (length old.seen)) added.seen
     ∙ slice_get-last old.seen entry
 
--- a replica that has replayed all goes on by that entry, or there was no memory
+-- a replica had replayed all that was seen before an append, and then was to replay the entry: if it did (`result` is
+-- Ok), it has replayed all that is seen now; else what a failure says (M) holds
 pub kept_by : {E M : Type 0} (result : Result (Unit {0}) E) (entry : Entry) (old new : Known) (replayed grown : ℕ)
     → IsAdded entry old new
     → replayed ≡ length old.seen
@@ -152,7 +156,8 @@ kept_by (Ok _) entry old new replayed grown added whole next memory =
     let longer = ap length added.seen ∙ length-append old.seen (entry ∷ []) in inl (omega arith)
 kept_by (Err _) entry old new replayed grown added whole next memory = inr memory
 
--- the replica after an entry was carried out on it, as the place of the entry's answer has it
+-- a server was the state after all that was seen, an entry was appended, and then the replica has replayed all that is
+-- seen, or the statement may take memory at that server: then the answer is kept, as `IsKept` says
 pub kept_entered : (base : State) (statement : Statement) (answer : Answer) (entry : Entry) (mid new : Known)
     (replica : Replica) (server : State)
     (session replayed : ℕ)
@@ -171,7 +176,7 @@ kept_entered base statement answer entry mid new replica server session replayed
     (ap (λ s. may_take_memory s new.number statement) there
     ∙ ap (λ n. may_take_memory server n statement) (added.number ∙ sym number) ∙ m)) kept
 
--- so an attempt that fails, for whatever reason, adds nothing
+-- a statement that isn't answered, for the cause of any fault, has appended nothing
 pub fails_unanswered : (turns : Bool) (capacity : ℕ) (base : State) (statement : Statement) (fault : Fault)
     (old new : Known)
     → Fails turns capacity base statement fault old new → IsUnanswered old new
@@ -183,7 +188,7 @@ fails_unanswered turns capacity base statement Full old new fails = fails.unansw
 fails_unanswered turns capacity base statement NoMemory old new fails = fails
 fails_unanswered turns capacity base statement Busy old new fails = fails.1
 
--- a session that makes no attempt adds nothing
+-- a session that knows what it knew has appended nothing
 pub unanswered_itself : (known : Known) → IsUnanswered known known
 unanswered_itself known =
     record {
@@ -192,7 +197,7 @@ unanswered_itself known =
       mine = refl;
     }
 
--- an answer to DISCONNECT is Ok
+-- if DISCONNECT was answered, it was answered Ok at that place
 pub disconnected : (base : State) (answer : Answer) (old new : Known) → IsAnswered base Disconnect answer old new
     → IsAnswered base Disconnect (record { place = answer.place; reply = Accepted }) old new
 disconnected base answer old new is = record {
@@ -208,14 +213,14 @@ disconnected base answer old new is = record {
   outside = is.outside;
 }
 
--- an accepted answer is an accepted statement
+-- if an answer's reply isn't a refusal, the server's reply at the answer's place isn't one
 pub accepted_there : (base : State) (statement : Statement) (answer : Answer) (old new : Known)
     → IsAnswered base statement answer old new
     → is_refused answer.reply ≡ false →
     is_refused (reply_to (state_at base new.seen answer.place) old.number statement) ≡ false
 accepted_there base statement answer old new is accepted = sym (ap is_refused is.at.reply_is) ∙ accepted
 
--- a refused statement adds nothing
+-- a statement whose answer is a refusal has appended nothing
 pub refused_unanswered : (base : State) (statement : Statement) (answer : Answer) (old new : Known)
     → IsAnswered base statement answer old new
     → is_refused answer.reply ≡ true → IsUnanswered old new

@@ -25,7 +25,7 @@ left_out : (is : Bool) (entry : Entry) (rest : List Entry) → cond is (entry �
 left_out true entry rest none = absurd (cc)
 left_out false entry rest none = (refl, none)
 
--- what others add leaves what the session has open
+-- in a state that keeps the lock law, entries of which none is the session's leave what it has open
 others_only : (number : ℕ) (rest : List Entry) (state : State) → LockLaw state → entries_of number rest ≡ []
     → association_of (state_after state rest) number ≡ association_of state number
 unfolding state_after
@@ -74,12 +74,13 @@ association_unanswered base law old new is own_old own_new =
     ∙ association_kept base law old.number old.seen new.seen is.advances.seen
     (ap (λ n. entries_of n new.seen) (sym is.advances.number) ∙ own_new ∙ is.mine ∙ sym own_old)
 
--- what stands before an answer's place is more of what had been seen, with no more of the session's own
+-- the list `front` begins with all that had been seen, and has no more entries of the session
 record IsBefore (old : Known) (front : List Entry) : Type 0 where
   begins : Begins old.seen front
   own : entries_of old.number front ≡ entries_of old.number old.seen
 
--- the state in which a statement was answered, and what its session had open there
+-- the entries before an answer's place begin with all that had been seen, and have no more entries of the session, if
+-- `mine` is the session's entries both before and after the call
 before : (base : State) (statement : Statement) (answer : Answer) (old new : Known)
     → IsAnswered base statement answer old new →
     entries_of old.number old.seen ≡ old.mine → entries_of new.number new.seen ≡ new.mine
@@ -116,7 +117,7 @@ before base statement answer old new is own_old own_new =
           own = ap (entries_of old.number) whole ∙ all_own ∙ stays.mine ∙ sym own_old;
         }
 
--- at an answer's place the session has open what it had
+-- at an answer's place the session has open what it had open after all that it had seen before the call
 pub association_at : (base : State) → LockLaw base → (statement : Statement) (answer : Answer) (old new : Known)
     → IsAnswered base statement answer old new →
     entries_of old.number old.seen ≡ old.mine → entries_of new.number new.seen ≡ new.mine →

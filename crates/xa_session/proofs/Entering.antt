@@ -1,4 +1,5 @@
--- A statement that enters makes an entry, DISCONNECT is accepted, and XA RECOVER is answered a list and doesn't enter.
+-- A statement that enters makes an entry and is accepted, DISCONNECT is accepted, and XA RECOVER is answered a list and
+-- doesn't enter.
 use Rattle.std.proofs.Common.{◌≡◌, ℕ, Bool, true, false, ◌&&◌, not, refl}
 use Rattle.xa_xid.specs.declared.statement.Statement.{Statement}
 use Rattle.xa_xid.specs.declared.statement.Statement.TheVariants.{Start, End, Prepare, Commit, Rollback, Recover}

@@ -30,7 +30,7 @@ pub record IsOwned (session : ℕ) (state : State) (xid : Xid) : Type 0 where
   pub found : map.get state.branches xid ≡ Some branch
   pub owner : branch.owner ≡ Some session
 
--- a session that owns a branch has it open
+-- if `owns` is true of an identifier, the state has a branch of that identifier, and the session is its owner
 owned_found : (session : ℕ) (state : State) (xid : Xid) → owns state session xid ≡ true → IsOwned session state xid
 owned_found session state xid is = by (map.get state.branches xid) refl
   where
@@ -52,7 +52,7 @@ owned_found session state xid is = by (map.get state.branches xid) refl
           ∙ is);
     }
 
--- the session has the branch that it owns open, in its phase
+-- in a state that keeps the lock law, a session has open the branch that it owns, in that branch's phase
 associated : (state : State) → LockLaw state → (session : ℕ) (xid : Xid) (branch : Branch)
     → map.get state.branches xid ≡ Some branch
     → branch.owner ≡ Some session
@@ -76,7 +76,7 @@ done state session statement at accepted =
     ap (λ (s : State). map.get s.branches at) (accepted_done state session statement accepted)
     ∙ effect-branch state session (association_of state session) statement at
 
--- after XA START the branch is ACTIVE
+-- after an accepted XA START the session has that branch open, and ACTIVE
 pub started : (state : State) → LockLaw state → (session : ℕ) (xid : Xid)
     → is_refused (reply_to state session (Start xid)) ≡ false
     → association_of (after state session (Start xid)) session ≡ Active xid
@@ -88,7 +88,7 @@ started state law session xid accepted =
     ∙ ap (λ b. cond b (Some (started_by session)) (map.get state.branches xid))
     (same_itself xids_total exact_xids xid)) refl
 
--- after XA END the branch is the session's, and IDLE
+-- after an accepted XA END the session has that branch open, and IDLE
 pub ended : (state : State) → LockLaw state → (session : ℕ) (xid : Xid)
     → is_refused (reply_to state session (End xid)) ≡ false
     → association_of (after state session (End xid)) session ≡ Idle xid
@@ -102,7 +102,8 @@ ended state law session xid accepted =
     (same_itself xids_total exact_xids xid)
     ∙ ap (option_map idle) own.found) own.owner
 
--- a row statement leaves the ACTIVE branch of its session ACTIVE
+-- an accepted statement that does nothing to the session's ACTIVE branch but a change that keeps its owner and phase
+-- leaves the session that branch, ACTIVE
 changed_within : (state : State) → LockLaw state → (session : ℕ) (xid : Xid) (statement : Statement)
     (change : Branch → Branch)
     → association_of state session ≡ Active xid →
@@ -127,7 +128,7 @@ changed_within state law session xid statement change association accepted is ow
     ∙ sym (associated state law session xid own.branch own.found own.owner)
     ∙ association
 
--- after a GET the session still owns its branch
+-- after an accepted GET within an ACTIVE branch the session still has that branch open, and ACTIVE
 pub read : (state : State) → LockLaw state → (session : ℕ) (xid : Xid) (key : List ℕ)
     → association_of state session ≡ Active xid
     → is_refused (reply_to state session (Get key)) ≡ false
@@ -137,7 +138,7 @@ read state law session xid key association accepted =
     changed_within state law session xid (Get key) (with_lock key) association accepted (λ found. refl) (λ branch. refl)
     (λ branch. refl)
 
--- after a PUT the session still owns its branch
+-- after an accepted PUT within an ACTIVE branch the session still has that branch open, and ACTIVE
 pub written : (state : State) → LockLaw state → (session : ℕ) (xid : Xid) (key : List ℕ) (value : Text)
     → association_of state session ≡ Active xid
     → is_refused (reply_to state session (Put key value)) ≡ false
@@ -148,7 +149,7 @@ written state law session xid key value association accepted =
     (λ found. refl) (λ branch. refl)
     (λ branch. refl)
 
--- after a DEL the session still owns its branch
+-- after an accepted DEL within an ACTIVE branch the session still has that branch open, and ACTIVE
 pub deleted : (state : State) → LockLaw state → (session : ℕ) (xid : Xid) (key : List ℕ)
     → association_of state session ≡ Active xid
     → is_refused (reply_to state session (Del key)) ≡ false

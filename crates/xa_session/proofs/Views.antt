@@ -7,7 +7,7 @@ limit_itself : (left : Option ℕ) → KeepsLimit left left
 limit_itself None = refl
 limit_itself (Some left) = (left, refl, omega arith)
 
--- one that isn't lifted by either of two calls isn't by both
+-- a limit that neither of two calls lifts isn't lifted by both together
 limit_through : (old mid new : Option ℕ) → KeepsLimit old mid → KeepsLimit mid new → KeepsLimit old new
 limit_through None mid new first second = subst (λ m. KeepsLimit m new) first second
 limit_through (Some before) mid new first second =
@@ -37,7 +37,7 @@ stays_through old mid new first second =
       starved = λ starved. second.starved (first.starved starved);
     }
 
--- some statements, and then some more
+-- a session that takes `count` statements, and then `more`, has taken `count + more`
 pub takes_through : (count more : ℕ) (old mid new : Option ℕ) → Takes count old mid → Takes more mid new
     → Takes (count + more) old new
 takes_through count more None mid new first second = subst (λ m. Takes more m new) first second

@@ -8,9 +8,9 @@
 --     IsUnanswered     nothing of the statement was appended
 --     IsFull           there is no room for a statement that is logged
 --     Fails            the cause for which a statement was not answered
---     IsFinal          trying again is of no use
+--     IsFinal          a fault after which `execute` doesn't try again
 --     FullAfter        at Full the replica has replayed all that is seen
---     IsKept           an answered statement has been replayed
+--     IsKept           the replica has replayed all that is seen, unless the statement may take memory
 --     WantsMemory      the only causes of NoMemory
 use Rattle.std.specs.Prelude.{◌≡◌, ◌<◌, ◌≤◌, ℕ, Bool, true, false, IsTrue, ◌⊎◌, List, [], ◌∷◌, ◌++◌, length, take}
 use Rattle.std.specs.Prelude.{slice_get, Some}
@@ -58,7 +58,8 @@ pub record IsOutside (place : ℕ) (old new : Known) : Type 0 where
   pub whole : length new.seen ≡ place
   pub mine : new.mine ≡ old.mine
 
--- the reply is the server's at the answer's place, which isn't before what had been seen, and the session has looked
+-- the reply is the server's at the answer's place, which isn't before what had been seen, and the session has looked; a
+-- statement that enters there was appended right after that place, and of another one nothing was appended
 pub record IsAnswered (base : State) (statement : Statement) (answer : Answer) (old new : Known) : Type 0 where
   pub advances : Advances old new
   pub looked : old.looks < new.looks
@@ -74,40 +75,43 @@ pub record IsUnanswered (old new : Known) : Type 0 where
   pub advances : Advances old new
   pub mine : new.mine ≡ old.mine
 
--- the statement would be logged, and as much is seen as the log can have
+-- nothing of the statement was appended, it would be logged, and as much is seen as the log can have
 pub record IsFull (base : State) (capacity : ℕ) (statement : Statement) (old new : Known) : Type 0 where
   pub unanswered : IsUnanswered old new
   pub enters : enters (state_after base new.seen) old.number statement ≡ true
   pub full : length new.seen ≡ capacity
 
--- the cause for which a statement was not answered, in a log of a capacity, with a turn or without
+-- the cause of a fault, in a log of a capacity, with turns or without: at Overtaken an entry came first, at Full no
+-- room is left; Busy comes only in a log with turns; nothing of the statement was appended
 abbrev pub Fails : Bool → ℕ → State → Statement → Fault → Known → Known → Type 0
 Fails turns capacity base statement (Overtaken front) old new = IsOvertaken front old new
 Fails turns capacity base statement Full old new = IsFull base capacity statement old new
 Fails turns capacity base statement NoMemory old new = IsUnanswered old new
 Fails turns capacity base statement Busy old new = IsTrue turns × IsUnanswered old new
 
--- only Full and NoMemory aren't tried again
+-- the fault is Full or NoMemory: `execute` doesn't try again after it
 abbrev pub IsFinal : Fault → Type 0
 IsFinal (Overtaken front) = ⊥
 IsFinal Full = Unit {0}
 IsFinal NoMemory = Unit {0}
 IsFinal Busy = ⊥
 
--- NoMemory of the replica comes before Full: the replica has replayed all that is seen
+-- at Full the replica has replayed all that is seen (if it can't, the fault is NoMemory); nothing of other faults
 abbrev pub FullAfter : Fault → Replica → Known → Type 0
 FullAfter (Overtaken front) replica known = Unit {0}
 FullAfter Full replica known = replica.replayed ≡ length known.seen
 FullAfter NoMemory replica known = Unit {0}
 FullAfter Busy replica known = Unit {0}
 
--- all that is seen has been replayed, an appended statement too, unless it may take memory there
+-- the replica has replayed all that is seen, an appended statement too, or carrying the statement out at the answer's
+-- place may take memory
 abbrev pub IsKept : State → Statement → Answer → Replica → Known → Type 0
 IsKept base statement answer replica known =
     (replica.replayed ≡ length known.seen) ⊎ (may_take_memory
     (state_at base known.seen answer.place) known.number statement ≡ true)
 
--- there is no memory only for the list of an XA RECOVER, or for a replica that hasn't replayed all that is seen
+-- at NoMemory the statement is an XA RECOVER, which needs a list, or the replica hasn't replayed all that is seen;
+-- nothing of other faults
 abbrev pub WantsMemory : Statement → Fault → Replica → Known → Type 0
 WantsMemory statement (Overtaken front) replica known = Unit {0}
 WantsMemory statement Full replica known = Unit {0}

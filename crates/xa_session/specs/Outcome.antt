@@ -1,8 +1,8 @@
 -- How a session's call for a statement ends.
 --     HasAnswered      the statement was answered
---     HasFailed        it wasn't, for a cause of this fault
+--     HasFailed        it wasn't, for the cause of this fault
 --     Answers          HasAnswered after Ok, HasFailed after Err
---     Finds            the same for a replica, and for what its pass knew and knows
+--     Finds            what Answers says, of a replica and of what its pass knew and knows
 use Rattle.std.specs.Prelude.{◌≤◌, ℕ, Bool, Result, Ok, Err}
 use Rattle.decision_log.specs.declared.known.Known.{Known}
 use Rattle.decision_log.specs.declared.log.DecisionLog.{Ghosts as LogOf}
@@ -14,16 +14,16 @@ use Rattle.xa_session.specs.declared.fault.Fault.{Fault}
 use Rattle.xa_session.specs.declared.replica.Replica.{Replica}
 use Rattle.xa_session.specs.declared.session.Session.{Session}
 
--- the reply is the server's at the answer's place, the replica had replayed what it was found on, and has replayed all
--- that is seen since
+-- the statement was answered as `IsAnswered` says; the replica has replayed at least the entries before the answer's
+-- place, and all that is seen unless carrying the statement out may take memory
 pub record HasAnswered {Log Pass : Type 0} {log : LogOf Log Pass} (statement : Statement) (answer : Answer)
     (old new : Session Log Pass log) : Type 0 where
   pub answered : IsAnswered old.base.now statement answer (log.known old.pass) (log.known new.pass)
   pub replayed : answer.place ≤ new.replica.replayed
   pub kept : IsKept old.base.now statement answer new.replica (log.known new.pass)
 
--- the fault has its cause, the replica had replayed all that is seen at Full, and only the list or the replica needs
--- memory
+-- the fault has its cause; at Full the replica has replayed all that is seen; NoMemory comes only for the list of an
+-- XA RECOVER, or if the replica hasn't replayed all that is seen
 pub record HasFailed {Log Pass : Type 0} {log : LogOf Log Pass} (statement : Statement) (fault : Fault)
     (old new : Session Log Pass log) : Type 0 where
   pub fails : Fails log.TURNS (log.belongs_to old.pass).capacity old.base.now statement fault (log.known old.pass)
@@ -37,7 +37,8 @@ abbrev pub Answers : {Log Pass : Type 0} {log : LogOf Log Pass} → Statement �
 Answers statement (Ok answer) old new = HasAnswered statement answer old new
 Answers statement (Err fault) old new = HasFailed statement fault old new
 
--- what a try comes to for a replica that is in no session, in a log with a turn or without, of a capacity
+-- what a try by a replica and a pass comes to, in a log with turns or without, of a capacity: after Ok as `HasAnswered`
+-- says it of a session, after Err as `HasFailed` does
 abbrev pub Finds : Bool → ℕ → State → Statement → Result Answer Fault → Replica → Known → Known → Type 0
 Finds turns capacity base statement (Ok answer) replica old new =
     IsAnswered base statement answer old new × (answer.place ≤ replica.replayed)

@@ -10,11 +10,11 @@ use Rattle.xa_server.specs.State.{State}
 use Rattle.xa_server.specs.Step.{after_all}
 use Rattle.xa_session.specs.declared.replica.Replica.{Replica}
 
--- a session's number and its statement
+-- an entry's session number and its statement
 abbrev pub call_of : Entry → ℕ × Statement
 call_of entry = (entry.session, entry.statement)
 
--- the state after a history
+-- the state after all entries of a history, from the state in which it begins
 unfoldable pub state_after : State → List Entry → State
 state_after base history = after_all base (map call_of history)
 

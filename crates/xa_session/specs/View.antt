@@ -2,11 +2,11 @@
 --     SessionView      its log, whether that has turns, the state in which its history begins, what it knows, what
 --                      its other sessions know, how many more statements it takes, and whether memory may have been
 --                      refused for one
---     KeepsLimit       a limit isn't lifted
+--     KeepsLimit       a limit is neither lifted nor raised
 --     StaysOfLog       it is of the same log, no other session of the value spoke, and its limit isn't lifted
---     Takes            so many statements were taken
---     TakesUnanswered  a statement was taken and not answered, or wasn't taken
---     TakesBy          a statement was taken, by the answer
+--     Takes            so many statements fewer are left, if they are limited
+--     TakesUnanswered  how many are left after a fault: one fewer, or none as before at NoMemory
+--     TakesBy          how many are left after a result
 use Rattle.std.specs.Prelude.{◌≡◌, ◌≤◌, ◌+◌, ◌⊎◌, ℕ, Bool, true, List, Option, Some, None, Result, Ok, Err}
 use Rattle.xa_server.specs.State.{State}
 use Rattle.decision_log.specs.Known.{LogIdentity}
@@ -47,13 +47,15 @@ abbrev pub Takes : ℕ → Option ℕ → Option ℕ → Type 0
 Takes count None new = new ≡ None
 Takes count (Some before) new = (after : ℕ) × (new ≡ Some after) × (after + count ≡ before)
 
--- the statement was taken, and memory may have been refused for it if the fault says so; or none was left
+-- the statement was taken: one fewer is left if they are limited, and at NoMemory it is noted that memory may have been
+-- refused; or none was left to take, the fault is NoMemory, and none is left still
 abbrev pub TakesUnanswered : Fault → SessionView → SessionView → Type 0
 TakesUnanswered fault old new =
     (Takes 1 old.left new.left × (fault ≡ NoMemory → new.starved ≡ true))
     ⊎ ((fault ≡ NoMemory) × (old.left ≡ Some 0) × (new.left ≡ Some 0))
 
--- the one statement was taken, and if it wasn't answered, the fault has its cause
+-- how many statements are left after this result: one fewer after an answer; after a fault as `TakesUnanswered` says,
+-- so there may have been none left to take
 abbrev pub TakesBy : Result Answer Fault → SessionView → SessionView → Type 0
 TakesBy (Ok answer) old new = Takes 1 old.left new.left
 TakesBy (Err fault) old new = TakesUnanswered fault old new

@@ -45,6 +45,7 @@ impl<'a, L: DecisionLog> Session<'a, L> {
     {
         for _ in rt.forever() {
             match self.attempt(statement) {
+                // Another session has appended first, or has the turn: its thread may go on before the next try.
                 Err(Fault::Overtaken { .. }) | Err(Fault::Busy) => thread::yield_now(),
                 answered => return answered,
             }

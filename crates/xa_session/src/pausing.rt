@@ -38,6 +38,7 @@ impl<'a, L: DecisionLog> Session<'a, L> {
         // Proved (sessions, pause-and-resume)
         ensures replica { result.replica ≡ replica }
     {
+        // The session's invariant names the base's lock law.
         base.keeps_lock_law();
         Session {
             log,

@@ -53,6 +53,7 @@ impl<'a, L: DecisionLog> Session<'a, L> {
         // Proved (sessions, connect)
         ensures err { IfErr result (λ refused. refused.0 ≡ pass) }
     {
+        // The session's invariant names the base's lock law.
         base.keeps_lock_law();
         match Replica::of(base) {
             Ok(replica) => Ok(Session {

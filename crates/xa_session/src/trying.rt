@@ -1,5 +1,7 @@
 //! A single try by a replica and a pass, which needn't be in a session then.
 //!
+//! The parameter `base` is the state in which the history begins. Only the contracts need it: no code reads it.
+//!
 //! Of the contracts' clauses, `belongs` says that the pass is still of its log, `stands` that the replica is the
 //! state after the prefix that it has replayed, and `folds` that this prefix gets no shorter.
 ghost use Rattle.std.specs.Prelude.{◌≡◌, ◌⊎◌, ◌<◌, ◌≤◌, ◌^◌, true, length, slice_get, Some, IfOk, IfErr, OnOk, OnErr};
@@ -38,7 +40,8 @@ impl Replica {
         self.replay(&entry)
     }
 
-    /// Replays all entries that are seen and weren't replayed. `count` is how many are seen.
+    /// Replays all entries that are seen and weren't replayed. `count` is how many are seen. After `NoMemory`
+    /// some are still left.
     fn catch_up<L: DecisionLog>(
         &mut self,
         log: &L,
@@ -61,7 +64,8 @@ impl Replica {
         Ok(())
     }
 
-    /// Looks, and replays all that is seen then. Returns how many entries that is.
+    /// Looks, and replays all that is seen then. Returns how many entries are seen. After `NoMemory` some
+    /// aren't replayed yet.
     fn observe<L: DecisionLog>(
         &mut self,
         log: &L,
@@ -82,8 +86,8 @@ impl Replica {
         Ok(count)
     }
 
-    /// Carries out the entry that is to be replayed next: a statement of the pass's own session that is
-    /// logged.
+    /// Carries out the next entry that the pass has seen: this statement of this session, which is logged in
+    /// the replica's state.
     fn keep<L: DecisionLog>(
         &mut self,
         log: &L,
@@ -100,13 +104,14 @@ impl Replica {
         ensures replays { ReplaysOne result self.old self.new }
         ensures memory { OnErr result (may_take_memory self.old.server session statement.now ≡ true) }
     {
-        // It bounds the count of entries.
+        // The capacity bounds how many entries are seen, so counting one more doesn't overflow.
         let _capacity = log.capacity();
         self.accept(session, statement)
     }
 
-    /// Appends a statement that is logged, after all that is seen was replayed, and carries it out. If
-    /// there is no memory for that, it is replayed later.
+    /// Appends a statement that is logged, and carries it out on the replica, which has replayed all that is
+    /// seen. If there is no memory to carry it out, it is replayed later. Returns Ok once it is appended; after an
+    /// error nothing is, and the replica is unchanged.
     fn add<L: DecisionLog>(
         &mut self,
         log: &L,
@@ -169,10 +174,12 @@ impl Replica {
         let session = log.number(pass);
         let (reply, enters) = self.server.reply(session, statement)?;
         let answer = Answer { place, reply };
-        // The answer stands already: nothing is to be appended.
+        // A statement that isn't logged is answered by now: nothing is to be appended.
         if !enters {
             return Ok(answer);
         }
+        // The statement is appended only if no entry has come after those seen. So the reply is still the one at the
+        // entry's place.
         self.add(log, pass, base, session, statement)?;
         Ok(answer)
     }

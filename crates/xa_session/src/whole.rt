@@ -7,8 +7,8 @@ use decision_log::DecisionLog;
 use xa_server::Server;
 use xa_xid::NoMemory;
 
-/// Makes the server that the history leaves of `base`, as far as the pass has seen it. No session has to be
-/// open.
+/// Makes the server that `base` becomes by all entries of the history that the pass has seen. `base` is
+/// unchanged. No session has to be open.
 ///
 /// Error: `NoMemory`; what the pass has seen is unchanged. Doesn't wait.
 /// Own rule: docs/RATTLE.md#sessions.

@@ -51,7 +51,7 @@ space_next : (text : List ℕ) → bare (tokens_of (32 ∷ text)) ≡ bare (toke
 unfolding behind belongs
 space_next text = ap bare (sym (tokens-unblank (32 ∷ text)) ∙ tokens-unblank text)
 
--- a comma (the byte 44) is cut off as one
+-- a comma (the byte 44) in front is cut off as that token
 comma_next : (text : List ℕ) → bare (tokens_of (44 ∷ text)) ≡ Comma ∷ bare (tokens_of text)
 unfolding behind belongs token_at
 comma_next text = token_next (44 ∷ text) text text 44 Comma refl refl refl
@@ -129,7 +129,7 @@ disconnect_text : bare (tokens_of (codes "DISCONNECT")) ≡ Word DISCONNECT ∷ 
 unfolding token_at front behind belongs keyword_of statement_word clause_word is_word pieces
 disconnect_text = refl
 
--- what begins with a digit is no word
+-- what tests as None is None
 not_some : (found : Option Keyword) → is_none found ≡ true → found ≡ None
 not_some None e = refl
 not_some (Some word) e = absurd (true≢false (sym e))
@@ -259,14 +259,14 @@ xid_tokens xid rest is s =
           ∙ ap (λ ts. gtrid ∷ Comma ∷ bqual ∷ Comma ∷ ts) f.tokens;
     }
 
--- an identifier at the end of a text
+-- the canonical text of an identifier with nothing behind it is only the tokens of that identifier
 xid_last : (xid : Xid) → (is : IsWritable xid) → bare (tokens_of (xid_text xid)) ≡ (xid_tokens xid [] is tt).x
 xid_last xid is =
     let x = xid_tokens xid [] is tt in
     ap (λ t. bare (tokens_of t)) (sym (append-nil (xid_text xid))) ∙ x.tokens ∙ ap (λ ts. x.x ++ bare ts) (pieces-nil 0)
     ∙ append-nil x.x
 
--- a blank ends the identifier before ONE PHASE
+-- the text ` ONE PHASE` begins with no word byte, so it ends an identifier before it
 one_phase_no_word : StartsNo (belongs word_byte) (codes " ONE PHASE")
 unfolding belongs
 one_phase_no_word = refl
@@ -280,7 +280,8 @@ part_last bytes all fits =
     ap (λ t. bare (tokens_of t)) (sym (append-nil (part_text bytes))) ∙ part.tokens
     ∙ ap (λ ts. Value (Some (record { items = bytes })) part.number ∷ bare ts) (pieces-nil 0)
 
--- XA and a word before an identifier at the end of a text
+-- if a text is always cut off as a word, then XA, this text and the canonical text of an identifier at the end are XA,
+-- the word and the identifier's tokens
 xa_xid : (text : List ℕ) (word : Keyword) (xid : Xid) → (is : IsWritable xid)
     → ((rest : List ℕ) → bare (tokens_of (text ++ rest)) ≡ Word word ∷ bare (tokens_of rest))
     → bare (tokens_of (codes "XA " ++ (text ++ xid_text xid))) ≡ Word XA ∷ Word word ∷ (xid_tokens xid [] is tt).x

@@ -32,7 +32,7 @@ bare-append (piece ∷ front) back = ap (λ ts. piece.0 ∷ ts) (bare-append fro
 ok_is_err : {A B : Type 0} (a : A) (b : B) → Ok a ≡ Err b → ⊥
 ok_is_err a b e = cc
 
--- the pieces along which the machine goes on are read
+-- `run_on` for the pieces behind a token, if it holds from each state that the token may have led to
 run_next : (reached : Option State) (left : ℕ) (front back : List Piece) (last : State)
     → walk_on reached (bare front) ≡ Some last
     → ((s : State) → walk s (bare front) ≡ Some last → read_from s (front ++ back) ≡ read_from last back)
@@ -112,7 +112,7 @@ stop_here state piece more left stops same = record {
   stops = stops;
 }
 
--- the step: if stopping is explained for the rest of the tokens, it is with one token more in front
+-- the step of `err_stops`: if stopping is explained for the tokens behind the first, it is for all of them
 err_next : (reached : Option State) (state : State) (piece : Piece) (more : List Piece) (left : ℕ)
     → after_token state piece.0 ≡ reached
     → from_next reached piece.1 more ≡ Err left
@@ -132,12 +132,12 @@ err_stops (piece ∷ more) state left e =
     err_next (after_token state piece.0) state piece more left refl (sym (read_from-cons state piece more) ∙ e)
     (λ s r. err_stops more s left r)
 
--- what is left from a token on is no more than the text
+-- each piece has at most so many bytes from it to the end
 abbrev Within : ℕ → List Piece → Type 0
 Within most [] = Unit {0}
 Within most (piece ∷ more) = (piece.1 ≤ most) × Within most more
 
--- the pieces behind the first one have no more bytes left than the text
+-- the pieces of a text, from its first on, have at most as many bytes left as the text, if those behind the first do
 within_first : (fuel most : ℕ) (text : List ℕ) → length text ≤ most
     → ((rest : List ℕ) → length rest ≤ most → Within most (pieces fuel rest))
     → Within most (go_on fuel (first_piece text))
@@ -158,7 +158,7 @@ within_at : (most : ℕ) (front back : List Piece) (piece : Piece) → Within mo
 within_at most [] back piece w = w.0
 within_at most (first ∷ front) back piece w = within_at most front back piece w.1
 
--- the tokens along which the machine goes on can become a statement
+-- tokens that lead from the beginning to a state are tokens of that state
 led_on : (tokens : List Token) (last : State) → walk AtFirst tokens ≡ Some last → Front last tokens
 led_on tokens last e = rw e at (reach tokens AtFirst [] refl)
 
@@ -173,7 +173,7 @@ spelled text statement read last e =
     rw (ended_ok (finish last) statement ends) at (said last (bare (tokens_of text))
     (led_on (bare (tokens_of text)) last e))
 
--- what is read is led along all tokens
+-- the step of `ok_led`: if reading behind a token gives a statement, the machine is led along the tokens behind it
 ok_next : (reached : Option State) (left : ℕ) (more : List Piece) (statement : Statement)
     → from_next reached left more ≡ Ok statement
     → ((s : State) → read_from s more ≡ Ok statement → (last : State) × (walk s (bare more) ≡ Some last))
@@ -240,7 +240,7 @@ pub err_sound : (text : List ℕ) (left : ℕ) → read_from AtFirst (tokens_of 
     → FaultAt text (length text - left)
 err_sound text left e = fault_of text left (err_stops (tokens_of text) AtFirst left e)
 
--- the machine has no next state at the token of a fault
+-- if no statement begins with some tokens and one more, the state after them has no next one for it
 stops_there : (tokens : List Token) (token : Token) (last : State) → walk AtFirst tokens ≡ Some last
     → (MayGoOn (tokens ++ token ∷ []) → ⊥)
     → (reached : Option State) → after_token last token ≡ reached → after_token last token ≡ None
@@ -262,7 +262,7 @@ fault_read text place left front back token cut may never sum =
     ∙ read_from-stop led.0 (token, left) back stops in
     (left, (read, omega arith))
 
--- the machine has no statement where none is spelled
+-- if a text spells no statement, none is whole in the state after its tokens
 unfinished_there : (text : List ℕ) (last : State) → walk AtFirst (bare (tokens_of text)) ≡ Some last
     → ((statement : Statement) → Spells text statement → ⊥)
     → (found : Option Statement) → finish last ≡ found → finish last ≡ None

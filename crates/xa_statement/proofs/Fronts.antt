@@ -1,4 +1,4 @@
--- The tokens that lead to each state, and that each state can still become a statement.
+-- The tokens that lead to each state, and that one token more leads to a state with that token behind them.
 use Rattle.std.proofs.Common.{◌≡◌, ◌<◌, ℕ, length, arith, List, [], ◌∷◌, ◌++◌, append_assoc, Option, Some, None, refl}
 use Rattle.std.proofs.Common.{◌∙◌, ap}
 use Rattle.xa_xid.specs.Xid.{Text}
@@ -76,7 +76,7 @@ pub record KeyOf (key : List ℕ) (tail tokens : List Token) : Type 0 where
   pub is : key ≡ text.items
   pub same : tokens ≡ Word PUT ∷ Value (Some text) number ∷ tail
 
--- the tokens are a verb and a whole identifier
+-- the tokens are XA, a word of the verb, and a whole identifier
 pub record XidOf (verb : Verb) (xid : Xid) (tokens : List Token) : Type 0 where
   pub x : List Token
   pub form : XidTokens x xid
@@ -115,7 +115,7 @@ opened_more : (verb : Verb) (tail tokens : List Token) (token : Token) → Opene
     → Opened verb (tail ++ token ∷ []) (tokens ++ token ∷ [])
 opened_more verb tail tokens token o = record { word = o.word; is = o.is; same = ap (λ ts. ts ++ token ∷ []) o.same }
 
--- XA END or XA START with a clause of which one word more has come
+-- one token more behind XA, a word and an identifier is the last of the tokens behind the identifier
 clause_more : (word : Keyword) (tail tokens : List Token) (token : Token) → ClauseOf word tail tokens
     → ClauseOf word (tail ++ token ∷ []) (tokens ++ token ∷ [])
 clause_more word tail tokens token c = record {
@@ -125,7 +125,7 @@ clause_more word tail tokens token c = record {
   same = ap (λ ts. ts ++ token ∷ []) c.same ∙ ap (λ ts. Word XA ∷ Word word ∷ ts) (append_assoc c.x tail (token ∷ []));
 }
 
--- PUT with a key, behind which one token more has come
+-- one token more behind PUT and a key is the last of the tokens behind the key
 key_more : (key : List ℕ) (tail tokens : List Token) (token : Token) → KeyOf key tail tokens
     → KeyOf key (tail ++ token ∷ []) (tokens ++ token ∷ [])
 key_more key tail tokens token k = record {
@@ -155,7 +155,7 @@ xid_next Commits xid ONE tokens f = record {
 }
 xid_next _ xid word tokens f = tt
 
--- the states behind a gtrid and behind a bqual as whole xids
+-- a gtrid alone is an identifier, with an empty bqual and the formatID 1
 gtrid_xid : (verb : Verb) (g : Text) (tokens : List Token) → Front (AfterGtrid verb g) tokens
     → XidOf verb (xid_of g no_text 1) tokens
 gtrid_xid verb g tokens f = record { x = Value (Some g) f.0 ∷ []; form = gtrid g f.0; before = f.1 }
@@ -255,7 +255,7 @@ value_next (WantsValue key) (Some value) n tokens f =
     put_row key more.text value more.number n _ more.some more.is more.same
 value_next _ literal number tokens f = tt
 
--- a row, of a statement that there may be
+-- if there is a statement, the tokens are a row of the grammar that says it
 abbrev pub RowOf : Option Statement → List Token → Type 0
 RowOf None tokens = Unit {0}
 RowOf (Some statement) tokens = Row tokens statement

@@ -46,7 +46,8 @@ pub read_from-nil : (state : State) → read_from state [] ≡ read_end (finish 
 unfolding read_from
 read_from-nil state = refl
 
--- what was read before the rest of a text
+-- reading a text has come to this state and this rest, which begins with no blank: what is read of the rest from the
+-- state is what is read of the whole text
 pub record ReadBefore (text : List ℕ) (state : State) (rest : List ℕ) : Type 0 where
   pub within : length rest ≤ length text
   pub front : IsUnblank rest
@@ -74,7 +75,8 @@ rest-short (byte ∷ rest) some =
     let tail = (token_at (byte ∷ rest)).1 in
     omega (arith, token-short byte rest, behind-short (belongs blank_byte) tail)
 
--- the loop over tokens: one that leads on
+-- the loop over tokens: if the first token of the rest leads to a state, reading has come to that state and to what
+-- is left behind the token and blanks
 pub read_step : (text rest later : List ℕ) (state next : State) → 0 < length rest
     → after_token state (token_at rest).0 ≡ Some next
     → later ≡ unblank (token_at rest).1 → ReadBefore text state rest → ReadBefore text next later
@@ -91,7 +93,7 @@ read_step text rest later state next some steps e before =
           ∙ before.same;
     })
 
--- what the reader returns, by what the machine reads
+-- what the machine reads of a text's tokens is what the reader returns, with a fault's place counted from the front
 pub seen : (text : List ℕ) (found : Result Statement ℕ) → read_from AtFirst (tokens_of text) ≡ found
     → seen_of (read_of text) ≡ seen_of (placed_in text found)
 unfolding read_of

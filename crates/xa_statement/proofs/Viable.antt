@@ -1,4 +1,4 @@
--- Each state can still become a statement, and none that there isn't can.
+-- Each state can still become a statement; and where the machine has no state, no statement begins so.
 use Rattle.std.proofs.Common.{◌≡◌, true, false, List, [], ◌∷◌, ◌++◌, append_assoc, Option, Some, None, refl, sym, ◌∙◌}
 use Rattle.std.proofs.Common.{ap}
 use Rattle.std.proofs.lemmas.List.{append-nil}
@@ -24,7 +24,7 @@ use Rattle.xa_statement.proofs.Walk.{walk, walk_on, walk-nil, walk-cons, walk_th
 use Rattle.xa_statement.proofs.Walk.{said_read}
 use Rattle.xa_statement.proofs.Fronts.{Front, FrontOf, RowOf, row_of, next}
 
--- the state after one token more, and after the tokens behind it, knows what led there
+-- `reach` for a token and those behind it, if it holds from the state that the token led to
 reach_on : (reached : Option State) (token : Token) (more tokens : List Token) → FrontOf reached (tokens ++ token ∷ [])
     → ((s : State) → Front s (tokens ++ token ∷ []) → FrontOf (walk s more) ((tokens ++ token ∷ []) ++ more))
     → FrontOf (walk_on reached more) (tokens ++ token ∷ more)
@@ -40,17 +40,17 @@ reach (token ∷ more) state tokens f =
     (reach_on (after_token state token) token more tokens (next state token tokens f)
     (λ s g. reach more s (tokens ++ token ∷ []) g))
 
--- a statement that there may be is said
+-- if there is a statement, the tokens say it
 abbrev pub SaysOf : Option Statement → List Token → Type 0
 SaysOf None tokens = Unit {0}
 SaysOf (Some statement) tokens = Says tokens statement
 
--- the row of a state's statement, as what the tokens say
+-- tokens that are the row of a statement say it
 said_row : (found : Option Statement) (tokens : List Token) → RowOf found tokens → SaysOf found tokens
 said_row None tokens row = tt
 said_row (Some statement) tokens row = bare_row row
 
--- a state says the statement that its tokens say, if they say one
+-- if a state is that of a statement, the tokens that lead to it say this statement
 pub said : (state : State) (tokens : List Token) → Front state tokens → SaysOf (finish state) tokens
 unfolding finish
 said (Ended statement) tokens f = f
@@ -68,7 +68,7 @@ said_of : (reached : Option State) (tokens : List Token) → FrontOf reached tok
 said_of None tokens f = tt
 said_of (Some state) tokens f = said state tokens f
 
--- tokens that lead on from a state to a statement make it one that may go on
+-- if more tokens lead from a state to a statement, the tokens that led to the state may go on to a statement
 way : (state : State) (tokens more : List Token) (statement : Statement) → answer (walk state more) ≡ Some statement
     → Front state tokens → MayGoOn tokens
 way state tokens more statement e f = record {
@@ -89,7 +89,7 @@ one_byte = record { items = 0 ∷ [] }
 abbrev any_key : Token
 any_key = Value (Some one_byte) None
 
--- each state can become a statement
+-- the tokens that lead to a state may go on to a statement, for each state
 pub goes_on : (state : State) (tokens : List Token) → Front state tokens → MayGoOn tokens
 unfolding walk after_token finish
 goes_on AtFirst ts f = way AtFirst ts (Word DISCONNECT ∷ []) Disconnect refl f
@@ -127,7 +127,7 @@ pub some_reached : (reached : Option State) (more : List Token) (statement : Sta
 some_reached None more statement e = let no : None ≡ Some statement = e in absurd (none_is_some statement no)
 some_reached (Some s) more statement e = (s, refl)
 
--- the machine has a state wherever a statement's tokens begin so
+-- if a statement's tokens begin with these, the machine has a state after them
 pub viable : (tokens : List Token) → MayGoOn tokens → (s : State) × (walk AtFirst tokens ≡ Some s)
 viable tokens m =
     some_reached (walk AtFirst tokens) m.more m.statement

@@ -37,7 +37,7 @@ abbrev pub walk_on : Option State → List Token → Option State
 walk_on None more = None
 walk_on (Some next) more = walk next more
 
--- the statement of a state that there may be
+-- the statement that was read, if there is a state and a statement is whole in it
 abbrev pub answer : Option State → Option Statement
 answer None = None
 answer (Some state) = finish state
@@ -84,7 +84,7 @@ walk-append (token ∷ front) back state =
     ∙ walk_on-append (after_token state token) front back (λ s. walk-append front back s)
     ∙ ap (λ o. walk_on o back) (sym (walk-cons state token front))
 
--- from a state that the first list reaches
+-- if the first of two lists of tokens leads to a state, walking both is walking the second from that state
 pub walk_then : (front back : List Token) (state next : State) → walk state front ≡ Some next
     → walk state (front ++ back) ≡ walk next back
 walk_then front back state next e = walk-append front back state ∙ ap (λ o. walk_on o back) e
@@ -145,7 +145,7 @@ unfolding walk after_token
 start_read _ x is_start = refl
 start_read _ x is_begin = refl
 
--- JOIN and RESUME make it a statement that isn't supported
+-- JOIN or RESUME behind the identifier of XA START makes a statement that isn't supported
 join_next : (word : Keyword) (xid : Xid) → JoinWord word → xid_word Starts xid word ≡ Some (Whole Unsupported)
 join_next _ xid is_join = refl
 join_next _ xid is_resume = refl

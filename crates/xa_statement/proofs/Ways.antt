@@ -110,7 +110,7 @@ pub said_so : (text rest end : List ℕ) (state : State) (said : Statement) → 
 said_so text rest end state said goes leads ends =
     sym (seen text (Ok said) (goes ∙ leads.1.0 ∙ ends leads.0 said leads.1.1.0 leads.1.1.1))
 
--- a statement that a text leads to, by an equal one
+-- as `said_so`, for a statement that equals the one that the states lead to
 pub told_so : (text rest end : List ℕ) (state : State) (said told : Statement) → told ≡ said
     → Goes AtFirst text state rest → Leads state rest said end
     → Ends end → Ok told ≡ seen_of (read_of text)
@@ -121,7 +121,7 @@ onto_nil : (found : Option (List ℕ × List ℕ)) → onto [] found ≡ found
 onto_nil None = refl
 onto_nil (Some (bytes, rest)) = refl
 
--- a byte put in front of what was read, before or after the others
+-- putting bytes and then one byte in front of what was read is putting all of them in front at once
 onto_onto : (byte : ℕ) (xs : List ℕ) (found : Option (List ℕ × List ℕ))
     → onto (byte ∷ []) (onto xs found) ≡ onto (byte ∷ xs) found
 onto_onto byte xs None = refl
@@ -215,7 +215,7 @@ pub goes_known : (text rest : List ℕ) (state next : State) (found word : Keywo
 goes_known text rest state next found word is steps first =
     goes_word text rest state next found (ap (after_word state) is ∙ steps) first
 
--- reading may go on from where it has come
+-- if reading comes from a state to another, and leads from there to a statement, it leads to it from the first
 pub goes_then : (text rest end : List ℕ) (state next : State) (said : Statement) → Goes state text next rest
     → Leads next rest said end
     → Leads state text said end
@@ -252,13 +252,13 @@ bqual_goes verb gtrid text middle rest found first comma =
     first.1 (WantsBqual verb gtrid) (AfterBqual verb gtrid found) refl
     ∙ comma (AfterBqual verb gtrid found) (WantsFormatId verb gtrid found) refl
 
--- a gtrid alone leads to the identifier with an empty bqual and the formatID 1
+-- as `gtrid_leads`, with a bqual and a formatID that equal the empty text and 1
 pub gtrid_said : (verb : Verb) (text rest : List ℕ) (found bqual : Text) (number : ℕ) → bqual ≡ no_text → number ≡ 1
     → TakesLiteral text found rest
     → Leads (WantsGtrid verb) text (statement_of verb (xid_of found bqual number)) rest
 gtrid_said verb text rest found bqual number none one first = rw (none, one) (gtrid_leads verb text rest found first)
 
--- a bqual at the end leads to the identifier with the formatID 1
+-- as `bqual_leads`, with a formatID that equals 1
 pub bqual_said : (verb : Verb) (gtrid : Text) (text rest : List ℕ) (found : Text) (number : ℕ) → number ≡ 1
     → TakesLiteral text found rest
     → Leads (WantsBqual verb gtrid) text (statement_of verb (xid_of gtrid found number)) rest
@@ -292,19 +292,19 @@ unfolding after_token
 key_goes verb text rest key first some =
     first.1 (WantsKey verb) (after_key verb key.items) (key_some verb key.items some)
 
--- GET with its key is whole
+-- GET with a key that isn't empty is a whole statement
 pub get_leads : (text rest : List ℕ) (key : Text) → TakesLiteral text key rest → 0 < length key.items
     → Leads (WantsKey Gets) text (Get key.items) rest
 unfolding finish
 get_leads text rest key first some = (Whole (Get key.items), (key_goes Gets text rest key first some, (refl, refl)))
 
--- DEL with its key is a whole statement
+-- DEL with a key that isn't empty is a whole statement
 pub del_leads : (text rest : List ℕ) (key : Text) → TakesLiteral text key rest → 0 < length key.items
     → Leads (WantsKey Deletes) text (Del key.items) rest
 unfolding finish
 del_leads text rest key first some = (Whole (Del key.items), (key_goes Deletes text rest key first some, (refl, refl)))
 
--- PUT with key, comma and value is a whole statement
+-- PUT with a key that isn't empty, a comma and a value is a whole statement
 pub row_leads : (text behind_key behind_comma rest : List ℕ) (key value : Text) → TakesLiteral text key behind_key
     → TakesToken Comma behind_key behind_comma
     → TakesLiteral behind_comma value rest → 0 < length key.items

@@ -1,4 +1,4 @@
--- The canonical text of a statement: capitals, one space between tokens, no ; (own rule).
+-- The canonical text of a statement: capitals, one space between tokens but none beside a comma, no ; (own rule).
 use Rattle.std.specs.Prelude.{ℕ, ◌<◌, ◌≤◌, true, false, List, [], ◌∷◌, ◌++◌, length, codes}
 use Rattle.hex.specs.Hex.{IsBytes}
 use Rattle.xa_xid.specs.Limits.{text_bytes}
@@ -7,7 +7,7 @@ use Rattle.xa_xid.specs.declared.statement.Statement.{Statement}
 use Rattle.xa_xid.specs.declared.statement.Statement.TheVariants.{Start, End, Prepare, Commit, Rollback, Recover}
 use Rattle.xa_xid.specs.declared.statement.Statement.TheVariants.{Unsupported, Get, Put, Del, Disconnect}
 
--- nothing is written for an unsupported statement
+-- the canonical text of each kind of statement; an unsupported one has none
 unfoldable pub statement_text : Statement → List ℕ
 statement_text (Start xid) = codes "XA START " ++ xid_text xid
 statement_text (End xid) = codes "XA END " ++ xid_text xid
@@ -23,7 +23,7 @@ statement_text (Put key value) = codes "PUT " ++ (part_text key ++ (44 ∷ part_
 statement_text (Del key) = codes "DEL " ++ part_text key
 statement_text Disconnect = codes "DISCONNECT"
 
--- a key is some bytes, and few enough; this holds of every key of a program
+-- a key is 1 to `text_bytes` bytes; this holds of every key of a program
 pub record IsKey (key : List ℕ) : Type 0 where
   pub some : 0 < length key
   pub all : IsBytes key

@@ -4,6 +4,8 @@
 --     Says tokens statement      the same, with at most one ; after it
 --     Spells text statement      the text is blanks and such tokens
 --     MayGoOn tokens             a statement's tokens begin with these
+--     StartWord, JoinWord        the words START and BEGIN;  JOIN and RESUME
+--     Literal, Number            a token that can be this literal;  this number
 use Rattle.std.specs.Prelude.{ℕ, true, false, ◌<◌, Option, Some, List, [], ◌∷◌, ◌++◌, length}
 use Rattle.xa_xid.specs.Xid.{Text}
 use Rattle.xa_xid.specs.XidText.{xid_of, no_text}
@@ -24,11 +26,11 @@ use Rattle.xa_statement.specs.declared.token.Token.{Token}
 use Rattle.xa_statement.specs.declared.token.Token.TheVariants.{Word, Comma, Semicolon, Value}
 use Rattle.xa_statement.specs.Token.{tokens_of, bare}
 
--- a token that is a literal, whatever number it may be
+-- a token that can be this literal, and perhaps also a number
 abbrev pub Literal : Text → Option ℕ → Token
 Literal text number = Value (Some text) number
 
--- a token that is a number, whatever literal it may be
+-- a token that can be this number, and perhaps also a literal
 abbrev pub Number : Option Text → ℕ → Token
 Number literal number = Value literal (Some number)
 
@@ -51,7 +53,8 @@ pub data JoinWord : Keyword → Type 0 where
   is_join : JoinWord JOIN
   is_resume : JoinWord RESUME
 
--- the rows of the table (manual, 'XA Transaction SQL Statements'; the last four are our own)
+-- the rows of the table (manual, 'XA Transaction SQL Statements'; the last four are our own): which statement the
+-- tokens are; with JOIN, RESUME or SUSPEND it is unsupported, and a key isn't empty
 pub data Row : List Token → Statement → Type 0 where
   start : {word : Keyword} {parts : List Token} {xid : Xid} → StartWord word → XidTokens parts xid
       → Row (Word XA ∷ Word word ∷ parts) (Start xid)
@@ -86,7 +89,7 @@ pub data Says : List Token → Statement → Type 0 where
   ended_row : {tokens : List Token} {statement : Statement} → Row tokens statement
       → Says (tokens ++ Semicolon ∷ []) statement
 
--- blanks and the tokens of a statement
+-- the text is the tokens of the statement, and maybe one ; with blanks before, between and after them
 abbrev pub Spells : List ℕ → Statement → Type 0
 Spells text statement = Says (bare (tokens_of text)) statement
 

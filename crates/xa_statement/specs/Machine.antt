@@ -1,6 +1,9 @@
 -- How far a statement has been read after each token: a machine whose states carry what was read.
 --     after_token state token  the state after one more token
 --     finish state           the statement, if the tokens so far are one
+--     xid_word, after_word, after_comma, after_value      the same for each kind of token; behind an identifier
+--     unended state          the statement before its ;
+--     statement_of           the statement of a verb and an xid
 use Rattle.std.specs.Prelude.{ℕ, true, false, Option, Some, None, List, [], ◌∷◌}
 use Rattle.xa_xid.specs.Xid.{Text}
 use Rattle.xa_xid.specs.XidText.{xid_of, no_text}
@@ -30,7 +33,7 @@ use Rattle.xa_statement.specs.declared.state.State.TheVariants.{AfterSuspend, Af
 use Rattle.xa_statement.specs.declared.state.State.TheVariants.{AfterConvert, WantsKey, AfterKey, WantsValue}
 use Rattle.xa_statement.specs.declared.state.State.TheVariants.{Whole, Ended}
 
--- what a verb does with an xid
+-- the statement of a verb and an xid, without ONE PHASE
 abbrev pub statement_of : Verb → Xid → Statement
 statement_of Starts xid = Start xid
 statement_of Ends xid = End xid
@@ -38,7 +41,7 @@ statement_of Prepares xid = Prepare xid
 statement_of Commits xid = Commit xid false
 statement_of RollsBack xid = Rollback xid
 
--- the state after a word that stands behind an identifier, if it may
+-- the state after a word behind an identifier; none if the verb has no clause that begins with it
 abbrev pub xid_word : Verb → Xid → Keyword → Option State
 xid_word Starts xid JOIN = Some (Whole Unsupported)
 xid_word Starts xid RESUME = Some (Whole Unsupported)
@@ -83,12 +86,13 @@ after_key Gets key = Whole (Get key)
 after_key Puts key = AfterKey key
 after_key Deletes key = Whole (Del key)
 
--- a literal as a key, which isn't empty
+-- the state after a literal in the place of a key; none if the literal is empty
 abbrev pub key_state : RowVerb → List ℕ → Option State
 key_state verb [] = None
 key_state verb (byte ∷ bytes) = Some (after_key verb (byte ∷ bytes))
 
--- the state after a literal or a number, if one may stand there
+-- the state after a token that is a literal, a number or both: each state takes the one that it wants; none if that
+-- is missing, the state wants neither, or a key is empty
 abbrev pub after_value : State → Option Text → Option ℕ → Option State
 after_value (WantsGtrid verb) (Some text) _ = Some (AfterGtrid verb text)
 after_value (WantsBqual verb gtrid) (Some text) _ = Some (AfterBqual verb gtrid text)
@@ -97,7 +101,7 @@ after_value (WantsKey verb) (Some text) _ = key_state verb text.items
 after_value (WantsValue key) (Some text) _ = Some (Whole (Put key text))
 after_value _ _ _ = None
 
--- the statement after which a ; may still come
+-- the statement that was read, if it is whole and its ; hasn't come yet
 abbrev pub unended : State → Option Statement
 unended (AfterGtrid verb gtrid) = Some (statement_of verb (xid_of gtrid no_text 1))
 unended (AfterBqual verb gtrid bqual) = Some (statement_of verb (xid_of gtrid bqual 1))
@@ -119,7 +123,7 @@ after_token state Comma = after_comma state
 after_token state Semicolon = ended (unended state)
 after_token state (Value literal number) = after_value state literal number
 
--- the statement, if the tokens so far are one
+-- the statement, if the tokens so far are one, with or without a ;
 unfoldable pub finish : State → Option Statement
 finish (Ended statement) = Some statement
 finish state = unended state

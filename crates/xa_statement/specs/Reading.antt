@@ -10,18 +10,18 @@ use Rattle.xa_statement.specs.declared.syntax_fault.SyntaxFault.{SyntaxFault}
 use Rattle.xa_statement.specs.Machine.{after_token, finish}
 use Rattle.xa_statement.specs.Token.{Piece, tokens_of}
 
--- a statement, or a fault at the end of the text
+-- at the end of a text: the statement, or a fault with no bytes left
 abbrev pub read_end : Option Statement → Result Statement ℕ
 read_end None = Err 0
 read_end (Some statement) = Ok statement
 
--- the statement, or the number of bytes from the faulty token to the end
+-- reading goes on from a state: the statement, or the number of bytes from the faulty token to the end
 unfoldable pub read_from : State → List Piece → Result Statement ℕ
 read_from state [] = read_end (finish state)
 read_from state (piece ∷ more) =
     elim (after_token state piece.0) [ None ↦ Err piece.1 | Some next ↦ read_from next more ]
 
--- the place of the rest of a text
+-- what was read, with the fault's place counted from the beginning of the text, not from its end
 abbrev pub placed_in : List ℕ → Result Statement ℕ → Result Statement ℕ
 placed_in text (Ok statement) = Ok statement
 placed_in text (Err left) = Err (length text - left)

@@ -4,6 +4,9 @@
 --     token_at text          the token that a text begins with, and the text after it
 --     tokens_of text         the tokens of a text, each with the number of bytes from it to the end
 --     bare tokens            the tokens without these numbers
+--     statement_word, clause_word     the words that begin a statement or follow XA;  those of clauses
+--     quoted_piece, run_at            the token of a literal in quotes;  of a run of word bytes
+--     pieces most text                the first tokens of a text, at most so many
 use Rattle.std.specs.Prelude.{ℕ, Bool, ◌==◌, ◌||◌, if◌then◌else◌, List, [], ◌∷◌, length, map, codes, zero, suc, Option}
 use Rattle.std.specs.Prelude.{Some, None, Ok, Err, bytes_eq}
 use Rattle.std.specs.Char.{to_ascii_lowercase}
@@ -62,11 +65,11 @@ abbrev pub or_else : {Answer : Type 0} → Option Answer → Option Answer → O
 or_else (Some answer) other = Some answer
 or_else None other = other
 
--- the word of the grammar that a run is
+-- the word of the grammar that a run is, if it is one
 unfoldable pub keyword_of : List ℕ → Option Keyword
 keyword_of run = or_else (statement_word run) (clause_word run)
 
--- what was read, if nothing was faulty
+-- what was read, without the rest of the text; none if it was faulty
 abbrev pub part_of : {Answer : Type 0} → Reading Answer → Option Answer
 part_of (Ok (answer, rest)) = Some answer
 part_of (Err fault) = None
@@ -76,7 +79,7 @@ abbrev pub quoted_piece : Reading Text → Token × List ℕ
 quoted_piece (Ok (text, rest)) = (Value (Some text) None, rest)
 quoted_piece (Err fault) = (Value None None, [])
 
--- a run that is no word, as a literal and as a number
+-- the token of a run in front of a text: the word that the run is, or else its values as a literal and as a number
 abbrev pub run_token : Option Keyword → List ℕ → Token
 run_token (Some word) text = Word word
 run_token None text = Value (part_of (literal_ahead text)) (part_of (number_ahead text))
@@ -89,7 +92,7 @@ run_at text = (run_token (keyword_of (run text)) text, after_run text)
 abbrev pub opens_quoted : List ℕ → Bool
 opens_quoted text = opens_text text || opens_hex text
 
--- the token that a text begins with, if it doesn't begin with a blank
+-- the token that a text begins with, if it doesn't begin with a blank; a byte that begins no token takes the rest
 unfoldable pub token_at : List ℕ → Token × List ℕ
 token_at [] = (Value None None, [])
 token_at (byte ∷ text) =
@@ -103,12 +106,12 @@ token_at (byte ∷ text) =
 abbrev pub Piece : Type 0
 Piece = Token × ℕ
 
--- the first token after blanks, and the text after it
+-- the token that a text begins with, if it doesn't begin with a blank, and the text after it; none if it is empty
 abbrev pub first_piece : List ℕ → Option (Piece × List ℕ)
 first_piece [] = None
 first_piece (byte ∷ text) = let cut = token_at (byte ∷ text) in Some ((cut.0, length (byte ∷ text)), cut.1)
 
--- the given number of tokens from the beginning of a text
+-- the tokens at the beginning of a text, at most the given number of them; blanks before each are skipped
 unfoldable pub pieces : ℕ → List ℕ → List Piece
 pieces zero text = []
 pieces (suc most) text = elim (first_piece (unblank text)) [ None ↦ [] | Some cut ↦ cut.0 ∷ pieces most cut.1 ]

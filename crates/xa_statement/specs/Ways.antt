@@ -1,9 +1,10 @@
 -- The result of reading a part of a text, whatever was read before it.
 --     Goes state text next rest      reading `text` from the first state on is reading `rest` from the second one on
 --     TakesToken token text rest     the token is the first of the text, and `rest` comes after it
---     TakesLiteral text found rest   the same of a literal
+--     TakesLiteral text found rest   the same of a literal; TakesNumber of a number
 --     Leads state text said rest     reading comes to `rest` and a state of a whole statement
---     Ends text                      the text is only blanks and at most one ;
+--     Ends text                      the text can end each whole statement: blanks and at most one ;
+--     plain_in, Closes               a byte between quotes that stands for itself;  the closing quote comes first
 use Rattle.std.specs.Prelude.{◌≡◌, ℕ, Bool, false, ◌==◌, not, if◌then◌else◌, List, [], ◌∷◌, Option, Some, Ok}
 use Rattle.xa_xid.specs.Xid.{Text}
 use Rattle.xa_xid.specs.declared.statement.Statement.{Statement}
@@ -23,7 +24,7 @@ abbrev pub heads : ℕ → List ℕ → Bool
 heads byte [] = false
 heads byte (first ∷ _) = first == byte
 
--- the text begins with a quote that isn't the first of two
+-- the text begins with a quote that isn't the first of two, and `rest` comes after it
 abbrev pub Closes : ℕ → List ℕ → List ℕ → Type 0
 Closes quote text rest = (text ≡ quote ∷ rest) × (heads quote rest ≡ false)
 
@@ -31,7 +32,7 @@ Closes quote text rest = (text ≡ quote ∷ rest) × (heads quote rest ≡ fals
 abbrev pub Goes : State → List ℕ → State → List ℕ → Type 0
 Goes state text next rest = read_from state (tokens_of text) ≡ read_from next (tokens_of rest)
 
--- the token comes first, after blanks
+-- the token comes first, after blanks: from each state that takes it, reading the text is reading `rest` from the next
 abbrev pub TakesToken : Token → List ℕ → List ℕ → Type 0
 TakesToken token text rest = (state next : State) → after_token state token ≡ Some next → Goes state text next rest
 
@@ -43,12 +44,12 @@ TakesLiteral text found rest = (number : Option ℕ) × TakesToken (Value (Some 
 abbrev pub TakesNumber : List ℕ → ℕ → List ℕ → Type 0
 TakesNumber text number rest = (literal : Option Text) × TakesToken (Value literal (Some number)) text rest
 
--- reading comes to a state of a whole statement
+-- reading the text comes to `rest` and a state in which this statement is whole, and its ; may still come
 abbrev pub Leads : State → List ℕ → Statement → List ℕ → Type 0
 Leads state text said rest =
     (next : State) × (Goes state text next rest × ((unended next ≡ Some said) × (finish next ≡ Some said)))
 
--- the text may stand behind a whole statement: nothing but blanks, or one semicolon and blanks
+-- reading the text from each state of a whole statement gives that statement: it is blanks, or a ; and blanks
 abbrev pub Ends : List ℕ → Type 0
 Ends text = (state : State) (said : Statement) → unended state ≡ Some said → finish state ≡ Some said
     → read_from state (tokens_of text) ≡ Ok said

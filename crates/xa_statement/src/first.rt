@@ -1,6 +1,7 @@
-//! Functions that take one token of a wanted kind from the front of a text.
+//! Functions that take one token of a wanted kind from the front of a text, and `ends`, which tests what is
+//! left.
 //!
-//! Each returns `None` if another token comes first.
+//! Each returns `None` if another token, a faulty one or none comes first. Their contracts say only what `Some` means.
 ghost use Rattle.std.specs.Prelude.{◌≡◌, ◌<◌, ℕ, Option, Some, [], ◌∷◌, None, Ok, length, IfSome, IsTrue};
 ghost use Rattle.xa_xid.specs.Bytes.{front, behind};
 ghost use Rattle.xa_xid.specs.Literal.{literal_ahead, text_literal_of};
@@ -21,7 +22,8 @@ pub(crate) fn first_word(text: &[u8]) -> Option<(Keyword, &[u8])>
     Some((word, rest))
 }
 
-/// Takes a word of the grammar from the front of a text that doesn't begin with a blank.
+/// Returns the word of the grammar that a text begins with, and the text after it; None if another token or none comes
+/// first. Blanks aren't skipped.
 #[tactic(auto, unfolding(crate::specs::Token::token_at))]
 fn word_in_front(text: &[u8]) -> Option<(Keyword, &[u8])>
     ensures some { IfSome result (λ found. 0 < length text.now) }
@@ -30,6 +32,7 @@ fn word_in_front(text: &[u8]) -> Option<(Keyword, &[u8])>
     if text.is_empty() {
         return None;
     }
+    // The cases of `token_of`: only a run of word bytes can be a word.
     match text[0] {
         b',' => None,
         b';' => None,
@@ -45,7 +48,8 @@ fn word_in_front(text: &[u8]) -> Option<(Keyword, &[u8])>
     }
 }
 
-/// Takes a run of word bytes that is a word of the grammar.
+/// Returns the word of the grammar that the run of word bytes at the front is, and the text after it; `None` if it is
+/// another run.
 fn word_run(text: &[u8]) -> Option<(Keyword, &[u8])>
     ensures { IfSome result (λ found. run_at text.now ≡ (Word found.0, found.1.now)) }
 {
@@ -64,7 +68,8 @@ pub(crate) fn first_number(text: &[u8]) -> Option<(u64, &[u8])>
     Some((number, rest))
 }
 
-/// Takes a number from the front of a text that doesn't begin with a blank.
+/// Returns the number that a text begins with, and the text after it; None if another token or none comes first, or if
+/// the number is above 2^64-1. Blanks aren't skipped.
 #[tactic(auto, unfolding(crate::specs::Token::token_at))]
 fn number_in_front(text: &[u8]) -> Option<(u64, &[u8])>
     ensures some { IfSome result (λ found. 0 < length text.now) }
@@ -74,6 +79,7 @@ fn number_in_front(text: &[u8]) -> Option<(u64, &[u8])>
     if text.is_empty() {
         return None;
     }
+    // The cases of `token_of`: only a run of word bytes can be a number.
     match text[0] {
         b',' => None,
         b';' => None,
@@ -89,7 +95,8 @@ fn number_in_front(text: &[u8]) -> Option<(u64, &[u8])>
     }
 }
 
-/// Takes a run of word bytes that is a number.
+/// Returns the number that the run of word bytes at the front is, and the text after it; `None` if the run is a word of
+/// the grammar, no number, or one above 2^64-1.
 fn number_run(text: &[u8]) -> Option<(u64, &[u8])>
     ensures { IfSome result
         (λ found. run_at text.now ≡ (Value (part_of (literal_ahead text.now)) (Some found.0), found.1.now)) }
@@ -101,7 +108,7 @@ fn number_run(text: &[u8]) -> Option<(u64, &[u8])>
     }
 }
 
-/// Returns the text after the byte, if the text begins with it.
+/// Returns the text after the byte, if the text begins with it, and else None.
 fn behind_byte(byte: u8, text: &[u8]) -> Option<&[u8]>
     ensures { IfSome result (λ rest. text.now ≡ byte ∷ rest.now) }
 {
@@ -119,7 +126,7 @@ pub(crate) fn behind_comma(text: &[u8]) -> Option<&[u8]>
     Some(rest)
 }
 
-/// Returns whether only blanks and at most one `;` are left.
+/// Returns true only if nothing but blanks and at most one `;` is left.
 pub(crate) fn ends(text: &[u8]) -> bool
     ensures { IsTrue result → Ends text.now }
 {
@@ -130,14 +137,15 @@ pub(crate) fn ends(text: &[u8]) -> bool
     }
 }
 
-/// Puts the literal that comes first into an empty text, and returns the text after it.
+/// Puts the literal that comes first into `bytes`, which is empty, and returns the text after it.
 ///
-/// If no literal comes first, `bytes` holds anything.
+/// `None` if no right literal comes first; `bytes` then holds anything.
 pub(crate) fn take_literal<'a>(bytes: &mut Bytes, text: &'a [u8]) -> Option<&'a [u8]>
     requires { bytes.now.items ≡ [] }
     ensures { IfSome result (λ rest. TakesLiteral text.now bytes.new rest.now) }
 {
     let front = skip_blanks(text);
+    // Most literals are plain. The other way reads every form, and replaces whatever is in `bytes`.
     match take_plain(bytes, front) {
         Some(rest) => Some(rest),
         None => {
@@ -147,7 +155,8 @@ pub(crate) fn take_literal<'a>(bytes: &mut Bytes, text: &'a [u8]) -> Option<&'a 
     }
 }
 
-/// Takes a literal of any form.
+/// Puts a literal of any form into `bytes`, and returns the text after it; `None` if the text doesn't begin
+/// with one. Blanks aren't skipped.
 fn take_any<'a>(bytes: &mut Bytes, text: &'a [u8]) -> Option<&'a [u8]>
     ensures some { IfSome result (λ rest. 0 < length text.now) }
     ensures token { IfSome result (λ rest. (number : Option ℕ)
@@ -166,7 +175,8 @@ fn take_any<'a>(bytes: &mut Bytes, text: &'a [u8]) -> Option<&'a [u8]>
     }
 }
 
-/// Takes a literal in quotes in which each byte stands for itself.
+/// Puts a literal in quotes, of at most 64 bytes each of which stands for itself, into `bytes`, and returns the text
+/// after it; `None` if the text doesn't begin with such a literal.
 fn take_plain<'a>(bytes: &mut Bytes, text: &'a [u8]) -> Option<&'a [u8]>
     requires { bytes.now.items ≡ [] }
     ensures some { IfSome result (λ rest. 0 < length text.now) }
@@ -185,7 +195,8 @@ fn take_plain<'a>(bytes: &mut Bytes, text: &'a [u8]) -> Option<&'a [u8]>
     }
 }
 
-/// Takes a literal in quotes, of plain bytes alone, from the text behind its opening quote.
+/// Puts a literal in quotes into `bytes`, from the text behind its opening quote, and returns the text after it.
+/// `None` if the literal has an escape or two quotes for one, isn't closed, or has more than 64 bytes.
 fn take_quoted<'a>(quote: u8, bytes: &mut Bytes, body: &'a [u8]) -> Option<&'a [u8]>
     requires { bytes.now.items ≡ [] }
     ensures { IfSome result (λ rest. text_literal_of (read_in_quotes quote Plain body.now) ≡ Ok (bytes.new, rest.now)) }
@@ -198,14 +209,14 @@ fn take_quoted<'a>(quote: u8, bytes: &mut Bytes, body: &'a [u8]) -> Option<&'a [
     }
 }
 
-/// Returns whether the byte stands for itself between such quotes.
+/// Returns whether the byte stands for itself between these quotes: it is neither the quote nor a backslash.
 fn is_plain(quote: u8, byte: u8) -> bool
     ensures { result ≡ plain_in quote byte }
 {
     byte != quote && byte != b'\\'
 }
 
-/// Cuts off the bytes at the beginning that stand for themselves.
+/// Cuts a text behind the bytes at its beginning that stand for themselves between these quotes.
 fn split_plain(quote: u8, body: &[u8]) -> (&[u8], &[u8])
     ensures front { result.0.now ≡ front (plain_in quote) body.now }
     ensures behind { result.1.now ≡ behind (plain_in quote) body.now }
@@ -218,7 +229,8 @@ fn split_plain(quote: u8, body: &[u8]) -> (&[u8], &[u8])
     body.split_at(body.len())
 }
 
-/// Returns the text after a quote that isn't the first of two.
+/// Returns the text after the quote that the text begins with; `None` if it begins with none, or with two,
+/// which stand for one byte.
 fn behind_quote(quote: u8, text: &[u8]) -> Option<&[u8]>
     ensures { IfSome result (λ rest. Closes quote text.now rest.now) }
 {

@@ -34,7 +34,7 @@ pub fn read_statement(text: &[u8]) -> Result<Statement, SyntaxFault>
     read_any(text)
 }
 
-/// Reads the same by the machine of states.
+/// Reads a text as `read_statement` does, token by token with the machine of states.
 pub(crate) fn read_tokens(text: &[u8]) -> Result<Statement, SyntaxFault>
     ensures { result ≡ seen_of (read_of text.now) }
 {
@@ -45,12 +45,14 @@ pub(crate) fn read_tokens(text: &[u8]) -> Result<Statement, SyntaxFault>
         let (token, tail) = token_of(rest);
         match state.step(token) {
             Some(next) => state = next,
+            // No statement goes on with this token: the fault is where it begins.
             None => return Err(SyntaxFault {
                 at: (text.len() - rest.len()) as u64,
             }),
         }
         rest = skip_blanks(tail);
     }
+    // If the text ends before the statement is whole, the fault is at the text's end.
     state.finish().ok_or(SyntaxFault {
         at: text.len() as u64,
     })

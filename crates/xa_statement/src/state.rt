@@ -83,13 +83,14 @@ impl State {
         }
     }
 
-    /// Returns the state after a word.
+    /// Returns the state after a word, or `None` if the word can't come next.
     fn after_word(self, word: Keyword) -> Option<State>
         ensures { result ≡ after_word self word }
     {
         match self {
             State::AtFirst => first_word(word),
             State::AfterXa => xa_word(word),
+            // If they aren't given, the bqual is empty and the formatID 1.
             State::AfterGtrid(verb, gtrid) => xid_word(verb, xid_of(gtrid, Bytes::new(), 1), word),
             State::AfterBqual(verb, gtrid, bqual) => xid_word(verb, xid_of(gtrid, bqual, 1), word),
             State::AfterXid(verb, xid) => xid_word(verb, xid, word),
@@ -120,7 +121,7 @@ impl State {
         }
     }
 
-    /// Returns the state after a comma.
+    /// Returns the state after a comma, or `None` if none can come next.
     fn after_comma(self) -> Option<State>
         ensures { result ≡ after_comma self }
     {
@@ -132,7 +133,8 @@ impl State {
         }
     }
 
-    /// Returns the state after a literal, a number, or both: each state takes the one that it wants.
+    /// Returns the state after a literal, a number, or both: each state takes the one that it wants. `None` if
+    /// that one is missing, if the state wants neither, or if a key is empty.
     fn after_value(self, literal: Option<Bytes>, number: Option<u64>) -> Option<State>
         ensures { result ≡ after_value self literal number }
     {
@@ -148,11 +150,12 @@ impl State {
         }
     }
 
-    /// Returns the statement that was read; a `;` may still follow it.
+    /// Returns the statement that was read, if it is whole and its `;` hasn't come yet; else `None`.
     fn unended(self) -> Option<Statement>
         ensures { result ≡ unended self }
     {
         match self {
+            // If they aren't given, the bqual is empty and the formatID 1.
             State::AfterGtrid(verb, gtrid) => {
                 Some(statement_of(verb, xid_of(gtrid, Bytes::new(), 1)))
             }
@@ -167,7 +170,7 @@ impl State {
         }
     }
 
-    /// Returns the statement, if the tokens so far are one.
+    /// Returns the statement, if the tokens so far are one, with or without a `;`.
     #[tactic(auto, unfolding(crate::specs::Machine::finish))]
     pub fn finish(self) -> Option<Statement>
         ensures { result ≡ finish self }
@@ -179,7 +182,7 @@ impl State {
     }
 }
 
-/// Reads the word that a statement begins with.
+/// Returns the state after the first word, or `None` if no statement begins with it.
 fn first_word(word: Keyword) -> Option<State>
     ensures { result ≡ after_word State.AtFirst word }
 {
@@ -193,7 +196,7 @@ fn first_word(word: Keyword) -> Option<State>
     }
 }
 
-/// Reads the word after `XA`.
+/// Returns the state after `XA` and this word, or `None` if no statement begins so.
 fn xa_word(word: Keyword) -> Option<State>
     ensures { result ≡ after_word State.AfterXa word }
 {
@@ -208,7 +211,7 @@ fn xa_word(word: Keyword) -> Option<State>
     }
 }
 
-/// Reads a word after an xid.
+/// Returns the state after an xid and this word, or `None` if the verb has no such clause.
 fn xid_word(verb: Verb, xid: Xid, word: Keyword) -> Option<State>
     ensures { result ≡ xid_word verb xid word }
 {

@@ -45,15 +45,15 @@ pub enum Token {
     Comma,
     /// `;`
     Semicolon,
-    /// Its value as a literal and its value as a formatID: both for `0x41`, and neither if no statement has
-    /// such a token.
+    /// Any other token: its value as a literal and as a formatID, each `None` if the token can't stand for
+    /// one. `0x41` has both; a token with neither is in no statement.
     Value(Option<Bytes>, Option<u64>),
 }
 
 /// Cuts off the token that a text begins with; returns it with the text after it.
 ///
-/// The text isn't empty and doesn't begin with a blank. A faulty literal takes the rest of the text. No
-/// statement has a faulty literal, so this can't be observed.
+/// The text isn't empty and doesn't begin with a blank. A faulty literal in quotes takes the rest of the text, and so
+/// does a byte with which no token begins. No statement has either, so this can't be observed.
 #[tactic(auto, unfolding(crate::specs::Token::token_at))]
 pub(crate) fn token_of(text: &[u8]) -> (Token, &[u8])
     requires { 0 < length text.now }
@@ -68,13 +68,15 @@ pub(crate) fn token_of(text: &[u8]) -> (Token, &[u8])
             } else if ByteClass::Word.has(text[0]) {
                 run_token(text)
             } else {
+                // No token of a statement begins with any other byte: it is taken as a faulty literal.
                 (Token::Value(None, None), &[])
             }
         }
     }
 }
 
-/// Returns whether the text begins with a literal in quotes.
+/// Returns whether the text begins as a literal in quotes does: with a quote, or with `X` or `x` and a single quote.
+/// The literal may still be faulty.
 pub(crate) fn begins_quoted(text: &[u8]) -> bool
     requires { 0 < length text.now }
     ensures { result ≡ opens_quoted text.now }
@@ -86,7 +88,7 @@ pub(crate) fn begins_quoted(text: &[u8]) -> bool
     }
 }
 
-/// Cuts off a literal in quotes.
+/// Cuts off a literal in quotes. A faulty one takes the rest of the text, and has no value.
 fn quoted_token(text: &[u8]) -> (Token, &[u8])
     ensures { (result.0, result.1.now) ≡ quoted_piece (literal_ahead text.now) }
 {
@@ -96,7 +98,7 @@ fn quoted_token(text: &[u8]) -> (Token, &[u8])
     }
 }
 
-/// Cuts off a run of word bytes.
+/// Cuts off a run of word bytes: a word of the grammar, or else its values as a literal and as a number.
 fn run_token(text: &[u8]) -> (Token, &[u8])
     ensures { (result.0, result.1.now) ≡ run_at text.now }
 {
@@ -107,7 +109,7 @@ fn run_token(text: &[u8]) -> (Token, &[u8])
     }
 }
 
-/// Returns the literal that the text begins with, if it begins with one.
+/// Returns the bytes of the literal that the text begins with; None if it begins with none or with a faulty one.
 fn literal_part(text: &[u8]) -> Option<Bytes>
     ensures { result ≡ part_of (literal_ahead text.now) }
 {
@@ -117,7 +119,7 @@ fn literal_part(text: &[u8]) -> Option<Bytes>
     }
 }
 
-/// Returns the number that the text begins with, if it begins with one.
+/// Returns the number that the text begins with; None if it begins with none, or with one above 2^64-1.
 pub(crate) fn number_part(text: &[u8]) -> Option<u64>
     ensures { result ≡ part_of (number_ahead text.now) }
 {
@@ -127,7 +129,7 @@ pub(crate) fn number_part(text: &[u8]) -> Option<u64>
     }
 }
 
-/// Returns the word of the grammar that a run is, without regard to case.
+/// Returns the word of the grammar that a run is, without regard to case; `None` if it is none.
 #[tactic(auto, unfolding(crate::specs::Token::keyword_of))]
 pub(crate) fn word_of_run(run: &[u8]) -> Option<Keyword>
     ensures { result ≡ keyword_of run.now }
@@ -138,7 +140,8 @@ pub(crate) fn word_of_run(run: &[u8]) -> Option<Keyword>
     }
 }
 
-/// Finds a word that begins a statement or follows `XA`.
+/// Returns the word of the grammar that a run is, of those that begin a statement or follow `XA`; None if it is none of
+/// these.
 #[tactic(auto, unfolding(crate::specs::Token::statement_word))]
 fn first_word(run: &[u8]) -> Option<Keyword>
     ensures { result ≡ statement_word run.now }
@@ -172,7 +175,8 @@ fn first_word(run: &[u8]) -> Option<Keyword>
     }
 }
 
-/// Finds a word of the clauses after an xid or `RECOVER`.
+/// Returns the word of the grammar that a run is, of those of the clauses after an xid or `RECOVER`; None if it is none
+/// of these.
 #[tactic(auto, unfolding(crate::specs::Token::clause_word))]
 fn later_word(run: &[u8]) -> Option<Keyword>
     ensures { result ≡ clause_word run.now }

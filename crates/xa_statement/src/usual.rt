@@ -24,6 +24,8 @@ use xa_xid::{Bytes, Key, Statement, Xid};
 pub(crate) fn read_any(text: &[u8]) -> Result<Statement, SyntaxFault>
     ensures { result ≡ seen_of (read_of text.now) }
 {
+    // The usual statements are read directly, which is quicker. Where that doesn't succeed, the text is read again,
+    // token by token, which reads every statement and finds the place of a fault.
     match first_word(text) {
         Some((Keyword::Xa, rest)) => read_xa(text, rest),
         Some((Keyword::Put, rest)) => read_put(text, rest),
@@ -33,7 +35,7 @@ pub(crate) fn read_any(text: &[u8]) -> Result<Statement, SyntaxFault>
     }
 }
 
-/// Returns what the word after `XA` does with an xid.
+/// Returns what the word after `XA` does with an xid, or `None` if no xid comes after that word.
 fn verb_of(word: Keyword) -> Option<Verb>
     ensures { IfSome result (λ verb. after_word AfterXa word ≡ Some (WantsGtrid verb)) }
 {
@@ -47,7 +49,8 @@ fn verb_of(word: Keyword) -> Option<Verb>
     }
 }
 
-/// Reads a text that begins with `XA`.
+/// Reads a text that begins with `XA`; `rest` is the text after it. If no verb of an xid follows, the whole text is
+/// read token by token.
 fn read_xa(text: &[u8], rest: &[u8]) -> Result<Statement, SyntaxFault>
     requires { Goes AtFirst text.now AfterXa rest.now }
     ensures { result ≡ seen_of (read_of text.now) }
@@ -60,7 +63,8 @@ fn read_xa(text: &[u8], rest: &[u8]) -> Result<Statement, SyntaxFault>
     read_tokens(text)
 }
 
-/// Reads a text in which an xid comes next.
+/// Reads a text that begins with `XA` and the word of a verb; `rest` is the text after them. If `rest` isn't an xid and
+/// the statement's end, the whole text is read token by token: it may have a clause, or a fault.
 fn read_branch(verb: Verb, text: &[u8], rest: &[u8]) -> Result<Statement, SyntaxFault>
     requires { Goes AtFirst text.now (WantsGtrid verb) rest.now }
     ensures { result ≡ seen_of (read_of text.now) }
@@ -76,7 +80,8 @@ fn read_branch(verb: Verb, text: &[u8], rest: &[u8]) -> Result<Statement, Syntax
     }
 }
 
-/// Fills an xid, and returns the text after it.
+/// Reads an xid into `xid`, and returns the text after it; `None` if no whole one comes first. Parts that the
+/// text doesn't give stay as they are: an empty bqual and the formatID 1.
 fn take_xid<'a>(xid: &mut Xid, text: &'a [u8]) -> Option<&'a [u8]>
     requires { xid.now ≡ xid_of no_text no_text 1 }
     ensures { IfSome result (λ rest. (verb : Verb) → Leads (WantsGtrid verb) text.now
@@ -92,7 +97,8 @@ fn take_xid<'a>(xid: &mut Xid, text: &'a [u8]) -> Option<&'a [u8]>
     }
 }
 
-/// Fills an xid from its bqual on.
+/// Reads a bqual and, if a comma follows, a formatID into an xid that has its gtrid. Returns the text after
+/// them; `None` if one of them is missing.
 fn take_bqual<'a>(xid: &mut Xid, text: &'a [u8]) -> Option<&'a [u8]>
     requires { xid.now ≡ xid_of xid.now.gtrid no_text 1 }
     ensures { IfSome result (λ rest. (verb : Verb) → Leads (WantsBqual verb xid.old.gtrid) text.now
@@ -108,7 +114,7 @@ fn take_bqual<'a>(xid: &mut Xid, text: &'a [u8]) -> Option<&'a [u8]>
     }
 }
 
-/// Fills an xid's formatID.
+/// Reads a formatID into an xid, and returns the text after it; `None` if no number comes first.
 fn take_format_id<'a>(xid: &mut Xid, text: &'a [u8]) -> Option<&'a [u8]>
     ensures { IfSome result (λ rest. (verb : Verb) → Leads (WantsFormatId verb xid.old.gtrid xid.old.bqual) text.now
         (statement_of verb xid.new) rest.now) }
@@ -118,7 +124,8 @@ fn take_format_id<'a>(xid: &mut Xid, text: &'a [u8]) -> Option<&'a [u8]>
     Some(rest)
 }
 
-/// Reads a text that begins with `GET`.
+/// Reads a text that begins with `GET`; `rest` is the text after it. If `rest` isn't a key and the statement's end, the
+/// whole text is read token by token.
 fn read_get(text: &[u8], rest: &[u8]) -> Result<Statement, SyntaxFault>
     requires { Goes AtFirst text.now (WantsKey Gets) rest.now }
     ensures { result ≡ seen_of (read_of text.now) }
@@ -127,13 +134,15 @@ fn read_get(text: &[u8], rest: &[u8]) -> Result<Statement, SyntaxFault>
     match take_literal(&mut bytes, rest) {
         Some(end) if ends(end) => match Key::of(bytes) {
             Some(key) => Ok(Statement::Get(key)),
+            // No key is empty: the other way finds the place of the fault.
             None => read_tokens(text),
         },
         _ => read_tokens(text),
     }
 }
 
-/// Reads a text that begins with `DEL`.
+/// Reads a text that begins with `DEL`; `rest` is the text after it. If `rest` isn't a key and the statement's end, the
+/// whole text is read token by token.
 fn read_del(text: &[u8], rest: &[u8]) -> Result<Statement, SyntaxFault>
     requires { Goes AtFirst text.now (WantsKey Deletes) rest.now }
     ensures { result ≡ seen_of (read_of text.now) }
@@ -142,13 +151,15 @@ fn read_del(text: &[u8], rest: &[u8]) -> Result<Statement, SyntaxFault>
     match take_literal(&mut bytes, rest) {
         Some(end) if ends(end) => match Key::of(bytes) {
             Some(key) => Ok(Statement::Del(key)),
+            // No key is empty: the other way finds the place of the fault.
             None => read_tokens(text),
         },
         _ => read_tokens(text),
     }
 }
 
-/// Reads a text that begins with `PUT`.
+/// Reads a text that begins with `PUT`; `rest` is the text after it. If `rest` isn't a key, a comma, a value and the
+/// statement's end, the whole text is read token by token.
 fn read_put(text: &[u8], rest: &[u8]) -> Result<Statement, SyntaxFault>
     requires { Goes AtFirst text.now (WantsKey Puts) rest.now }
     ensures { result ≡ seen_of (read_of text.now) }
@@ -158,13 +169,15 @@ fn read_put(text: &[u8], rest: &[u8]) -> Result<Statement, SyntaxFault>
     match take_row(&mut bytes, &mut value, rest) {
         Some(end) if ends(end) => match Key::of(bytes) {
             Some(key) => Ok(Statement::Put(key, value)),
+            // No key is empty: the other way finds the place of the fault.
             None => read_tokens(text),
         },
         _ => read_tokens(text),
     }
 }
 
-/// Fills a key and a value, and returns the text after them.
+/// Reads a key, a comma and a value into two empty texts, and returns the text after them; `None` if one of the
+/// three is missing.
 fn take_row<'a>(key: &mut Bytes, value: &mut Bytes, text: &'a [u8]) -> Option<&'a [u8]>
     requires key { key.now.items ≡ [] }
     requires value { value.now.items ≡ [] }

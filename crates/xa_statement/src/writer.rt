@@ -6,8 +6,8 @@ ghost use Rattle.xa_xid.specs.XidText.{part_text, xid_text};
 use std::alloc::Global;
 use xa_xid::{Key, NoMemory, Statement, Xid, with_part, with_xid};
 
-/// Writes the canonical text of a statement: capitals, one space between tokens, literals in hexadecimal
-/// digits, no `;`.
+/// Writes the canonical text of a statement: capitals, one space between tokens but none beside a comma,
+/// literals in hexadecimal digits, no `;`.
 ///
 /// The statement isn't `Unsupported`. May return `NoMemory`; nothing is kept then. Doesn't wait.
 /// Own rule: docs/STATEMENTS.md#canonical-form.

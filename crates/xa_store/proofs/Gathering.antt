@@ -10,7 +10,7 @@ use Rattle.decision_log.specs.Calls.{Looked, MeetsFirst, MeetsSecond}
 use Rattle.decision_log.proofs.Histories.{begins_itself, begins_through, length_begins}
 use Rattle.xa_store.specs.Gathered.{AddsNothing, last_known}
 
--- a pass that others met keeps its lists, and so does one that nobody met
+-- a pass that knows what it knew counts as the first of two that met
 pub meets_nobody : (known : Known) → MeetsFirst known known
 meets_nobody known = record { number = refl; seen = refl; mine = refl; looks = omega arith; tries = refl }
 
@@ -56,7 +56,8 @@ pub zip_itself : {S : Type 0} (R : S → S → Type 0) → ((s : S) → R s s) �
 zip_itself R itself [] = tt
 zip_itself R itself (s ∷ list) = (itself s, zip_itself R itself list)
 
--- the loop over elements: one more has changed as the relation says
+-- if two lists are related place by place, the relation goes through, and one element of the second changes as it says,
+-- the first list is related to the changed one
 zip_set : {S : Type 0} (R : S → S → Type 0) → ((a b c : S) → R a b → R b c → R a c)
     → (before now : List S) (index : ℕ) (new d : S) → index < length now
     → AllZip R before now → R (get_or now index d) new → AllZip R before (set now index new)
@@ -115,7 +116,9 @@ last_known_of known (one ∷ []) last = refl
 last_known_of known (one ∷ other ∷ others) last = last_known_of known (other ∷ others) last
 
 module _ {S : Type 0} (known : S → Known) (R : S → S → Type 0) where
-  -- the first so many have met the last
+  -- the first `index` sessions have met the last one: each session has changed as R says; the last has added nothing,
+  -- and has seen what those have; and if it had seen what all have before, it sees no more, and its entries of the
+  -- number of each of those are that session's own
   pub record Round (before now : List S) (old new : Known) (index : ℕ) : Type 0 where
     pub kept : AllZip R before now
     pub last : AddsNothing old new
@@ -125,6 +128,7 @@ module _ {S : Type 0} (known : S → Known) (R : S → S → Type 0) where
 
   module _ (itself : (s : S) → R s s) (through : (a b c : S) → R a b → R b c → R a c)
       (meets : (a b : S) → R a b → MeetsFirst (known a) (known b)) where
+    -- before the first meeting, none has met the last
     pub no_round : (before : List S) (last : Known) → Round before before last last 0
     no_round before last = record {
       kept = zip_itself R itself before;
@@ -133,6 +137,7 @@ module _ {S : Type 0} (known : S → Known) (R : S → S → Type 0) where
       whole = λ all. (refl, AllWithin-none (λ s. entries_of (known s).number last.seen ≡ (known s).mine) before 0);
     }
 
+    -- if the first `index` have met the last, and then the one at this index does, the first index + 1 have
     pub next_round : (before now : List S) (first last last' : Known) (index : ℕ) (d new : S) → index < length now
         → Round before now first last index
         → R (get_or now index d) new

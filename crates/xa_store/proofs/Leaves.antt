@@ -11,6 +11,8 @@ use Rattle.xa_store.specs.Gathered.{IsTakenIn, AddsNothing, last_known}
 use Rattle.xa_store.specs.Renewal.{AreGathered}
 
 module _ {S : Type 0} (pass_of : S → Pass) (history : List Entry) where
+  -- if each pass is of its session's log and has added nothing since, and the history has all that each knows, each has
+  -- left (`HasLeft`)
   leaves : (sessions : List S) (passes : List Pass)
       → AllZip (λ session pass. (log_of pass ≡ log_of (pass_of session))
       × AddsNothing (known_of (pass_of session)) (known_of pass)) sessions passes
@@ -22,7 +24,8 @@ module _ {S : Type 0} (pass_of : S → Pass) (history : List Entry) where
   leaves (session ∷ sessions) (pass ∷ passes) zip whole =
       (record { same_log = zip.0.0; adds_nothing = zip.0.1; taken_in = whole.0 }, leaves sessions passes zip.1 whole.1)
 
--- sessions that met, and whose passes were returned, have closed
+-- sessions have closed (`HasClosed`) if their passes have added nothing since, the history is what the last pass has
+-- seen and has all that each knows, and a renewal takes the passes if there was a session
 pub closes : {S : Type 0} (pass_of : S → Pass) (identity : LogIdentity) (sessions : List S) (history : List Entry)
     (passes : List Pass)
     → AllZip (λ session pass. (log_of pass ≡ log_of (pass_of session))

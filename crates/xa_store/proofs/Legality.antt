@@ -36,6 +36,7 @@ reached base history session from (statement ∷ statements) (answer ∷ answers
     reached base history session (next_place base history session statement answer) statements answers
 
 module _ (base : State) (history : List Entry) (session : ℕ) where
+  -- if statements were answered in order, one more is, at a place that isn't before the one that they have reached
   pub answered_more : (from : ℕ) (statements : List Statement) (answers : List Answer) (statement : Statement)
       (answer : Answer)
       → Answered base history session from statements answers
@@ -53,6 +54,7 @@ module _ (base : State) (history : List Entry) (session : ℕ) where
         before.2 behind at,
   )
 
+  -- with one more answer, the place that is reached is the next place after that answer
   pub reached_more : (from : ℕ) (statements : List Statement) (answers : List Answer) (statement : Statement)
       (answer : Answer)
       → Answered base history session from statements answers
@@ -70,11 +72,13 @@ module _ (base : State) (history : List Entry) (session : ℕ) where
   added statement answer =
       cond (enters (state_at base history answer.place) session statement) (entry_of session statement ∷ []) []
 
+  -- an element that is put before a list or not may as well be put before the first of its two parts
   cond_front : (b : Bool) (x : Entry) (xs ys : List Entry)
       → cond b (x ∷ (xs ++ ys)) (xs ++ ys) ≡ cond b (x ∷ xs) xs ++ ys
   cond_front true x xs ys = refl
   cond_front false x xs ys = refl
 
+  -- with one more answer, the statements that are logged are those before, and then this one if it is logged
   entered_more : (from : ℕ) (statements : List Statement) (answers : List Answer) (statement : Statement)
       (answer : Answer)
       → Answered base history session from statements answers
@@ -94,6 +98,7 @@ module _ (base : State) (history : List Entry) (session : ℕ) where
 -- in a longer history
 
 module _ (base : State) (history longer : List Entry) (session : ℕ) (begins : Begins history longer) where
+  -- an answer at a place of a history is one at that place of a longer history
   answers_longer : (statement : Statement) (answer : Answer)
       → AnswersAt base history session statement answer.place answer.reply
       → AnswersAt base longer session statement answer.place answer.reply
@@ -107,6 +112,7 @@ module _ (base : State) (history longer : List Entry) (session : ℕ) (begins : 
             (at.next (ap (λ s. enters s session statement) (sym same) ∙ entering));
       }
 
+  -- the next place after an answer is the same in a longer history
   next_longer : (statement : Statement) (answer : Answer)
       → AnswersAt base history session statement answer.place answer.reply
       → next_place base longer session statement answer ≡ next_place base history session statement answer
@@ -114,6 +120,7 @@ module _ (base : State) (history longer : List Entry) (session : ℕ) (begins : 
       ap (λ s. cond (enters s session statement) (answer.place + 1) answer.place)
       (state_at-begins base history longer answer.place begins at.within)
 
+  -- statements that were answered in order in a history are so in a longer one
   pub answered_longer : (from : ℕ) (statements : List Statement) (answers : List Answer)
       → Answered base history session from statements answers
       → Answered base longer session from statements answers
@@ -127,6 +134,7 @@ module _ (base : State) (history longer : List Entry) (session : ℕ) (begins : 
         (answered_longer (next_place base history session s a) statements answers before.2),
   )
 
+  -- the place that answers have reached is the same in a longer history
   pub reached_longer : (from : ℕ) (statements : List Statement) (answers : List Answer)
       → Answered base history session from statements answers
       → reached base longer session from statements answers ≡ reached base history session from statements answers
@@ -138,6 +146,7 @@ module _ (base : State) (history longer : List Entry) (session : ℕ) (begins : 
       ap (λ n. reached base longer session n statements answers) (next_longer s a before.1)
       ∙ reached_longer (next_place base history session s a) statements answers before.2
 
+  -- the statements that are logged at the places of their answers are the same in a longer history
   pub entered_longer : (from : ℕ) (statements : List Statement) (answers : List Answer)
       → Answered base history session from statements answers
       → entered base longer session statements answers ≡ entered base history session statements answers
@@ -169,7 +178,8 @@ sets_out base old part = record {
 
 module _ (base : State) (old now new : Known) (statements : List Statement) (answers : List Answer)
     (statement : Statement) (answer : Answer) where
-  -- what the session has added so far
+  -- if a session is on its way and one more statement is answered, the entries of its number in what it has seen are
+  -- its old ones and then those of its statements that are logged, with the new one
   mine_more : entries_of now.number now.seen ≡ now.mine → entries_of new.number new.seen ≡ new.mine
       → IsOnTheWay base old now statements answers
       → IsAnswered base statement answer now new
@@ -225,6 +235,7 @@ module _ (base : State) (old now new : Known) (statements : List Statement) (ans
       (λ other. subst (λ b. cond b (answer.place + 1) answer.place ≤ length new.seen) (sym other ∙ there) is.at.within)
       (either_way enters_there)
 
+  -- if a session is on its way and one more statement is answered, it is on its way with that answer, too
   pub goes_on : entries_of now.number now.seen ≡ now.mine → entries_of new.number new.seen ≡ new.mine
       → IsOnTheWay base old now statements answers
       → IsAnswered base statement answer now new
@@ -277,6 +288,7 @@ lets_in_more gate session count before here = below_more (λ line. gate session 
 module _ (gate : ℕ → ℕ → Bool → Type 0) (base : State) (capacity : ℕ) (before now new : Known)
     (statements : List Statement) (answers : List Answer) (place : ℕ)
     (statement : Statement) where
+  -- if the statements before this one were answered, and this one isn't, for this fault, the run goes no further
   pub no_further : (fault : RaceFault) → place < length statements → entries_of now.number now.seen ≡ now.mine
       → entries_of new.number new.seen ≡ new.mine
       → IsOnTheWay base before now (take place statements) answers
@@ -307,6 +319,7 @@ module _ (gate : ℕ → ℕ → Bool → Type 0) (base : State) (capacity : ℕ
   no_further NoMemory below part part' way is = tt
   no_further ThreadRefused below part part' way is = absurd is
 
+  -- if the statements before this one were answered, and this one isn't, for this fault, the run stops with it
   pub stops : (fault : RaceFault) → place < length statements → slice_get statements place ≡ Some statement
       → entries_of now.number now.seen ≡ now.mine
       → entries_of new.number new.seen ≡ new.mine

@@ -17,7 +17,7 @@ use Rattle.xa_store.specs.declared.race_fault.RaceFault.{RaceFault}
 use Rattle.xa_store.specs.declared.race_fault.RaceFault.TheVariants.{GateShut, Full, NoMemory, ThreadRefused}
 use Rattle.xa_store.proofs.Legality.{legal_longer}
 
--- what is taken in of a pass was taken in of it before it saw more
+-- if a history has all that a pass knows, it has all that the pass knew before, if the pass has added nothing since
 pub taken_before : (history : List Entry) (old new : Known) → AddsNothing old new → IsTakenIn history new
     → IsTakenIn history old
 taken_before history old new keeps taken = record {

@@ -7,12 +7,12 @@ use Rattle.std.specs.Result.{IfOk, IfErr}
 use Rattle.xa_store.specs.Spread.{HasStopped}
 use Rattle.xa_store.specs.declared.race_fault.RaceFault.{RaceFault}
 
--- what holds of an Ok's value, of a result that is Ok
+-- if P holds of the value of a result that is Ok, and the result is Ok of x, P holds of x
 pub when_ok : {T E : Type 0} (r : Result T E) (P : T → Type 0) (x : T) → IfOk r P → r ≡ Ok x → P x
 when_ok (Ok y) P x is same = let here : y ≡ x = cc in subst P here is
 when_ok (Err e) P x is same = absurd (cc)
 
--- what holds of an Err's value, of a result that is that Err
+-- if P holds of the value of a result that is Err, and the result is Err of x, P holds of x
 pub when_err : {T E : Type 0} (r : Result T E) (P : E → Type 0) (x : E) → IfErr r P → r ≡ Err x → P x
 when_err (Ok y) P x is same = absurd (cc)
 when_err (Err e) P x is same = let here : e ≡ x = cc in subst P here is
@@ -29,7 +29,8 @@ zip_chain Z R Q keep (a ∷ xs) (b ∷ ys) [] zip all = absurd all
 zip_chain Z R Q keep (a ∷ xs) (b ∷ ys) (c ∷ zs) zip all =
     (keep a b c zip.0 all.0, zip_chain Z R Q keep xs ys zs zip.1 all.1)
 
--- the second becomes a third, and something of the second is told of the first
+-- if H of a first and a second element and W of the second and a third give Q of the first and the second's image,
+-- lists that H and W relate place by place have a first list that Q relates to the images of the second
 pub zip_ended : {A B C D : Type 0} (H : A → B → Type 0) (W : B → C → Type 0) (Q : A → D → Type 0) (f : B → D)
     → ((a : A) (b : B) (c : C) → H a b → W b c → Q a (f b)) → (xs : List A) (ys : List B) (zs : List C) → AllZip H xs ys
     → AllZip W ys zs
@@ -50,7 +51,8 @@ zip_first K P keep [] (b ∷ ys) zip = absurd zip
 zip_first K P keep (a ∷ xs) [] zip = absurd zip
 zip_first K P keep (a ∷ xs) (b ∷ ys) zip = (keep a b zip.0, zip_first K P keep xs ys zip.1)
 
--- what holds of each first holds of each second
+-- if a relation of two elements makes of P of the first Q of the second, lists that it relates place by place have Q of
+-- all second elements if P holds of all first
 pub zip_all : {A B : Type 0} (K : A → B → Type 0) (P : A → Type 0) (Q : B → Type 0)
     → ((a : A) (b : B) → K a b → P a → Q b) → (xs : List A) (ys : List B)
     → AllZip K xs ys → AllByRecursion P xs → AllByRecursion Q ys
@@ -79,7 +81,7 @@ zip_mapped K Q f keep [] (b ∷ ys) zip = absurd zip
 zip_mapped K Q f keep (a ∷ xs) [] zip = absurd zip
 zip_mapped K Q f keep (a ∷ xs) (b ∷ ys) zip = (keep a b zip.0, zip_mapped K Q f keep xs ys zip.1)
 
--- what holds place by place holds at a place
+-- lists related place by place: at the place of an element of the second there is one of the first, related to it
 pub zip_get : {A B : Type 0} (K : A → B → Type 0) (xs : List A) (ys : List B) (place : ℕ) (y : B) → AllZip K xs ys
     → slice_get ys place ≡ Some y
     → (x : A) × (slice_get xs place ≡ Some x) × K x y
@@ -117,6 +119,7 @@ get_end (a ∷ xs) x = get_end xs x
 -- a run that stops is one of more runs
 module _ {Run : Type 0} (xs : List Run) (x : Run) (all : List Run) (stops : Run → RaceFault → Type 0)
     (fault : RaceFault) (are : xs ++ x ∷ [] ≡ all) where
+  -- if one of the runs `xs` stops, one of all runs does
   pub stopped_before : HasStopped stops xs fault → HasStopped stops all fault
   stopped_before at = record {
     index = at.index;
@@ -125,6 +128,7 @@ module _ {Run : Type 0} (xs : List Run) (x : Run) (all : List Run) (stops : Run 
     cause = at.cause;
   }
 
+  -- if the last run stops, one of all runs does
   pub stopped_last : stops x fault → HasStopped stops all fault
   stopped_last is =
       record {

@@ -28,7 +28,7 @@ front_or_end [] x (suc place) other is = absurd (never other is)
 front_or_end (a ∷ xs) x zero other is = inl is
 front_or_end (a ∷ xs) x (suc place) other is = front_or_end xs x place other is
 
--- lists related place by place: at the place of an element of the first there is one of the second
+-- lists related place by place: at the place of an element of the first there is one of the second, related to it
 pub zip_at : {A B : Type 0} (K : A → B → Type 0) (xs : List A) (ys : List B) (place : ℕ) (x : A) → AllZip K xs ys
     → slice_get xs place ≡ Some x
     → (y : B) × (slice_get ys place ≡ Some y) × K x y
@@ -49,14 +49,17 @@ some_at (a ∷ xs) place x is = omega arith
 module _ {Task Gain : Type 0} (number : Task → ℕ) (gains : Task → Gain → Type 0) (stops : Task → RaceFault → Type 0)
     (xs : List Task) (x : Task)
     (all : List Task) (are : xs ++ x ∷ [] ≡ all) where
+  -- a task of all is one of `xs`, or the last
   among : (place : ℕ) (other : Task) → slice_get all place ≡ Some other
       → (slice_get xs place ≡ Some other) ⊎ (x ≡ other)
   among place other is = front_or_end xs x place other (subst (λ list. slice_get list place ≡ Some other) (sym are) is)
 
+  -- if the last has done its part, so has a task that is the last
   has_done : (gain : Gain) → gains x gain → (other : Task) → x ≡ other → (gain : Gain) × gains other gain
   has_done gain is other same = (gain, subst (λ task. gains task gain) same is)
 
-  -- the last has the fault, and the others of lower sessions have done their part
+  -- if the fault is that of the last task, and the others of lower sessions have done their part, it is that of the
+  -- lowest session of all
   of_last : (told : FirstFault) (fault : RaceFault) → IsOwn (number x) fault told
       → (fault ≡ ThreadRefused) ⊎ stops x fault
       → ((place : ℕ) (other : Task) → slice_get xs place ≡ Some other → number other < told.session
@@ -75,7 +78,8 @@ module _ {Task Gain : Type 0} (number : Task → ℕ) (gains : Task → Gain →
         (among place other is);
   }
 
-  -- one of the others has it, and the last has done its part, if its session is lower
+  -- if the fault is that of the lowest session of the others, and the last task has done its part if its session is
+  -- lower, it is that of the lowest session of all
   of_others : (told : FirstFault) → IsOfLowest number gains stops xs told
       → (number x < told.session → (gain : Gain) × gains x gain)
       → IsOfLowest number gains stops all told
@@ -96,6 +100,8 @@ module _ {Task Gain : Type 0} (number : Task → ℕ) (gains : Task → Gain →
         (among place other is);
   }
 
+  -- if memory ran out outside of the tasks, and the others and the last have done their part, no task of all has a
+  -- fault
   of_none : (told : FirstFault) → IsOutside told → ((place : ℕ) (other : Task) → slice_get xs place ≡ Some other
       → (gain : Gain) × gains other gain)
       → (gain : Gain) → gains x gain → IsOfNone gains all told
@@ -105,11 +111,12 @@ module _ {Task Gain : Type 0} (number : Task → ℕ) (gains : Task → Gain →
         (among place other found);
   }
 
+  -- if there is a gain for each of the others, each has done its part
   done_all : (gone : List Gain) → AllZip gains xs gone → (place : ℕ) (other : Task) → slice_get xs place ≡ Some other
       → (gain : Gain) × gains other gain
   done_all gone zip place other is = let at = zip_at gains xs gone place other zip is in (at.0, at.2)
 
-  -- the lower of two
+  -- if both the others and the last task have a fault, the one of the lower session is told of all
   of_lower : (other : FirstFault) (fault : RaceFault) (told : FirstFault) → number x ≤ 16
       → IsTold number gains stops xs other
       → (fault ≡ ThreadRefused) ⊎ stops x fault → IsLower other (number x) fault told
@@ -131,6 +138,7 @@ module _ {Task Gain : Type 0} (number : Task → ℕ) (gains : Task → Gain →
       (λ own. inl (of_last told fault own cause (λ place task found below. none.all place task found)))
       is.either
 
+  -- the fault that is returned after the last task has ended, whatever became of it and of the others, is told of all
   pub told_more : (others : Result (Vec Gain Global) FirstFault) (ended : Result Gain RaceFault) (told : FirstFault)
       (own : ℕ) → own ≡ number x → own ≤ 16
       → IfOk others (λ gone. AllZip gains xs gone.items) → IfErr others (IsTold number gains stops xs)
@@ -157,6 +165,7 @@ module _ {Task Gain : Type 0} (number : Task → ℕ) (gains : Task → Gain →
     (through : (run : Run) (task : Task) (gain : Gain) → K run task → gains task gain → IsRunThrough gate base run)
     (halts : (run : Run) (task : Task) (fault : RaceFault) → K run task → stops task fault
     → Stops gate base (log_of run.pass).capacity (known_of run.pass) run.lines.items fault) where
+  -- if the tasks of lower sessions have done their part, the runs of lower sessions were answered to their ends
   pub run_through : (runs : List Run) (tasks : List Task) (session : ℕ) → AllZip K runs tasks
       → ((place : ℕ) (other : Task) → slice_get tasks place ≡ Some other → number other < session
       → (gain : Gain) × gains other gain)
@@ -167,6 +176,7 @@ module _ {Task Gain : Type 0} (number : Task → ℕ) (gains : Task → Gain →
       let done = lower place at.0 at.1 (omega (arith, same, below)) in
       through run at.0 done.0 at.2 done.1
 
+  -- a fault that is told of the tasks is, of their runs, that of the lowest session
   pub tells : (runs : List Run) (tasks : List Task) (told : FirstFault) (fault : RaceFault) → told.fault ≡ fault
       → AllZip K runs tasks
       → IsTold number gains stops tasks told → TellsLowest gate base runs fault

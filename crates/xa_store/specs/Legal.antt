@@ -7,6 +7,7 @@
 --     IsReturned      a run's pass after the race
 --     IsOutcome       what a race gives
 --     LetsIn          a gate can let a session give its first statements
+--     IsTurnedAway    the gate can stop a session at a line, and the session does nothing
 --     Halts           why a session's statement isn't answered
 --     fault_at        the fault of a race for a session's fault
 --     IsLetIn         a session's statement is answered
@@ -16,6 +17,7 @@
 --     IsShutAt        the gate can stop a run at a statement
 --     IsFullAt        a run's statement has no room in the history
 --     Stops           why a run stops
+--     IsBlamed        some run stops with a fault
 --     Blames          why a race fails
 use Rattle.std.specs.Prelude.{◌≡◌, ◌<◌, ◌≤◌, ◌+◌, ℕ, Bool, true, false, cond, List, [], ◌∷◌, ◌++◌, length, map, take}
 use Rattle.std.specs.Prelude.{slice_get, Some, Result, Ok, Err}
@@ -39,7 +41,8 @@ use Rattle.xa_store.specs.declared.race_fault.RaceFault.{RaceFault}
 use Rattle.xa_store.specs.declared.race_fault.RaceFault.TheVariants.{GateShut, Full, NoMemory, ThreadRefused}
 
 module _ (base : State) (history : List Entry) (session : ℕ) where
-  -- after the entry if one was added, else from the same place on
+  -- the first place at which the session's next answer can be: behind its entry if the statement is logged at the place
+  -- of this answer, else that place
   abbrev pub next_place : Statement → Answer → ℕ
   next_place statement answer =
       cond (enters (state_at base history answer.place) session statement) (answer.place + 1) answer.place
@@ -96,8 +99,8 @@ pub record IsTurnedAway (gate : ℕ → ℕ → Bool → Type 0) (session line :
   pub shut : gate session line false
   pub same : new ≡ old
 
--- the fault names the session and the statement that isn't answered: the gate stopped the run, or the history
--- is full
+-- why the statement at this place of its run isn't answered: GateShut and Full name the session and the place, and the
+-- gate stopped the run, or the history is full; NoMemory says nothing; ThreadRefused doesn't come
 abbrev pub Halts : (ℕ → ℕ → Bool → Type 0) → State → ℕ → Statement → ℕ → RaceFault → Known → Known → Type 0
 Halts gate base capacity statement place (GateShut session line) old new =
     (session ≡ old.number) × (line ≡ place) × IsTurnedAway gate session line old new
@@ -106,7 +109,8 @@ Halts gate base capacity statement place (Full session line) old new =
 Halts gate base capacity statement place NoMemory old new = Unit {0}
 Halts gate base capacity statement place ThreadRefused old new = ⊥
 
--- a full history is returned with the statement that has no room, every other fault as NoMemory
+-- a full history is returned with the statement that has no room, every other fault as NoMemory (`execute` of a session
+-- returns only these two)
 abbrev pub fault_at : ℕ → ℕ → Fault → RaceFault
 fault_at session line (Overtaken front) = NoMemory
 fault_at session line NoRoom = Full session line
@@ -133,8 +137,8 @@ pub record IsReachedInRun (base : State) (history : List Entry) (before : Known)
   pub answers : List Answer
   pub legal : IsLegal base history before (take line statements) answers
 
--- in all that the session has seen in the end, the statements before the named one were answered, and none
--- after it
+-- GateShut and Full: what the session has seen in the end explains answers to the statements before the named one, and
+-- has no entry of that one or a later one; NoMemory says nothing; ThreadRefused doesn't come
 abbrev pub GoesNoFurther : State → Known → List Statement → RaceFault → Known → Type 0
 GoesNoFurther base before statements (GateShut session line) after =
     IsReachedInRun base after.seen before statements session line
@@ -161,7 +165,8 @@ pub record IsFullAt (base : State) (capacity : ℕ) (before : Known) (statements
   pub enters : enters (state_after base history) session statement ≡ true
   pub full : length history ≡ capacity
 
--- a fault that names a statement names the one at which the run stops, with its cause
+-- GateShut and Full name the statement at which the run stops, and have their cause; NoMemory says nothing;
+-- ThreadRefused doesn't come
 abbrev pub Stops : (ℕ → ℕ → Bool → Type 0) → State → ℕ → Known → List Statement → RaceFault → Type 0
 Stops gate base capacity before statements (GateShut session line) = IsShutAt gate base before statements session line
 Stops gate base capacity before statements (Full session line) = IsFullAt base capacity before statements session line
@@ -175,7 +180,7 @@ pub record IsBlamed (gate : ℕ → ℕ → Bool → Type 0) (base : State) (run
   pub found : slice_get runs index ≡ Some run
   pub stops : Stops gate base (log_of run.pass).capacity (known_of run.pass) run.lines.items fault
 
--- a fault that names a session is one of a run
+-- GateShut and Full are the fault with which some run stops; NoMemory and ThreadRefused say nothing
 abbrev pub Blames : (ℕ → ℕ → Bool → Type 0) → State → List Run → RaceFault → Type 0
 Blames gate base runs (GateShut session line) = IsBlamed gate base runs (GateShut session line)
 Blames gate base runs (Full session line) = IsBlamed gate base runs (Full session line)

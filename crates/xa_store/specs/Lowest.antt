@@ -2,10 +2,11 @@
 --     speaks          a run has a statement
 --     IsOwn           the fault of a session's task
 --     IsOutside       a fault that no task has
+--     IsLower         of two faults that of the lower session
 --     Joins           the fault that is returned after one more task has ended
 --     IsOfLowest      the fault of the lowest session that has one
 --     IsOfNone        no task has a fault
---     IsTold          one of these two
+--     IsTold          the fault is as IsOfLowest or as IsOfNone says
 --     IsRunThrough    a run was answered to its end
 --     AreRunThrough   the runs of all lower sessions were answered to their ends
 --     TellsLowest     the fault that a race returns is that of the lowest session
@@ -84,7 +85,8 @@ AreRunThrough gate base runs session =
     (place : ℕ) (run : Run) → slice_get runs place ≡ Some run → (known_of run.pass).number < session
     → IsRunThrough gate base run
 
--- a fault that names a session is that of the lowest one that has any, and a thread is refused only to a run
+-- GateShut and Full name the lowest session that has a fault: the runs of all lower ones were answered to their ends;
+-- NoMemory says nothing; ThreadRefused comes only if there is a run
 abbrev pub TellsLowest : (ℕ → ℕ → Bool → Type 0) → State → List Run → RaceFault → Type 0
 TellsLowest gate base runs (GateShut session line) = AreRunThrough gate base runs session
 TellsLowest gate base runs (Full session line) = AreRunThrough gate base runs session

@@ -13,7 +13,7 @@ use Rattle.xa_store.specs.Legal.{IsLegal, LetsIn}
 use Rattle.xa_store.specs.declared.race_fault.RaceFault.{RaceFault}
 use Rattle.xa_store.specs.declared.race_fault.RaceFault.TheVariants.{NoMemory, ThreadRefused}
 
--- a session's answers are legal in what it has seen in the end, and the gate can have let it in
+-- a session's answers are legal in what it has seen in the end, and the gate can have let it in at each statement
 pub record HasAnswered (gate : ℕ → ℕ → Bool → Type 0) (base : State) (old new : Known) (statements : List Statement)
     (answers : List Answer) : Type 0 where
   pub number : new.number ≡ old.number

@@ -17,11 +17,13 @@ fn unanswered(session: SessionNo, line: u64, fault: Fault) -> RaceFault
 {
     match fault {
         Fault::Full => RaceFault::Full { session, line },
+        // `execute` returns no other fault than `NoMemory`.
         _ => RaceFault::NoMemory,
     }
 }
 
-/// Asks the gate, then executes the session's statement at `line`.
+/// Asks the gate, then executes the session's statement at `line`, counted from 0 in its run. Errors: as for
+/// `answers_to`.
 fn answer_one<L: DecisionLog, G: Gate, R: Wait>(
     rt: &R,
     session: &mut Session<'_, L>,
@@ -51,7 +53,7 @@ fn answer_one<L: DecisionLog, G: Gate, R: Wait>(
 /// Returns the answers to all of a session's statements, in order.
 ///
 /// Errors, at the first statement that isn't answered: `GateShut` if the gate stops the run there, `Full` if
-/// the history has no room for it, `NoMemory`.
+/// the history has no room for it, `NoMemory`. `NoMemory` also before the first, if there is no room for the answers.
 pub(crate) fn answers_to<L: DecisionLog, G: Gate, R: Wait>(
     rt: &R,
     alloc: Global,
@@ -69,6 +71,7 @@ pub(crate) fn answers_to<L: DecisionLog, G: Gate, R: Wait>(
     ensures rest { IfErr result (λ fault. GoesNoFurther session.old.base.now (L.known session.old.pass) lines.now fault
         (L.known session.new.pass)) }
 {
+    // Room for all answers comes first, so no answer is lost for want of memory after its statement was logged.
     let mut answers = Vec::with_capacity(alloc, lines.len())?;
     for index in 0..lines.len() {
         let answer = answer_one(rt, session, index as u64, &lines[index], gate)?;

@@ -34,12 +34,14 @@ fn part<'a, D: Drop>(
     let Some(last) = returned.pop() else {
         return Ok((Vec::new(alloc), Vec::new(alloc)));
     };
+    // The others are split first, so the last goes to the end of both lists.
     let Returned { session, done } = last;
     let others = part(alloc, returned);
     and_both(others, session, done)
 }
 
-/// Has the sessions synchronise and return their passes, after the threads of a race have ended.
+/// Has the sessions synchronise and return their passes, after the threads of a race have ended. The history is
+/// what the last of them has seen then. After `NoMemory` the sessions are dropped.
 pub(crate) fn close_all<D: Drop>(
     alloc: Global,
     store: &Store,

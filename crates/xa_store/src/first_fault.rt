@@ -22,7 +22,8 @@ impl FirstFault {
         FirstFault { session, fault }
     }
 
-    /// `NoMemory` outside of the runs.
+    /// `NoMemory` outside of the runs. Its number is above those of all sessions, so the fault of any run is
+    /// returned before it.
     pub(crate) fn outside() -> FirstFault
         ensures { IsOutside result }
     {
@@ -32,12 +33,12 @@ impl FirstFault {
         }
     }
 
-    /// The one of the two faults that is returned.
+    /// The one of the two faults that is returned: that of the lower session.
     pub(crate) fn or(self, other: FirstFault) -> FirstFault
         ensures either { (result ≡ self) ⊎ (result ≡ other) }
         ensures lowest { (result.session ≤ self.session) × (result.session ≤ other.session) }
     {
-        // Of several faults the one of the lowest session is returned.
+        // At equal sessions either will do.
         if other.session < self.session {
             other
         } else {

@@ -3,7 +3,7 @@ ghost use Rattle.std.specs.Prelude.{◌≡◌, ◌++◌, ◌∷◌, [], Ok, IfOk
 
 use xa_xid::NoMemory;
 
-/// Appends one element to a list, if both could be had.
+/// Appends one element to a list. `NoMemory` if either is that error, or if the list can't grow.
 pub(crate) fn and_last<T: Drop>(
     others: Result<Vec<T>, NoMemory>,
     last: Result<T, NoMemory>,
@@ -16,7 +16,8 @@ pub(crate) fn and_last<T: Drop>(
     Ok(all)
 }
 
-/// Appends one element to each of two lists, if the lists could be had.
+/// Appends `first` to the first of two lists, and `second` to the second. `NoMemory` if `others` is that error,
+/// or if a list can't grow.
 pub(crate) fn and_both<A: Drop, B: Drop>(
     others: Result<(Vec<A>, Vec<B>), NoMemory>,
     first: A,

@@ -47,6 +47,7 @@ impl Store {
         if sessions.is_empty() {
             return Ok(Vec::new(alloc));
         }
+        // The last one is taken out to meet the others, and put back into its place.
         let mut last = sessions.take_last();
         meet_all(sessions, &mut last);
         let history = copy_seen(alloc, &mut last);

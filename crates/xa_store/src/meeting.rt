@@ -58,7 +58,7 @@ pub(crate) fn meet_all<L: DecisionLog>(others: &mut Vec<Session<'_, L>>, last: &
     meet_each(others, last);
 }
 
-/// All that a session has seen, in order.
+/// All that a session has seen, in order. The session is unchanged, also without memory.
 pub(crate) fn copy_seen<L: DecisionLog>(
     alloc: Global,
     session: &mut Session<'_, L>,

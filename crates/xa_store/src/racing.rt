@@ -15,7 +15,8 @@ use std::sync::Wait;
 use std::thread::Threads;
 use xa_xid::NoMemory;
 
-/// A session for the run.
+/// Connects the run's pass to the store, so that its session can give the run's statements. After `NoMemory` the run is
+/// dropped.
 fn start<'a, G: Gate>(
     alloc: Global,
     store: &'a Store,
@@ -41,7 +42,8 @@ fn start<'a, G: Gate>(
     }
 }
 
-/// A session for each run, in the order of the runs.
+/// Connects the pass of each run to the store, and returns what was started in the order of the runs. After `NoMemory`
+/// all runs are dropped.
 fn start_all<'a, G: Gate>(
     alloc: Global,
     store: &'a Store,
@@ -78,7 +80,7 @@ fn count_speakers(runs: &[Run]) -> u64
 /// allocation failed, `ThreadRefused` if a run's thread couldn't be started. Of several the fault of the
 /// lowest session is returned; `NoMemory` outside of the runs only if no run has a fault.
 /// After an error the passes are dropped. The other runs went on, and the store's history keeps what was
-/// answered.
+/// answered. If memory was missing before the first thread started, no run began.
 /// May return `NoMemory`. Waits for its threads, which may wait: no number of tries is promised.
 /// Own rule: docs/RATTLE.md#races.
 pub fn race<G: Gate + Sync, R: Threads + Wait + Sync>(
@@ -110,6 +112,7 @@ pub fn race<G: Gate + Sync, R: Threads + Wait + Sync>(
     //   there is a run.
     ensures lowest { IfErr result (TellsLowest (G.may_answer gate.now) store.now.base runs.items) }
 {
+    // Before the first thread starts: a gate may have runs wait for as many as are announced.
     gate.announce(count_speakers(runs.as_slice()));
     let started = start_all(alloc, store, runs, gate)?;
     let returned = run_all(rt, alloc, started)?;

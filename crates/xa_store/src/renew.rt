@@ -36,14 +36,15 @@ impl Store {
             (identity_of opened.0.log)
             opened.1.items) }
     {
+        // Both sizes are those of a log, and so in their ranges. Only memory can be missing.
         let Ok((log, passes)) = Log::open(alloc, self.log.capacity(), self.log.sessions()) else {
             return Err(AllocError);
         };
         Ok((Store { base, log }, passes))
     }
 
-    /// The store that begins with what the last pass's history and the end of all sessions leave, and its
-    /// passes.
+    /// The store that begins with this base after all that the last pass has seen, and after a `DISCONNECT` of
+    /// each session. Its log is empty. Its passes are returned with it.
     fn anew(&self, alloc: Global, last: &mut Pass) -> Result<(Store, Vec<Pass>), NoMemory>
         requires { log_of last.old ≡ identity_of self.now.log }
         ensures belongs { log_of last.new ≡ log_of last.old }
@@ -93,6 +94,7 @@ impl Store {
         ensures passes { IfErr result (λ kept. AllZip
             (λ old new. (log_of new ≡ log_of old) × (known_of new ≡ known_of old)) passes.items kept.1.items) }
     {
+        // The last pass is taken out so that the history can be replayed with it; after an error it goes back.
         let mut last = passes.take_last();
         match self.anew(alloc, &mut last) {
             Ok(opened) => Ok(opened),

@@ -39,6 +39,7 @@ impl ShuffledGate {
     fn turns(&self, session: SessionNo, line: u64) -> u32
         ensures { result < 64 }
     {
+        // The generator is at its start for each line, so the turns depend on seed, session and line alone.
         let mut stream = Pcg32::new(self.seed, session.get());
         stream.advance(line);
         stream.next_word() % 64
@@ -54,6 +55,7 @@ impl Gate for ShuffledGate {
     }
 
     fn enter(&self, session: SessionNo, line: u64) -> bool {
+        // First statements begin together. The session's own turns come after that.
         let opened = self.together.enter(session, line);
         for _ in 0..self.turns(session, line) {
             yield_now();

@@ -21,7 +21,8 @@ impl<T: Task> Promise<Result<T::Gain, RaceFault>> for DoesItsPart<T> {
     ghost kept_by = { λ promise ended. IfOk ended (T.gains promise.0.value) × IfErr ended (T.stops promise.0.value) };
 }
 
-/// The fault that is returned if one more task stops.
+/// The fault that is returned if one more task stops with the fault `own`: of that and the fault of the others, if
+/// they have one, the one of the lower session.
 fn fault_of<D: Drop>(others: Result<Vec<D>, FirstFault>, own: FirstFault) -> FirstFault
     ensures either { (others ≡ Err result) ⊎ (result ≡ own) }
     ensures lowest { (result.session ≤ own.session) × IfErr others
@@ -34,6 +35,7 @@ fn fault_of<D: Drop>(others: Result<Vec<D>, FirstFault>, own: FirstFault) -> Fir
 }
 
 /// Appends what one more task returned, that of the session of this number, to what all others returned.
+/// Error: of their faults that of the lowest session; `NoMemory` of no session if the list can't grow.
 fn join_task<D: Drop>(
     others: Result<Vec<D>, FirstFault>,
     number: u64,
@@ -49,6 +51,7 @@ fn join_task<D: Drop>(
 {
     let gain = match ended {
         Ok(gain) => gain,
+        // The others may have a fault, too: `fault_of` takes that of the lower session.
         Err(fault) => return Err(fault_of(others, FirstFault::of(number, fault))),
     };
     let mut all = match others {
@@ -61,9 +64,11 @@ fn join_task<D: Drop>(
     }
 }
 
-/// Gives each task a thread of its own, and waits for all of them. All start before the first is waited for.
+/// Gives each task a thread of its own, and waits for all of them. All start before the first is waited for. Returns
+/// what they returned, in their order.
 ///
-/// Errors: of all faults that of the lowest session. What the others returned is dropped then.
+/// Errors: of all faults that of the lowest session; a task whose thread isn't started has the fault `ThreadRefused`.
+/// `NoMemory` of no session if a list can't grow and no task has a fault. What the others returned is dropped then.
 fn spread<'s, E, T: Task + Send + Drop + 's, R: Threads + Wait + Sync>(
     scope: &Scope<'s, E>,
     rt: &'s R,
@@ -79,8 +84,10 @@ where
     let Some(task) = tasks.pop() else {
         return Ok(Vec::new(alloc));
     };
+    // The task moves to its thread, so its number is kept for a fault.
     let number = task.number().get();
     let thread = scope.spawn_with(DoesItsPart(Snapshot::of(&task)), move || task.work(rt));
+    // The other tasks are started before this one's thread is waited for.
     let others = spread(scope, rt, alloc, tasks);
     match thread {
         Ok(thread) => join_task(others, number, thread.join(rt)),
@@ -90,8 +97,9 @@ where
 
 /// Gives each task a thread of its own, and waits for all of them. Returns what they returned, in their order.
 ///
-/// Errors: of all faults that of the lowest session; `NoMemory` of no session only if no task has a fault. What the
-/// others returned is dropped then. May return `NoMemory`. Waits for its threads, which may wait.
+/// Errors: of all faults that of the lowest session; a task whose thread couldn't be started has the fault
+/// `ThreadRefused`. `NoMemory` of no session only if no task has a fault. What the others returned is dropped then. May
+/// return `NoMemory`. Waits for its threads, which may wait.
 /// Own rule: docs/RATTLE.md#races.
 pub fn run_all<T: Task + Send + Drop, R: Threads + Wait + Sync>(
     rt: &R,

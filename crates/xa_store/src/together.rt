@@ -6,7 +6,8 @@ use std::sync::atomic::{AtomicU64, Ordering};
 use std::thread::yield_now;
 use xa_xid::SessionNo;
 
-/// How often a session that waits for the others lets another thread run before it goes on without them.
+/// How often a session that waits for the others lets another thread run before it goes on without them. There is a
+/// bound since a session whose thread can't be started never arrives.
 const TURNS: u64 = 1_000_000;
 
 /// Lets all runs of a race begin at the same time.
@@ -35,8 +36,9 @@ impl TogetherGate {
         }
     }
 
-    /// Waits until all sessions are at their first statements.
+    /// Waits until all sessions that have a statement are at their first, or for `TURNS` turns.
     fn await_all(&self) {
+        // How many had arrived before doesn't matter: the loop counts anew.
         let _before = self.arrived.fetch_add(1, Ordering::SeqCst);
         for _ in 0..TURNS {
             if self.arrived.load(Ordering::SeqCst) >= self.awaited.load(Ordering::SeqCst) {
@@ -52,6 +54,7 @@ impl Gate for TogetherGate {
     ghost may_answer = { λ _ _ _ opened. IsTrue opened };
 
     fn announce(&self, speakers: u64) {
+        // A gate may serve one race after another, so the count begins anew. No run has started yet.
         self.arrived.store(0, Ordering::SeqCst);
         self.awaited.store(speakers, Ordering::SeqCst);
     }

@@ -12,7 +12,7 @@ own_pieces : (entry : Entry) → Pieces (words_of entry) entry.session (parts_of
 unfolding words_of
 own_pieces entry = pieces (words_of entry) entry.session (parts_of entry.statement) refl
 
--- a word among eight that are a text's, which ends before it
+-- a word among the eight of a text is 0 if the text ends before it
 behind : (words text : List ℕ) (start index size : ℕ) → take 8 (drop start words) ≡ text_words text → size ≡ length text
     → start ≤ index → index < start + 8
     → size ≤ 8 * (index - start) → get_or words index 0 ≡ 0

@@ -101,7 +101,7 @@ past_the_end text place past =
     ap (from_be_bytes w64) (ext_get_or 0 (eight_bytes text place) zeros refl
     (λ i below. byte_at text place i below ∙ zero_at i ∙ sym (none_else i below)))
 
--- bytes of the first words, and those of the next one behind them
+-- if a text is the bytes of the first words, then the text and the bytes of the next word are those of one word more
 pub one_word_more : (words text : List ℕ) (index : ℕ) → length text ≡ 8 * index
     → ((place : ℕ) → place < length text → get_or text place 0 ≡ byte_of words place)
     → (place : ℕ) → place < 8 * (index + 1) → get_or (text ++ to_be_bytes w64 (get_or words index 0)) place 0

@@ -4,8 +4,10 @@
 --     eight_bytes     eight bytes of a text from a place on, zeros past its end
 --     text_words      a text as eight numbers of eight bytes, the highest byte first
 --     words_of        the numbers of an entry
---     RowParts        the parts of a statement without an identifier
+--     RowParts        the parts are those of a statement without an identifier
 --     byte_of         the byte at a place of eight such numbers
+--     of_xid, of_texts    the parts of a statement about a branch;  of another one
+--     lay_out         the numbers of a session and parts
 use Rattle.std.specs.Prelude.{◌≡◌, ◌≢◌, ◌<◌, ◌≤◌, ℕ, ◌+◌, ◌/◌, ◌%◌, List, [], ◌∷◌, ◌++◌, length, slice_index, true}
 use Rattle.std.specs.Prelude.{false}
 use Rattle.std.specs.Int.{w64, from_be_bytes, to_be_bytes}
@@ -26,7 +28,7 @@ pub record Parts : Type 0 where
 abbrev pub of_xid : ℕ → Xid → Parts
 of_xid kind xid = record { kind = kind; format_id = xid.format_id; first = xid.gtrid.items; second = xid.bqual.items }
 
--- the parts of a statement of this kind about a row: its key, and the value of a PUT
+-- the parts of a statement of this kind about a row: its key, and the value of a PUT; or of one without texts
 abbrev pub of_texts : ℕ → List ℕ → List ℕ → Parts
 of_texts kind first second = record { kind = kind; format_id = 0; first = first; second = second }
 
@@ -62,7 +64,7 @@ text_words text =
     text_word text 0 ∷ text_word text 8 ∷ text_word text 16 ∷ text_word text 24
     ∷ text_word text 32 ∷ text_word text 40 ∷ text_word text 48 ∷ text_word text 56 ∷ []
 
--- session, parts with the lengths of the texts, and the texts
+-- the 21 numbers: session, kind, the lengths of the two texts, formatID, and eight numbers for each text
 abbrev pub lay_out : ℕ → Parts → List ℕ
 lay_out session parts =
     session ∷ parts.kind ∷ length parts.first ∷ length parts.second ∷ parts.format_id

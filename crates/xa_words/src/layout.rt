@@ -83,8 +83,8 @@ fn byte_or_zero(text: &[u8], place: usize) -> u8
     if place < text.len() { text[place] } else { 0 }
 }
 
-/// Returns the eight bytes of a text from a place on, as one number. Most texts are short, so most words
-/// are past their end.
+/// Returns the eight bytes of a text from a place on as one number: the first byte is the highest, and zeros
+/// stand past the end. Most texts are short, so most words are past their end.
 fn text_word(text: &[u8], place: usize) -> u64
     requires { place < 64 }
     ensures { result ≡ text_word text.now place }
@@ -108,7 +108,7 @@ fn text_word(text: &[u8], place: usize) -> u64
     ])
 }
 
-/// Returns the eight bytes of a text from a place on, as one number, of a text that may end among them.
+/// Returns the eight bytes of a text from a place on as one number, byte by byte: the text may end among them.
 fn last_word(text: &[u8], place: usize) -> u64
     requires { place < 64 }
     ensures { result ≡ text_word text.now place }
@@ -125,7 +125,7 @@ fn last_word(text: &[u8], place: usize) -> u64
     ])
 }
 
-/// Returns a text as eight words. Most texts fill only the first.
+/// Returns a text as eight words of eight bytes each. Most texts fill only the first.
 pub(crate) fn text_words(text: &[u8]) -> [u64; 8]
     ensures { result ≡ text_words text.now }
 {

@@ -51,6 +51,7 @@ pub(crate) fn of_statement(statement: &Statement)
             of_text(value);
         }
         Statement::Del(key) => of_key(key),
+        // The others, `XA RECOVER`, unsupported statements and `DISCONNECT`, have no such part.
         _ => {}
     }
 }

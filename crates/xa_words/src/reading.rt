@@ -11,7 +11,7 @@ use crate::Entry;
 use crate::layout::{MOST_BYTES, WORDS};
 use xa_xid::{Bytes, Key, SessionNo, Statement, Xid};
 
-/// Appends the first `count` bytes of a word.
+/// Appends the first `count` bytes of a word, of which the first is the highest.
 fn push_bytes(text: &mut Bytes, word: u64, count: usize)
     requires count { count ≤ 8 }
     requires fits { length text.old.items + count ≤ text_bytes }
@@ -64,6 +64,7 @@ fn text_of(words: &[u64], size: u64) -> Option<Bytes>
     ensures none { IfNone result ((text : List ℕ) → IsText text → length text ≡ size → text_words text ≡ words.now
         → ⊥) }
 {
+    // No text is so long.
     if size > MOST_BYTES {
         return None;
     }
@@ -94,7 +95,8 @@ fn with_xid(kind: u64, xid: Xid) -> Option<Statement>
     }
 }
 
-/// Returns the statement of a kind without an identifier, or `None` if none has these texts.
+/// Returns the statement of a kind without an identifier, or `None` if there is no such kind or none of this
+/// kind has these texts.
 fn with_texts(kind: u64, first: Bytes, second: Bytes) -> Option<Statement>
     requires { 6 < kind }
     ensures some { IfSome result
@@ -110,7 +112,9 @@ fn with_texts(kind: u64, first: Bytes, second: Bytes) -> Option<Statement>
             None
         };
     }
+    // Kinds 7 to 9 have a key, which isn't empty.
     let key = Key::of(first)?;
+    // Of the three only `PUT`, which is 8, has a value.
     match kind {
         7 if second.is_empty() => Some(Statement::Get(key)),
         8 => Some(Statement::Put(key, second)),
@@ -156,6 +160,7 @@ pub fn read_back(words: &[u64; WORDS]) -> Option<Entry>
     // Proved (log, one-spelling)
     ensures { (entry : Entry) → IsEntry entry → words.now ≡ words_of entry → result ≡ Some entry }
 {
+    // Words 0 to 4 are the session, the kind, the lengths of both texts and the formatID. Each text has eight words.
     let session = SessionNo::of(words[0])?;
     let first = text_of(&words[5..13], words[2])?;
     let second = text_of(&words[13..21], words[3])?;

@@ -43,7 +43,7 @@ pub record Passed (p : ℕ → Bool) (text : List ℕ) (place : ℕ) : Type 0 wh
   pub before : front p text ≡ take place text ++ front p (drop place text)
   pub left : behind p text ≡ behind p (drop place text)
 
--- the loop's step: one byte more passes
+-- the loop's step: if all bytes before a place pass and the one there does, all bytes before the next place pass
 pub passed_more : (p : ℕ → Bool) (text : List ℕ) (place : ℕ) → place < length text → p (get_or text place 0) ≡ true
     → Passed p text place → Passed p text (place + 1)
 passed_more p text place within passes so_far = record {
@@ -54,7 +54,7 @@ passed_more p text place within passes so_far = record {
   left = so_far.left ∙ rw (drop-cons text place 0 within, behind-passes p _ _ passes, add-one) refl;
 }
 
--- its end at a byte that doesn't: the text is cut there
+-- the loop's end: if all bytes before a place pass and the one there doesn't, the text is cut at the place
 pub passed_stop : (p : ℕ → Bool) (text : List ℕ) (place : ℕ) → place < length text → p (get_or text place 0) ≡ false
     → Passed p text place → (front p text ≡ take place text) × (behind p text ≡ drop place text)
 passed_stop p text place within fails so_far = (

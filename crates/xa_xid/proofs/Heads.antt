@@ -95,7 +95,8 @@ raised order m n is =
     (λ more. is ∙ sym (nat_cmp_is m n Greater more) ∙ nat_cmp_is (suc m) (suc n) Greater (omega (arith, more)))
     (λ same. is ∙ sym (nat_cmp_is m n Equal same) ∙ nat_cmp_is (suc m) (suc n) Equal (ap suc same))
 
--- if the same, and a text ends within them, the shorter text comes before
+-- if the first n bytes of two texts spell the same number and one text has no more than n, the texts compare as their
+-- lengths do
 level : (n : ℕ) (left right : List ℕ) → Small left → Small right → spelled n left ≡ spelled n right
     → (length left ≤ n) ⊎ (length right ≤ n)
     → slice_cmp nat_cmp left right ≡ nat_cmp (length left) (length right)
@@ -140,7 +141,7 @@ pub head_greater : (left right : List ℕ) → Small left → Small right → he
     → slice_cmp nat_cmp left right ≡ Greater
 head_greater left right l r h = greater 8 left right l r (omega (arith, h, head_is left, head_is right))
 
--- equal heads, of which one is a whole text: the lengths decide
+-- if two texts have the same head and one has at most 8 bytes, they compare as their lengths do
 pub head_level : (left right : List ℕ) → Small left → Small right → head_of left ≡ head_of right
     → (length left ≤ 8) ⊎ (length right ≤ 8)
     → slice_cmp nat_cmp left right ≡ nat_cmp (length left) (length right)

@@ -68,12 +68,12 @@ no_comma_read : (text : List ℕ) → NoCommaAt text → comma_next text ≡ Non
 no_comma_read [] s = refl
 no_comma_read (byte ∷ text) s = rw s refl
 
--- the reading is of an identifier that the text begins with
+-- the text begins with the identifier that was read; or the fault and its place are those of the table
 abbrev pub XidSpelled : List ℕ → Parse → Type 0
 XidSpelled text (Ok found) = XidAt text found.0 found.1
 XidSpelled text (Err fault) = FaultyXid text fault.0 fault.1
 
--- from the reading to the spelling, from the last part to the first
+-- a formatID behind gtrid and bqual: what is read is spelled, and each fault is told rightly
 format_spelled : (text second third fourth fifth : List ℕ) (gtrid bqual : Text) → TextAt (unblank text) gtrid second
     → CommaAt (unblank second) third
     → TextAt (unblank third) bqual fourth → CommaAt (unblank fourth) fifth
@@ -85,7 +85,8 @@ format_spelled text second third fourth fifth gtrid bqual first comma part last 
     faulty_format_id text second third fourth fifth gtrid bqual fault first comma part last
     (read_faulty_number (unblank fifth) fault e)
 
--- from the end of an identifier to its beginning: after the bqual a formatID or nothing
+-- the part of an identifier behind its bqual, a formatID or nothing: what is read is spelled, and each fault is told
+-- rightly
 after_bqual_spelled : (text second third fourth : List ℕ) (gtrid bqual : Text) → TextAt (unblank text) gtrid second
     → CommaAt (unblank second) third
     → TextAt (unblank third) bqual fourth → (next : Option (List ℕ)) → CommaFound (unblank fourth) next

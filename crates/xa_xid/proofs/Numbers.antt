@@ -9,7 +9,7 @@ use Rattle.std.specs.Str.Parse.{digits_value, digits_value_after}
 use Rattle.xa_xid.specs.Number.{fitting}
 use Rattle.xa_xid.specs.declared.literal_fault.LiteralFault.TheVariants.{NumberTooLarge}
 
--- the value so far, with the digits that are left
+-- reading has come to this place with this value: going on from it over the digits left gives the value of all digits
 pub record Reached (base : ℕ) (digits : List ℕ) (place value : ℕ) : Type 0 where
   pub same : digits_value base digits ≡ digits_value_after base value (drop place digits)
 
@@ -40,7 +40,7 @@ grows base value (digit ∷ digits) positive =
     let more : value * 1 ≤ value * base = mul-le-mul_left value positive in
     omega (arith, later, more)
 
--- a value that is too large stays so
+-- if the value that was reached is at least a limit, so is the value of all digits
 pub reached_past : (base : ℕ) (digits : List ℕ) (place value limit : ℕ) → 1 ≤ base → limit ≤ value
     → Reached base digits place value
     → limit ≤ digits_value base digits

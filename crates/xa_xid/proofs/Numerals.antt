@@ -19,7 +19,8 @@ use Rattle.xa_xid.proofs.Numbers.{fitting_small, fitting_large}
 use Rattle.xa_xid.proofs.Spelling.{front-behind, only_passes, behind_starts, words_hex}
 use Rattle.xa_xid.proofs.Written.{Passes, front-append, behind-append, number_found, number_at-found}
 
--- the reading is of a number that the text begins with
+-- the text begins with the number that was read; or with a numeral of 2^64 or more, if the fault is that it is too
+-- large; nothing is said if the fault is NotALiteral, and no other fault is told
 abbrev pub NumberSpelled : List ℕ → Reading ℕ → Type 0
 NumberSpelled text (Ok found) = NumberAt text found.0 found.1
 NumberSpelled text (Err NotALiteral) = Unit {0}
@@ -96,7 +97,7 @@ pub read_number_spelled : (text : List ℕ) (value : ℕ) (rest : List ℕ) → 
     → NumberAt text value rest
 read_number_spelled text value rest e = rw e at (number_spelled text)
 
--- a run of a known value is read so
+-- a run in front of a text is read as the value or the fault that the run has
 written_read : (written rest : List ℕ) (found : Result ℕ LiteralFault) → Passes (belongs Word) written
     → StartsNo (belongs Word) rest
     → number_in written ≡ found
@@ -161,7 +162,7 @@ numeral_read : (text : List ℕ) (value : ℕ) (rest : List ℕ) → NumeralAt t
 numeral_read _ _ _ (decimal_numeral digit digits rest all s) = decimal_read digit digits rest all s
 numeral_read _ _ _ (hexadecimal_numeral text digits rest form) = run_read text digits rest form
 
--- what is spelled has that form, and a value that fits
+-- a number that is spelled is a numeral whose value is below 2^64
 number_numeral : (text : List ℕ) (value : ℕ) (rest : List ℕ) → NumberAt text value rest
     → NumeralAt text value rest × (value < 2 ^ 64)
 number_numeral _ _ _ (decimal_digits digit digits {value} {rest} all e small s) =
@@ -194,7 +195,7 @@ one_number text value other rest behind form again =
     (spelled_number_read text other behind again) in
     (ap (λ pair. pair.0) same, ap (λ pair. pair.1) same)
 
--- each fault is a row of the table
+-- a value never gives the fault NotALiteral
 fitting_told : (rest : List ℕ) (value : ℕ) → number_found rest (fitting value) ≡ Err NotALiteral → ⊥
 unfolding fitting
 fitting_told rest value =
@@ -216,7 +217,7 @@ pub read_faulty_number : (text : List ℕ) (fault : LiteralFault) → number_ahe
     → FaultyNumber text fault
 read_faulty_number text fault e = fault_row text fault e (rw e at (number_spelled text))
 
--- if no numeral stands at a place, reading fails there as the table says
+-- if no numeral stands at a place, reading a number there gives the fault NotALiteral
 none_told : (text : List ℕ) → ((value : ℕ) (rest : List ℕ) → NumeralAt text value rest → ⊥) → (found : Reading ℕ)
     → number_ahead text ≡ found
     → NumberSpelled text found → found ≡ Err NotALiteral

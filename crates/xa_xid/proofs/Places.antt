@@ -98,7 +98,7 @@ end_place text rest end =
     let place : length text - length rest ≡ length end.before = omega (arith, sizes) in
     rw place (ap (drop (length end.before)) end.cut ∙ drop-append_seam end.before rest)
 
--- what is spelled at a place, up to where the rest begins
+-- what is spelled at a place stands between it and the place at which the rest begins
 between : {Value : Type 0} (Spelled : List ℕ → Value → List ℕ → Type 0) (text : List ℕ) (at : ℕ) (value : Value)
     (rest : List ℕ)
     → Spelled (drop at text) value rest → EndOf (drop at text) rest
@@ -112,7 +112,7 @@ between Spelled text at value rest form end = record {
 next_place : (text : List ℕ) (next : ℕ) → next ≤ length text → length text - length (drop next text) ≡ next
 next_place text next within = rw (length-drop next text) (omega arith)
 
--- a literal or a number at a place, from its reading and back
+-- if reading finds what is spelled at a place, it finds what is spelled between that place and another, with this place
 placed_spelled : {Value : Type 0} (Spelled : List ℕ → Value → List ℕ → Type 0) (text : List ℕ) (at : ℕ)
     (found : Reading Value) (value : Value) (next : ℕ)
     → ((rest : List ℕ) → Spelled (drop at text) value rest → found ≡ Ok (value, rest))
@@ -177,7 +177,7 @@ told_fault : {Value : Type 0} (reading : Result Value LiteralFault) (told fault 
     → reading ≡ Err fault → told ≡ fault
 told_fault reading told fault e f = cc
 
--- adding the place that was reached to what is found leaves a fault as it is
+-- a fault of a reading with places is the fault of the reading itself
 placed_fault : {Value : Type 0} (text : List ℕ) (found : Reading Value) (fault : LiteralFault)
     → placed text found ≡ Err fault → found ≡ Err fault
 placed_fault text (Ok (value, rest)) fault e = cc e
@@ -201,7 +201,7 @@ number_fault_from text at found e fault = (
   λ row. ap (placed text) (sym e ∙ faulty_number_read (drop at text) fault row),
 )
 
--- an identifier, read behind the blanks before it
+-- reading an identifier is reading it from its gtrid on, behind the blanks before it
 xid_at-unblank : (text tail : List ℕ) → tail ≡ unblank text → xid_ahead text ≡ gtrid_next tail
 unfolding xid_ahead
 xid_at-unblank text tail e = ap gtrid_next (sym e)

@@ -10,17 +10,17 @@ use Rattle.xa_xid.specs.Xid.{Text}
 use Rattle.xa_xid.specs.declared.quoted.Mode.{Mode}
 use Rattle.xa_xid.specs.declared.quoted.Mode.TheVariants.{Plain, Escape, Quote}
 
--- no byte put in front of what was read
+-- putting no byte in front of what was read changes nothing
 onto-nil : (found : Option (List ℕ × List ℕ)) → found ≡ onto [] found
 onto-nil None = refl
 onto-nil (Some (bytes, rest)) = refl
 
--- bytes put in front in two steps, or in one
+-- bytes put in front in two steps are the same as in one
 onto-onto : (xs ys : List ℕ) (found : Option (List ℕ × List ℕ)) → onto xs (onto ys found) ≡ onto (xs ++ ys) found
 onto-onto xs ys None = refl
 onto-onto xs ys (Some (bytes, rest)) = ap (λ zs. Some (zs, rest)) (sym (append_assoc xs ys bytes))
 
--- the machine of literals in quotes, byte by byte: a quote may end the text or stand for itself
+-- a quote within the quotes closes the literal or is the first of two: the next byte shows which
 pub plain_quote : (quote byte : ℕ) (text : List ℕ) → byte ≡ quote
     → read_in_quotes quote Plain (byte ∷ text) ≡ read_in_quotes quote Quote text
 unfolding read_in_quotes
@@ -71,7 +71,8 @@ pub quoted-nil-quote : (quote : ℕ) → read_in_quotes quote Quote [] ≡ Some 
 unfolding read_in_quotes
 quoted-nil-quote quote = refl
 
--- what was read before a place, with what is left to read
+-- reading has come to a place in this mode, holding the bytes so far if they are at most 64: the rest read from there,
+-- with these bytes in front, is the whole text read
 pub record ReadTo (quote : ℕ) (text : List ℕ) (mode : Mode) (held : Option Text) (place : ℕ) : Type 0 where
   pub so_far : List ℕ
   pub held_is : held ≡ kept so_far
@@ -81,7 +82,7 @@ pub record ReadTo (quote : ℕ) (text : List ℕ) (mode : Mode) (held : Option T
 pub read_none : (quote : ℕ) (text : List ℕ) (held : Option Text) → held ≡ kept [] → ReadTo quote text Plain held 0
 read_none quote text held e = record { so_far = []; held_is = e; same = onto-nil _ }
 
--- the loop over bytes: one that stands for nothing itself, as a backslash
+-- the loop over bytes: after one that stands for no byte, as a backslash, only the mode is another
 pub read_mark : (quote : ℕ) (text : List ℕ) (mode next : Mode) (held : Option Text) (place : ℕ) → place < length text
     → ((rest : List ℕ) → read_in_quotes quote mode (get_or text place 0 ∷ rest) ≡ read_in_quotes quote next rest)
     → ReadTo quote text mode held place → ReadTo quote text next held (place + 1)
@@ -91,7 +92,7 @@ read_mark quote text mode next held place within step so_far = record {
   same = so_far.same ∙ rw (drop-cons text place 0 within, step, add-one) refl;
 }
 
--- the loop over bytes: one for which the literal gets bytes
+-- the loop over bytes: after one for which the literal gets bytes, these are held too, and the mode may be another
 pub read_more : (quote : ℕ) (text : List ℕ) (mode next : Mode) (old new : Option Text) (place : ℕ) (bytes : List ℕ)
     → place < length text
     → ((rest : List ℕ) → read_in_quotes quote mode (get_or text place 0 ∷ rest)

@@ -108,7 +108,7 @@ length-drop-2 : (byte : ℕ) (text : List ℕ) → length (drop 2 (byte ∷ text
 length-drop-2 byte [] = le_refl 0
 length-drop-2 byte (next ∷ text) = omega arith
 
--- less is left behind a literal than the text had
+-- less is left behind a literal in quotes than the text had
 pub literal-short : (byte : ℕ) (text : List ℕ) → (opens_text (byte ∷ text) || opens_hex (byte ∷ text)) ≡ true
     → ShortReading (length text) (literal_ahead (byte ∷ text))
 unfolding literal_ahead

@@ -33,7 +33,7 @@ use Rattle.xa_xid.proofs.Spelling.{quote_no_hex, hex_run_cut, literal_at-run}
 use Rattle.xa_xid.proofs.Spelling.{front_passes, front-behind, passes_only, only_passes, behind_starts, long_digits}
 use Rattle.xa_xid.proofs.Spelling.{evened_length}
 
--- the reading is of a literal that the text begins with
+-- the text begins with the literal that was read, of at most 64 bytes; or the fault is a row of the table
 abbrev SpelledAs : List ℕ → Reading Text → Type 0
 SpelledAs text (Ok found) = LiteralAt text found.0.items found.1 × (length found.0.items ≤ 64)
 SpelledAs text (Err fault) = FaultyLiteral text fault
@@ -141,7 +141,7 @@ hex_quoted_spelled letter digits (byte ∷ rest) is all stops =
     let form : LiteralAt (letter ∷ 39 ∷ digits ++ 39 ∷ rest) bytes rest = hex_in_quotes letter digits is e hex in
     (rw same form, omega (arith, ltb-false 128 (length digits) short, twice))))))
 
--- an `x` and a quote (39) open hexadecimal digits in quotes
+-- what opens hexadecimal digits in quotes is an `X` or `x` and a quote (39)
 opens_parts : (letter second : ℕ) → (is_x letter && second == 39) ≡ true → IsTrue (is_x letter) × (second ≡ 39)
 opens_parts letter second e = let parts = and_parts (is_x letter) (second == 39) e in
     (parts.0, eqb-true second 39 parts.1)
@@ -276,7 +276,7 @@ unclosed_read : (quote : ℕ) (text : List ℕ) (found : Option (List ℕ × Lis
 unclosed_read quote text None refused s = refl
 unclosed_read quote text (Some (bytes, rest)) refused s = absurd (refused bytes rest s)
 
--- more than 128 digits, which are more than 64 bytes
+-- `0x` and more than 128 digits, which are more than 64 bytes, are told as too long
 long_run_read : (text digits rest : List ℕ) → HexRunAt text digits rest → 128 < length digits
     → literal_ahead text ≡ Err TooLong
 long_run_read _ _ _ (hex_run_at digit digits rest hex s) long =

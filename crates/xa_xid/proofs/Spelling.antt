@@ -154,7 +154,7 @@ behind_starts p [] = tt
 behind_starts p (byte ∷ text) =
     cond_both (p byte) (behind p text) (byte ∷ text) (StartsNo p) (λ _. behind_starts p text) (λ e. e)
 
--- bytes that are read, where they are few enough
+-- digits that are decoded are twice as many as their bytes, and so an even number
 pub long_digits : (digits bytes : List ℕ) → decode_of digits ≡ Ok bytes
     → (length digits % 2 ≡ 0) × (length digits ≡ 2 * length bytes)
 long_digits digits bytes e = let ok = decode_of-ok digits bytes e in (ok.0, ok.2)
@@ -195,7 +195,7 @@ quoted_sized digits bytes rest e =
     (λ long. omega (arith, ltb-true 128 (length digits) long))
     (λ short. omega (arith, ltb-false 128 (length digits) short)))
 
--- an odd number of digits has one more in front
+-- digits that were made even are as many as before, or one more
 pub evened_length : (digits : List ℕ) → (odd : Bool) → (length digits % 2 == 1) ≡ odd
     → (length digits ≤ length (evened digits)) × (length (evened digits) ≤ length digits + 1)
 evened_length digits true e = rw e (omega arith, omega arith)

@@ -30,7 +30,7 @@ abbrev pub Passes : (ℕ → Bool) → List ℕ → Type 0
 Passes p [] = Unit {0}
 Passes p (byte ∷ text) = (p byte ≡ true) × Passes p text
 
--- nothing is in front of a text that begins with no byte that passes
+-- the front of a text that begins with no byte that passes is empty
 front-starts : (p : ℕ → Bool) (rest : List ℕ) → StartsNo p rest → front p rest ≡ []
 front-starts p [] s = front-nil p
 front-starts p (byte ∷ rest) s = front-stops p byte rest s
@@ -87,7 +87,7 @@ hex_digits_back : (digit : ℕ) (digits : List ℕ) → behind (belongs Hexadeci
     → hex_digits_of (48 ∷ 120 ∷ digit ∷ digits) ≡ Some (digit ∷ digits)
 hex_digits_back digit digits e = rw e refl
 
--- each byte is two digits
+-- the digits of bytes are an even number
 even_digits : (bytes : List ℕ) → length (encode_lower bytes) % 2 ≡ 0
 even_digits bytes = let twice : length (encode_lower bytes) ≡ 2 * length bytes =
     length-encode_with lower_digits bytes in omega arith
@@ -208,7 +208,7 @@ number_back n rest small s =
     ∙ ap (number_found (after_run (decimal n ++ rest))) value
     ∙ ap (λ r. Ok (n, r)) left
 
--- no blank stands before a part or a number
+-- the canonical text of a part begins with no blank
 pub part_unblank : (bytes rest : List ℕ) → unblank (part_text bytes ++ rest) ≡ part_text bytes ++ rest
 unfolding behind belongs
 part_unblank [] rest = refl
@@ -286,7 +286,7 @@ xid_text-append xid rest =
     append_assoc (part_text xid.gtrid.items) (44 ∷ (bqual ++ (44 ∷ number))) rest
     ∙ ap (λ t. part_text xid.gtrid.items ++ (44 ∷ t)) (append_assoc bqual (44 ∷ number) rest)
 
--- an identifier, read back from its parts
+-- the canonical text of an identifier is read back as it, if no word byte follows
 pub xid_back : (xid : Xid) (rest : List ℕ) → IsWritable xid → StartsNo (belongs Word) rest
     → xid_ahead (xid_text xid ++ rest) ≡ Ok (xid, rest)
 unfolding xid_ahead

@@ -58,7 +58,7 @@ pub data FaultyLiteral : List ℕ → LiteralFault → Type 0 where
   no_form : (text : List ℕ) → opens_text text ≡ false → opens_hex text ≡ false
       → ((digits rest : List ℕ) → HexRunAt text digits rest → ⊥) → FaultyLiteral text NotALiteral
 
--- only decimal digits, or `0x` and one or more hexadecimal digits
+-- only decimal digits, or `0x` and one or more hexadecimal digits. No word byte follows, and the value has no limit
 pub data NumeralAt : List ℕ → ℕ → List ℕ → Type 0 where
   decimal_numeral : (digit : ℕ) (digits rest : List ℕ) → IsTrue (only (belongs Decimal) (digit ∷ digits))
       → StartsNo (belongs Word) rest

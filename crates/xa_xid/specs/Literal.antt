@@ -5,6 +5,9 @@
 --     literal_ahead text             the literal that a text begins with, and the text after it, or its fault
 --     literal_from text at           the same at a place, and the place after the literal
 --     evened digits                  an odd number of digits with a 0 in front
+--     text_literal_of, hex_in_quotes_of, hex_run_of     the reading of each of the three forms
+--     kept bytes, sized              the bytes, if they aren't too many;  that as a reading
+--     placed                         a reading with a place instead of the rest of the text
 use Rattle.std.specs.Prelude.{◌≡◌, ℕ, ◌-◌, ◌≤◌, ◌%◌, Bool, false, ◌==◌, ◌||◌, ◌&&◌, not, nat_le, nat_lt, if◌then◌else◌}
 use Rattle.std.specs.Prelude.{IsTrue, List, [], ◌∷◌, ◌++◌, length}
 use Rattle.std.specs.Prelude.{drop, slice_index, Option, Some, None, Result, Ok, Err}
@@ -35,7 +38,7 @@ abbrev pub opens_text : List ℕ → Bool
 opens_text [] = false
 opens_text (first ∷ _) = is_quote first
 
--- the text begins with an X and a '
+-- the text begins with an X or x and a '
 abbrev pub opens_hex : List ℕ → Bool
 opens_hex (first ∷ second ∷ _) = is_x first && second == 39
 opens_hex _ = false
@@ -71,12 +74,12 @@ pub record Between {Value : Type 0} (Spelled : List ℕ → Value → List ℕ �
 unfoldable pub kept : List ℕ → Option Text
 kept bytes = if nat_le (length bytes) text_bytes then Some (record { items = bytes }) else None
 
--- bytes that were read, if they are few enough
+-- the reading of a literal whose bytes were kept, with the text after it; too long if they weren't
 abbrev pub sized : Option Text → List ℕ → Reading Text
 sized None rest = Err TooLong
 sized (Some text) rest = Ok (text, rest)
 
--- a text literal after its opening quote
+-- the reading of a text literal, by what stands behind its opening quote: unclosed, its bytes, or too long
 abbrev pub text_literal_of : Option (List ℕ × List ℕ) → Reading Text
 text_literal_of None = Err Unclosed
 text_literal_of (Some (bytes, rest)) = sized (kept bytes) rest
@@ -86,7 +89,7 @@ abbrev pub decoded : List ℕ → List ℕ → Reading Text
 decoded digits rest =
     elim (decode_of digits) [ Ok bytes ↦ Ok (record { items = bytes }, rest) | Err _ ↦ Err NotALiteral ]
 
--- the digits after `X'`, and the text after them; or the first fault that holds
+-- the reading of hexadecimal digits after `X'`, by the digits and the text after them: their bytes, or the first fault
 abbrev pub hex_in_quotes_of : List ℕ → List ℕ → Reading Text
 hex_in_quotes_of digits [] = Err Unclosed
 hex_in_quotes_of digits (byte ∷ rest) =
@@ -102,7 +105,7 @@ hex_digits_of (zero_digit ∷ letter ∷ digit ∷ digits) =
     (digit ∷ digits) else None
 hex_digits_of _ = None
 
--- a run of hexadecimal digits behind `0x`, if it is one, as a literal; and the text after it
+-- the reading of a run, by its hexadecimal digits behind `0x`, if it has this form, and the text after the run
 abbrev pub hex_run_of : Option (List ℕ) → List ℕ → Reading Text
 hex_run_of None rest = Err NotALiteral
 hex_run_of (Some digits) rest = if nat_lt text_digits (length digits) then Err TooLong else decoded (evened digits) rest
@@ -115,7 +118,7 @@ literal_ahead text =
     (behind (belongs Hexadecimal) (drop 2 text)) else
     hex_run_of (hex_digits_of (run text)) (after_run text)
 
--- what was read at a place, and the place after it
+-- a reading with the place of the rest in the text, instead of the rest; a fault stays
 abbrev pub placed : {Value : Type 0} → List ℕ → Reading Value → Result (Value × ℕ) LiteralFault
 placed text (Ok (value, rest)) = Ok (value, length text - length rest)
 placed text (Err fault) = Err fault

@@ -28,7 +28,7 @@ pub data NumberAt : List ℕ → ℕ → List ℕ → Type 0 where
 unfoldable pub fitting : ℕ → Result ℕ LiteralFault
 fitting value = if nat_lt value (2 ^ 64) then Ok value else Err NumberTooLarge
 
--- `0x` and one or more hexadecimal digits
+-- the number of the digits behind `0x`, if a run has this form
 abbrev pub hex_number_of : Option (List ℕ) → Result ℕ LiteralFault
 hex_number_of None = Err NotALiteral
 hex_number_of (Some digits) = fitting (digits_value 16 digits)

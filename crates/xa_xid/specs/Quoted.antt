@@ -31,7 +31,8 @@ pub data Quoted (quote : ℕ) : List ℕ → List ℕ → Type 0 where
   plain : (byte : ℕ) {written bytes : List ℕ} → byte ≢ quote → byte ≢ 92 → Quoted quote written bytes
       → Quoted quote (byte ∷ written) (byte ∷ bytes)
 
--- how it ends in a longer text: the closing quote isn't the first of two
+-- the text begins with what is written up to and with the closing quote, and `rest` comes after it; the closing quote
+-- isn't the first of two
 pub record QuotedAt (quote : ℕ) (text bytes rest : List ℕ) : Type 0 where
   pub written : List ℕ
   pub form : Quoted quote written bytes
@@ -43,7 +44,8 @@ abbrev pub onto : List ℕ → Option (List ℕ × List ℕ) → Option (List �
 onto first None = None
 onto first (Some (bytes, rest)) = Some (first ++ bytes, rest)
 
--- the bytes and the text after the closing quote; none if no quote closes
+-- reading goes on between quotes, by what was read last: the bytes and the text after the closing quote; none if no
+-- quote closes
 unfoldable pub read_in_quotes : ℕ → Mode → List ℕ → Option (List ℕ × List ℕ)
 read_in_quotes quote Plain [] = None
 read_in_quotes quote Plain (byte ∷ text) =

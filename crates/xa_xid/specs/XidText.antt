@@ -3,7 +3,10 @@
 --     xid_ahead text         the identifier that a text begins with and the text after it, or its fault and the text
 --                            from there
 --     xid_from text at       the same at a place, with places for texts
---     part_text, xid_text    the canonical text of a gtrid or bqual, and of an identifier
+--     part_text, xid_text    the canonical text of a gtrid, bqual, key or value, and of an identifier
+--     gtrid_next, bqual_next, format_id_next     reading an identifier from this part on
+--     no_text, xid_of        the empty text;  the identifier of three parts
+--     IsWritable             what the types of an identifier's parts allow
 use Rattle.std.specs.Prelude.{◌≡◌, ℕ, ◌-◌, ◌≤◌, ◌<◌, ◌^◌, ◌==◌, if◌then◌else◌, List, [], ◌∷◌, ◌++◌, length, drop, codes}
 use Rattle.std.specs.Prelude.{decimal, Option, Some, None, Result}
 use Rattle.std.specs.Prelude.{Ok, Err}
@@ -51,7 +54,7 @@ pub data XidAt : List ℕ → Xid → List ℕ → Type 0 where
 abbrev pub Parse : Type 0
 Parse = Result (Xid × List ℕ) (LiteralFault × List ℕ)
 
--- the text after a comma that the text begins with
+-- the text after a comma that the text begins with; none if it doesn't begin with one
 abbrev pub comma_next : List ℕ → Option (List ℕ)
 comma_next [] = None
 comma_next (byte ∷ text) = if byte == 44 then Some text else None
@@ -91,7 +94,7 @@ gtrid_next text = elim (literal_ahead text) [
 unfoldable pub xid_ahead : List ℕ → Parse
 xid_ahead text = gtrid_next (unblank text)
 
--- rests of the text as places in it
+-- what was read, with places in the text instead of the rests of it
 abbrev pub places : List ℕ → Parse → Result (Xid × ℕ) (LiteralFault × ℕ)
 places text (Ok (xid, rest)) = Ok (xid, length text - length rest)
 places text (Err (fault, rest)) = Err (fault, length text - length rest)
@@ -100,7 +103,7 @@ places text (Err (fault, rest)) = Err (fault, length text - length rest)
 abbrev pub xid_from : List ℕ → ℕ → Result (Xid × ℕ) (LiteralFault × ℕ)
 xid_from text at = places text (xid_ahead (drop at text))
 
--- a gtrid or bqual: `X''` if it is empty, else `0x` and two small digits for each byte (own rule)
+-- a gtrid, bqual, key or value: `X''` if it is empty, else `0x` and two small digits for each byte (own rule)
 abbrev pub part_text : List ℕ → List ℕ
 part_text [] = codes "X''"
 part_text (byte ∷ bytes) = codes "0x" ++ encode_lower (byte ∷ bytes)
@@ -109,7 +112,7 @@ part_text (byte ∷ bytes) = codes "0x" ++ encode_lower (byte ∷ bytes)
 abbrev pub xid_text : Xid → List ℕ
 xid_text xid = part_text xid.gtrid.items ++ (44 ∷ (part_text xid.bqual.items ++ (44 ∷ decimal xid.format_id)))
 
--- the parts are bytes, and few enough; this holds of every identifier of a program
+-- both texts are at most `text_bytes` bytes and the formatID is below 2^64; this holds of every `Xid` of a program
 pub record IsWritable (xid : Xid) : Type 0 where
   pub gtrid_bytes : IsBytes xid.gtrid.items
   pub gtrid_fits : length xid.gtrid.items ≤ text_bytes

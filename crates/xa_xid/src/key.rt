@@ -61,14 +61,16 @@ fn head_of(text: &[u8]) -> u64
     ])
 }
 
-/// Compares two texts of one head. If one ends within the head, the shorter begins the longer.
+/// Compares two texts that have the same head. If one of them ends within it, the shorter text is the
+/// longer one's beginning, so the lengths decide.
 fn order_behind(left: &[u8], right: &[u8]) -> Ordering
     requires { head_of left.now ≡ head_of right.now }
     ensures { result ≡ bytes_cmp left.now right.now }
 {
     are_bytes(left);
     are_bytes(right);
-    // The heads are equal, so a text that ends within its head is the other's beginning, or the other way round.
+    // A head has zeros for missing bytes. So where one text ends within equal heads, the longer text goes on
+    // with zeros there, and the shorter one is its beginning.
     if left.len() <= 8 {
         return left.len().cmp(&right.len());
     }
@@ -78,7 +80,7 @@ fn order_behind(left: &[u8], right: &[u8]) -> Ordering
     left.cmp(right)
 }
 
-/// Compares two texts with these heads.
+/// Compares two texts by their bytes. Their heads, which are given, decide if they differ.
 fn order_of(left_head: u64, left: &[u8], right_head: u64, right: &[u8]) -> Ordering
     requires left { left_head ≡ head_of left.now }
     requires right { right_head ≡ head_of right.now }

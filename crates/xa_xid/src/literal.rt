@@ -52,6 +52,7 @@ pub fn literal_of(text: &[u8]) -> Result<(Bytes, &[u8]), LiteralFault>
     } else if begins_hex(text) {
         hex_in_quotes(text_from(text, 2))
     } else {
+        // Of other texts only `0x` and digits is a literal.
         hex_run(text)
     }
 }
@@ -64,7 +65,7 @@ fn begins_text(text: &[u8]) -> bool
     !text.is_empty() && (text[0] == b'\'' || text[0] == b'"')
 }
 
-/// Returns whether the text begins with an X and a quote.
+/// Returns whether the text begins with an `X`, large or small, and a single quote.
 fn begins_hex(text: &[u8]) -> bool
     ensures value { result ≡ opens_hex text.now }
     ensures some { IsTrue result → 2 ≤ length text.now }
@@ -72,7 +73,7 @@ fn begins_hex(text: &[u8]) -> bool
     text.len() >= 2 && (text[0] == b'X' || text[0] == b'x') && text[1] == b'\''
 }
 
-/// Reads the hexadecimal digits after `X'`, up to the closing quote.
+/// Reads the hexadecimal digits after `X'`, up to the closing quote; returns their bytes and the text after it.
 fn hex_in_quotes(body: &[u8]) -> Result<(Bytes, &[u8]), LiteralFault>
     ensures value { let digits = front (belongs ByteClass.Hexadecimal) body.now in
         let rest = behind (belongs ByteClass.Hexadecimal) body.now in
@@ -82,7 +83,8 @@ fn hex_in_quotes(body: &[u8]) -> Result<(Bytes, &[u8]), LiteralFault>
     ensures within { IfOk result (λ found. length found.1.now ≤ length body.now) }
 {
     let (digits, rest) = ByteClass::Hexadecimal.split(body);
-    // A missing quote comes before every other fault, and the length last.
+    // Only the first fault is told: the text ends, another byte comes, the digits are odd in number, or they are more
+    // than the 128 of 64 bytes.
     if rest.is_empty() {
         Err(LiteralFault::Unclosed)
     } else if rest[0] != b'\'' {
@@ -96,7 +98,7 @@ fn hex_in_quotes(body: &[u8]) -> Result<(Bytes, &[u8]), LiteralFault>
     }
 }
 
-/// Reads a run of word bytes that is `0x` and hexadecimal digits.
+/// Reads a run of word bytes that is `0x` and hexadecimal digits; returns their bytes and the text after it.
 fn hex_run(text: &[u8]) -> Result<(Bytes, &[u8]), LiteralFault>
     ensures value { let digits = hex_digits_of (run text.now) in
         MatchResult result
@@ -118,11 +120,11 @@ fn hex_run(text: &[u8]) -> Result<(Bytes, &[u8]), LiteralFault>
     }
 }
 
-/// Returns the digits of a run that is `0x` and one or more hexadecimal digits.
+/// Returns the digits of a run that is `0x` and one or more hexadecimal digits; `None` for another run.
 pub(crate) fn hex_digits(run: &[u8]) -> Option<&[u8]>
     ensures { option_copied result ≡ hex_digits_of run.now }
 {
-    // At least one digit comes after `0x`.
+    // At least one digit comes after `0x`, whose `x` is small.
     if run.len() < 3 || run[0] != b'0' || run[1] != b'x' {
         return None;
     }
@@ -134,7 +136,7 @@ pub(crate) fn hex_digits(run: &[u8]) -> Option<&[u8]>
     }
 }
 
-/// Puts a 0 in front of an odd number of digits.
+/// Returns the digits, with a 0 in front if they are odd in number.
 fn even_digits(digits: &[u8]) -> ArrayVec<u8, 128>
     requires { length digits.now ≤ text_digits }
     ensures { result.items ≡ evened digits.now }
@@ -149,7 +151,8 @@ fn even_digits(digits: &[u8]) -> ArrayVec<u8, 128>
     even
 }
 
-/// Returns the bytes of an even number of hexadecimal digits, with the text after the literal.
+/// Returns the bytes that hexadecimal digits spell, with `rest`, the text after the literal. The digits are even
+/// in number; else the fault is `NotALiteral`.
 fn bytes_of<'a>(digits: &[u8], rest: &'a [u8]) -> Result<(Bytes, &'a [u8]), LiteralFault>
     requires { length digits.now ≤ text_digits }
     ensures value { MatchResult result
@@ -157,10 +160,12 @@ fn bytes_of<'a>(digits: &[u8], rest: &'a [u8]) -> Result<(Bytes, &'a [u8]), Lite
         (λ fault. decoded digits.now rest.now ≡ Err fault) }
     ensures rest { IfOk result (λ found. found.1.now ≡ rest.now) }
 {
+    // As many bytes as the digits spell, to be overwritten.
     let mut bytes = Bytes::from([0; 64]);
     bytes.truncate(digits.len() / 2);
     match hex::decode_to_slice(digits, bytes.as_mut_slice()) {
         Ok(()) => Ok((bytes, rest)),
+        // Both callers give hexadecimal digits, even in number, so this doesn't come.
         Err(_) => Err(LiteralFault::NotALiteral),
     }
 }

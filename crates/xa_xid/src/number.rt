@@ -45,7 +45,8 @@ pub fn number_of(text: &[u8]) -> Result<(u64, &[u8]), LiteralFault>
     Ok((number, rest))
 }
 
-/// Returns the value of a run of word bytes.
+/// Returns the value of a run of word bytes. Errors: `NotALiteral` if the run is no number, `NumberTooLarge` if it is
+/// one above 2^64-1.
 fn value_of_run(run: &[u8]) -> Result<u64, LiteralFault>
     ensures { result ≡ number_in run.now }
 {
@@ -59,7 +60,7 @@ fn value_of_run(run: &[u8]) -> Result<u64, LiteralFault>
     }
 }
 
-/// Returns the value of digits in a base of 1 to 36.
+/// Returns the value of digits in a base of 1 to 36, or `NumberTooLarge` if it is above 2^64-1.
 #[tactic(auto, using(crate::proofs::Numbers::fitting_small, crate::proofs::Numbers::fitting_large))]
 fn fitting_value(digits: &[u8], base: u64) -> Result<u64, LiteralFault>
     requires positive { 1 ≤ base }
@@ -72,7 +73,7 @@ fn fitting_value(digits: &[u8], base: u64) -> Result<u64, LiteralFault>
     }
 }
 
-/// Returns the value of digits in a base of 1 to 36, if it is below 2^64.
+/// Returns the value of digits in a base of 1 to 36, or `None` if it is above 2^64-1.
 fn value_in(digits: &[u8], base: u64) -> Option<u64>
     requires positive { 1 ≤ base }
     requires small { base ≤ 36 }
@@ -81,6 +82,7 @@ fn value_in(digits: &[u8], base: u64) -> Option<u64>
         (λ value. value ≡ digits_value base digits.now) }
 {
     let mut value: u64 = 0;
+    // A further digit never makes the value less, so once it is too large it stays so.
     for digit in digits {
         value = value
             .checked_mul(base)?
@@ -98,6 +100,7 @@ fn value_of_digit(byte: u8) -> u64
         b'0'..=b'9' => (byte - b'0') as u64,
         b'A'..=b'Z' => (byte - b'A' + 10) as u64,
         b'a'..=b'z' => (byte - b'a' + 10) as u64,
+        // No digit of any base up to 36. The digits whose value is asked for have no such byte.
         _ => 36,
     }
 }

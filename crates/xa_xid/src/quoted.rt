@@ -6,7 +6,7 @@ ghost use Rattle.xa_xid.specs.Quoted.{read_in_quotes, escaped};
 use crate::byte_class::text_from;
 use crate::{Bytes, LiteralFault};
 
-/// What the bytes before the next one are.
+/// What was read last between the quotes, by which the next byte is taken.
 #[derive(Clone, Copy, Drop)]
 pub enum Mode {
     /// Anything that is complete.
@@ -34,7 +34,7 @@ impl Kept {
         }
     }
 
-    /// Adds one byte.
+    /// Adds one byte. From the 65th on, no bytes are kept any more.
     fn add(&mut self, byte: u8)
         ensures { (xs : List ℕ) → self.old.bytes ≡ kept xs → self.new.bytes ≡ kept (xs ++ byte ∷ []) }
     {
@@ -47,7 +47,7 @@ impl Kept {
         }
     }
 
-    /// Returns the bytes, with the text after the literal.
+    /// Returns the bytes, with `rest`, the text after the literal; or `TooLong` if there were more than 64.
     fn end(self, rest: &[u8]) -> Result<(Bytes, &[u8]), LiteralFault>
         ensures value { MatchResult result
             (λ found. sized self.bytes rest.now ≡ Ok (found.0, found.1.now))
@@ -72,6 +72,7 @@ impl Kept {
             b'r' => self.add(b'\r'),
             b't' => self.add(b'\t'),
             b'Z' => self.add(26),
+            // As in MySQL, a backslash before `%` or `_` stays.
             b'%' => {
                 self.add(b'\\');
                 self.add(b'%');
@@ -80,6 +81,7 @@ impl Kept {
                 self.add(b'\\');
                 self.add(b'_');
             }
+            // Any other byte stands for itself, so a quote and a backslash can be written.
             other => self.add(other),
         }
     }
@@ -88,7 +90,8 @@ impl Kept {
 /// Reads a text literal whose opening quote comes before `body`; returns its bytes and the text after its
 /// closing quote.
 ///
-/// It reads on after 64 bytes, since a missing quote is reported before the length. Takes no memory.
+/// Errors: `Unclosed`, or `TooLong` for more than 64 bytes. It reads on after 64 bytes, since a missing quote
+/// is reported before the length. Takes no memory.
 pub fn text_literal(quote: u8, body: &[u8]) -> Result<(Bytes, &[u8]), LiteralFault>
     ensures value { MatchResult result
         (λ found. text_literal_of (read_in_quotes quote Mode.Plain body.now) ≡ Ok (found.0, found.1.now))
@@ -113,6 +116,7 @@ pub fn text_literal(quote: u8, body: &[u8]) -> Result<(Bytes, &[u8]), LiteralFau
                 mode = Mode::Plain;
             }
             Mode::Quote => {
+                // The quote before another byte closed the literal; two quotes stand for one.
                 if *byte != quote {
                     return kept.end(text_from(body, i));
                 }

@@ -48,7 +48,8 @@ pub fn read_xid(text: &[u8], at: usize) -> Result<(Xid, usize), (LiteralFault, u
     }
 }
 
-/// Reads an xid from its gtrid on. Without more the bqual is empty, and the formatID 1.
+/// Reads an xid from its gtrid on, and returns it with the text after it. If no comma follows the gtrid, the bqual is
+/// empty and the formatID 1. After a fault it returns the text from the faulty token on.
 fn read_gtrid(text: &[u8]) -> Parse<'_>
     ensures value { MatchResult result
         (λ found. gtrid_next text.now ≡ Ok (found.0, found.1.now))
@@ -73,7 +74,8 @@ fn read_gtrid(text: &[u8]) -> Parse<'_>
     }
 }
 
-/// Reads on from the bqual. Without more the formatID is 1.
+/// Reads the bqual and what follows of an xid with this gtrid; returns the xid with the text after it. If no comma
+/// follows the bqual, the formatID is 1. After a fault it returns the text from the faulty token on.
 fn read_bqual(gtrid: Bytes, text: &[u8]) -> Parse<'_>
     ensures value { MatchResult result
         (λ found. bqual_next gtrid text.now ≡ Ok (found.0, found.1.now))
@@ -98,7 +100,8 @@ fn read_bqual(gtrid: Bytes, text: &[u8]) -> Parse<'_>
     }
 }
 
-/// Reads the formatID, with which an xid ends.
+/// Reads the formatID, with which an xid of this gtrid and bqual ends; returns the xid with the text after it, or a
+/// fault with the text that should begin with the number.
 fn read_format_id(gtrid: Bytes, bqual: Bytes, text: &[u8]) -> Parse<'_>
     ensures value { MatchResult result
         (λ found. format_id_next gtrid bqual text.now ≡ Ok (found.0, found.1.now))
@@ -120,7 +123,7 @@ fn read_format_id(gtrid: Bytes, bqual: Bytes, text: &[u8]) -> Parse<'_>
     }
 }
 
-/// Returns the text after a comma, if the next token is one.
+/// Returns the text after a comma, if the next token is one, and else None.
 fn after_comma(text: &[u8]) -> Option<&[u8]>
     ensures value { option_copied result ≡ comma_next (unblank text.now) }
     ensures within { IfSome result (λ next. length next.now ≤ length text.now) }
@@ -184,6 +187,7 @@ fn small_digits(bytes: &[u8]) -> ArrayVec<u8, 128>
     requires { length bytes.now ≤ text_bytes }
     ensures { result.items ≡ encode_lower bytes.now }
 {
+    // Two digits for each of at most 64 bytes.
     let mut digits = ArrayVec::from([0; 128]);
     digits.truncate(2 * bytes.len());
     // It fails only if the lengths don't fit, and they do.

@@ -1,4 +1,4 @@
-//! The steps that split and join seats, and the step of two passes that meet. They leave the counts.
+//! The steps that split and join seats, and the step of two passes that meet. They leave the passes' counts.
 ghost use Rattle.std.specs.Prelude.{◌≡◌, ◌<◌, ◌≤◌, List, length};
 ghost use Rattle.xa_words.specs.Entry.{Entry};
 ghost use Rattle.decision_log.specs.AtTable.{KeepsSeats, KnowsNone, KnowsOne, KnowsTwo, KnowsRest};
@@ -12,7 +12,7 @@ use atomic_table::Seat;
 use xa_words::Entry;
 
 impl<R: LogWords> LogTable<R> {
-    /// Splits a seat into itself and one that knows nothing.
+    /// Splits a seat with one pass into itself and a seat that knows no pass, which it returns.
     ///
     /// Takes no memory. Doesn't wait.
     pub fn split_empty(&self, seat: &mut Seat<Entry, SeatView>) -> Seat<Entry, SeatView>
@@ -26,7 +26,7 @@ impl<R: LogWords> LogTable<R> {
         self.inner.shared.split_seat::<Seating>(seat)
     }
 
-    /// Takes over the pass of another seat.
+    /// Joins two seats with a pass each. The first then knows both passes, and the other seat is used up.
     ///
     /// Takes no memory. Doesn't wait.
     pub fn join(&self, seat: &mut Seat<Entry, SeatView>, other: Seat<Entry, SeatView>)
@@ -41,7 +41,8 @@ impl<R: LogWords> LogTable<R> {
         self.inner.shared.join_seat::<Seating>(seat, other);
     }
 
-    /// Loads word 0 at a seat with two passes. The second has then seen all that the first has.
+    /// Loads word 0 at a seat with two passes, and returns it. The first pass stays as it was. The second has
+    /// then seen all that the first has. If it had seen less, the word is `newest` of what it has seen now.
     ///
     /// Takes no memory. Doesn't wait.
     pub fn load_for_pair(&self, seat: &mut Seat<Entry, SeatView>) -> u64
@@ -74,7 +75,7 @@ impl<R: LogWords> LogTable<R> {
         self.inner.shared.split_seat::<Seating>(seat)
     }
 
-    /// Issues the next pass.
+    /// Issues the next pass: splits its seat off from the seat that knows the passes not yet issued, and returns it.
     ///
     /// Takes no memory. Doesn't wait.
     pub fn issue(&self, seat: &mut Seat<Entry, SeatView>) -> Seat<Entry, SeatView>
@@ -90,7 +91,8 @@ impl<R: LogWords> LogTable<R> {
         self.inner.shared.split_seat::<Seating>(seat)
     }
 
-    /// Lets two passes meet, and returns word 0. The second has then seen all that the first has.
+    /// Lets two passes meet, and returns word 0. The first pass stays as it was. The second has then seen all
+    /// that the first has. If it had seen less, the word is `newest` of what it has seen now.
     ///
     /// Takes no memory. Doesn't wait.
     pub fn meet(&self, first: &mut Seat<Entry, SeatView>, second: &mut Seat<Entry, SeatView>) -> u64
@@ -106,6 +108,8 @@ impl<R: LogWords> LogTable<R> {
             → result ≡ R.newest (met (pass_view second.old) seen))
             × MetAt (pass_view first.old) (pass_view second.old) seen }
     {
+        // Word 0 is loaded at one seat that knows both passes. While the second pass is there, an empty seat stands in
+        // for its own.
         let empty = self.split_empty(first);
         let other = std::mem::replace(second, empty);
         self.join(first, other);

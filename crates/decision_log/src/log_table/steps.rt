@@ -1,4 +1,4 @@
-//! The steps of one pass.
+//! The steps of one pass: a load, a store and exchanges. The transition `M` says what the pass learns by the step.
 ghost use Rattle.std.specs.Prelude.{◌≡◌, ◌<◌, ◌==◌};
 ghost use mathlib.Core.Option.{none, some};
 ghost use prog.Atomic.{either};
@@ -13,7 +13,7 @@ use atomic_table::Seat;
 use xa_words::Entry;
 
 impl<R: LogWords> LogTable<R> {
-    /// Loads a word.
+    /// Loads a word at the seat of one pass, and returns it. `M` says what the pass learns.
     ///
     /// Takes no memory. Doesn't wait.
     pub fn load<M: LogTransition<R>>(&self, seat: &mut Seat<Entry, SeatView>, word: usize) -> u64
@@ -35,7 +35,7 @@ impl<R: LogWords> LogTable<R> {
         self.inner.shared.load::<Loaded<R, M>>(seat, word)
     }
 
-    /// Stores a word.
+    /// Stores `new` into a word at the seat of one pass. `M` says what the pass learns.
     ///
     /// Takes no memory. Doesn't wait.
     pub fn store<M: LogTransition<R>>(
@@ -60,7 +60,7 @@ impl<R: LogWords> LogTable<R> {
         self.inner.shared.store::<Stored<R, M>>(seat, word, new)
     }
 
-    /// Makes a word `new` if it is `old`. Returns what it was.
+    /// Makes a word `new` if it is `old`. Returns what it was: the exchange is won if that is `old`.
     ///
     /// Takes no memory. Doesn't wait.
     pub fn compare_exchange<M: LogTransition<R>>(
@@ -89,7 +89,8 @@ impl<R: LogWords> LogTable<R> {
             .compare_exchange::<Exchanged<R, M>>(seat, word, old, new)
     }
 
-    /// Compares and exchanges a word, and names the entry that is announced by it, for the proof only.
+    /// Exchanges a word as `compare_exchange` does. It also names the entry `said` that is announced by the exchange,
+    /// for the proof only.
     ///
     /// Takes no memory. Doesn't wait.
     pub fn compare_exchange_with<M: LogTransition<R>>(

@@ -76,7 +76,8 @@ impl DecisionLog for TurnLog {
 
     fn meet(&self, first: &mut TurnPass, second: &mut TurnPass) {
         let count = self.table.meet(&mut first.seat, &mut second.seat);
-        // Else the second has seen as much already. The count was loaded at a seat that knows both.
+        // The count was loaded at a seat that knows both passes. If the second had seen less, it has now seen as many
+        // entries as the count says. Else it stays as it is.
         if second.front < first.front {
             second.front = count;
         }

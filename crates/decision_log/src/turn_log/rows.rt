@@ -14,7 +14,7 @@ use atomic_table::Seat;
 use xa_words::{Entry, WORDS, encode, read_back};
 
 impl TurnLog {
-    /// Loads the words of the row of an entry that was seen.
+    /// Loads the words of the row of the entry at `place`, which was seen.
     fn read_row(&self, seat: &mut Seat<Entry, SeatView>, place: u64) -> [u64; WORDS]
         requires seat { IsSeat self.now seat.old }
         requires seen { place < length (pass_view seat.old).known.seen }
@@ -33,7 +33,7 @@ impl TurnLog {
         words
     }
 
-    /// Reads an entry that was seen.
+    /// Reads the entry at `place`, which was seen.
     pub(super) fn read_entry(&self, seat: &mut Seat<Entry, SeatView>, place: u64) -> Entry
         requires seat { IsSeat self.now seat.old }
         requires seen { place < length (pass_view seat.old).known.seen }
@@ -47,7 +47,7 @@ impl TurnLog {
         read_back(&words).unwrap()
     }
 
-    /// Stores an entry's words into the row at the count.
+    /// Stores an entry's words into the row at the count, which is `place`: the row after all that the pass has seen.
     pub(super) fn write_entry(&self, seat: &mut Seat<Entry, SeatView>, place: u64, entry: &Entry)
         requires seat { IsSeat self.now seat.old }
         requires fresh { (pass_view seat.old).turn ≡ Fresh }
@@ -58,6 +58,8 @@ impl TurnLog {
         ensures seat { IsSeat self.now seat.new }
         ensures written { pass_view seat.new ≡ with_draft (pass_view seat.old) (words_of entry.now) }
     {
+        // No pass reads this row before the count is one higher (`store_count`), so the order of these stores doesn't
+        // matter.
         let words = encode(entry);
         let row = ROWS + place as usize * WORDS;
         for index in 0..WORDS {

@@ -105,6 +105,7 @@ impl TurnLog {
         ensures seat { IsSeat self.now seat.new }
         ensures added { pass_view seat.new ≡ published (pass_view seat.old) entry.now }
     {
+        // The proof needs `IsEntry` of the entry, which the contract of this call gives.
         let _session = entry.session();
         // The pass still has the turn, so the count is still what it has seen, and the row's words are its own.
         self.table.store::<Publish>(seat, COUNT, new)
