@@ -15,14 +15,14 @@ use Rattle.chain_log.specs.Chain.{Walk, Chain}
 use Rattle.chain_log.specs.ChainRule.{ChainRule}
 use Rattle.chain_log.proofs.Names.{name_zero, name_next, name_low}
 
--- words that stand in a row: the first stands at the place itself
+-- if words stand in a row from a place on, the first stands at the place itself
 holds_first : (words : List ℕ) (at word : ℕ) (rest : List ℕ) → HasWordsAt words at (word ∷ rest)
     → slice_index words at ≡ word
 holds_first words at word rest holds =
     let here : at ≡ at + 0 = omega arith in
     ap (λ n. get_or words n 0) here ∙ holds 0 (omega arith)
 
--- words that stand in a row: those after the first stand a place further
+-- if words stand in a row from a place on, those after the first stand in a row from the next place on
 holds_rest : (words : List ℕ) (at word : ℕ) (rest : List ℕ) → HasWordsAt words at (word ∷ rest)
     → HasWordsAt words (at + 1) rest
 holds_rest words at word rest holds i below =

@@ -9,7 +9,7 @@ use Rattle.decision_log.specs.Known.{newcomer}
 some_injective : {A : Type 0} (a b : A) → Some a ≡ Some b → a ≡ b
 some_injective a b is = cc
 
--- the elements of a longer list: an old one, or the last
+-- an element of a list with one more at its end is one of the list, at its old place, or the last
 get_last : {A : Type 0} (xs : List A) (last : A) (place : ℕ) (one : A)
     → slice_get (xs ++ last ∷ []) place ≡ Some one
     → (slice_get xs place ≡ Some one) ⊎ ((place ≡ length xs) × (last ≡ one))

@@ -1,4 +1,4 @@
--- Names that a pass of the log computes are those of the log's cells.
+-- Names that a pass of a chain computes are those of the chain's cells.
 -- Here `h` is a pass's view: what a seat of the log knows of that pass.
 use Rattle.std.proofs.Common.{◌≡◌, ℕ, ◌+◌, ◌<◌, length, subst, arith}
 use Rattle.decision_log.specs.declared.view.PassView.{PassView}

@@ -1,4 +1,4 @@
--- The table of a pass, where a step has seen more or has added an entry.
+-- The table of a pass of a chain, where a step has seen more or has added an entry.
 -- Here `h` is a pass's view: what a seat of the log knows of that pass.
 use Rattle.std.proofs.Common.{◌≡◌, ℕ, ◌<◌, ◌≤◌, List, length, set, ap, sym, ◌∙◌, subst, arith}
 use mathlib.Core.Logic.{dite}

@@ -1,4 +1,4 @@
--- What a pass keeps beside its seat, where a step has seen more or has added an entry.
+-- What a pass of a ring keeps beside its seat, where a step has seen more or has added an entry.
 -- Here `h` is a pass's view: what a seat of the log knows of that pass.
 use Rattle.std.proofs.Common.{◌≡◌, ℕ, ◌%◌, List, [], ◌∷◌, ◌++◌, length, set, ap, sym, ◌∙◌, subst, arith}
 use mathlib.Core.Logic.{dite}

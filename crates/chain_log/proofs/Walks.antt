@@ -1,4 +1,4 @@
--- Names, columns and cells that a pass of the log computes on its way back along the links.
+-- Names, columns and cells that a pass of a ring computes on its way back along the links.
 -- Here `h` is a pass's view: what a seat of the log knows of that pass.
 use Rattle.std.proofs.Common.{◌≡◌, ℕ, ◌+◌, ◌-◌, ◌<◌, ◌≤◌, length, refl, ap, sym, ◌∙◌, arith}
 use Rattle.decision_log.specs.declared.view.PassView.{PassView}

@@ -111,7 +111,7 @@ missed start found name place entry h k checks is other =
     subst (λ v. place + rows_of h.capacity ≤ least v) (sym checks.2)
     (checks.3 place entry is.seen is.cell (λ same. other (same ∙ sym is.name_is)))
 
--- the cell has the name that is looked for: the pass reads that cell from now on
+-- if the cell has the name that is looked for, the pass reads that cell from now on
 pub watched : (start found name place : ℕ) (entry : Entry) (h k : PassView) → Checks start h found k
     → IsLookedFor start name place entry h → found ≡ name
     → ReadsCell start place entry k × (k.turn ≡ Won)

@@ -8,15 +8,15 @@
 use Rattle.std.specs.Prelude.{ℕ, zero, suc, ◌+◌, ◌-◌, ◌*◌, List, [], ◌∷◌, length}
 use Rattle.xa_words.specs.Entry.{Entry}
 
--- the newest cell's name, and 22 words for each session in each row
+-- how many words a log has: the newest cell's name, and 22 for each session in each row
 abbrev pub word_count : ℕ → ℕ → ℕ
 word_count sessions capacity = 1 + capacity * sessions * 22
 
--- the name of a session's cell in a row; cells are numbered row by row, session by session
+-- the name of a session's cell in a row; cells are numbered from 1 on, row by row, session by session
 abbrev pub name_at : ℕ → ℕ → ℕ → ℕ
 name_at sessions row session = row * sessions + session
 
--- the first word of a cell, which is its link
+-- the first word of the cell of a name; it is the cell's link, the name of the cell of the entry before
 abbrev pub cell_at : ℕ → ℕ
 cell_at name = 1 + (name - 1) * 22
 
@@ -26,7 +26,7 @@ session_at [] row = 0
 session_at (entry ∷ log) zero = entry.session
 session_at (entry ∷ log) (suc row) = session_at log row
 
--- the name of the cell of the row before, in the column of its entry's session; 0 in row 0
+-- the name of the cell of the entry in the row before; 0 in row 0, which has none before it
 unfoldable pub name_before : ℕ → List Entry → ℕ → ℕ
 name_before sessions log zero = 0
 name_before sessions log (suc row) = name_at sessions row (session_at log row)

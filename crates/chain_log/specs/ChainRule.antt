@@ -16,7 +16,7 @@ use Rattle.decision_log.specs.Draft.{HasWordsAt}
 use Rattle.decision_log.specs.LogRule.{KnowsLog, LogRule}
 use Rattle.chain_log.specs.Cells.{word_count, name_at, cell_at, name_before, newest_of}
 
--- the pass's own cell, which it fills: in its own column, in the row after all that it has seen
+-- the first word of the pass's own cell, which it fills: in its own column, in the row after all that it has seen
 abbrev pub own_cell : PassView → ℕ
 own_cell pass_view = cell_at (name_at pass_view.sessions (length pass_view.known.seen) pass_view.known.number)
 

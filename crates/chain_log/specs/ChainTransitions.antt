@@ -13,7 +13,7 @@ use Rattle.decision_log.specs.Observed.{HistoryIs}
 use Rattle.chain_log.specs.Cells.{name_at, cell_at, name_before, newest_of}
 use Rattle.chain_log.specs.ChainRule.{own_cell, try_word, newest_for}
 
--- the pass after a look that saw this history: its own cell is another one now, and its draft is empty
+-- the pass after a look that saw this history: its own cell may be another one now, so its draft is empty
 abbrev pub with_look : PassView → List Entry → PassView
 with_look h seen = record {
   known =
@@ -32,7 +32,7 @@ with_look h seen = record {
   turn = h.turn;
 }
 
--- the pass after an exchange that won: its entry is appended
+-- the pass after an exchange that won: its entry is appended and seen; one more try, no look since, and no draft
 abbrev pub won : PassView → Entry → PassView
 won h entry = record {
   known =
@@ -50,7 +50,7 @@ won h entry = record {
   turn = h.turn;
 }
 
--- the pass after an exchange that lost: it has seen this history
+-- the pass after an exchange that lost: one more try, no look since, no draft, and this history seen
 abbrev pub lost : PassView → List Entry → PassView
 lost h seen = record {
   known = record {
@@ -68,13 +68,14 @@ lost h seen = record {
   turn = h.turn;
 }
 
--- a load of word 0, the newest cell's name
+-- a load of word 0, which finds the newest cell's name: the pass has looked, and sees the history up to that cell
 abbrev pub Sees : ℕ → PassView → ℕ → PassView → Type 0
 Sees word old found new =
     (word ≡ 0) × (seen : List Entry) × (new ≡ with_look old seen) × (found ≡ newest_of old.sessions seen)
     × HistoryIs old seen
 
--- a load of a word of a cell; one of the cell of an entry that was seen is its link or one of the entry's words
+-- a load of a word after word 0, which changes nothing: in the cell of an entry that the pass has seen, it finds the
+-- cell's link or the entry's word
 abbrev pub Reads : ℕ → PassView → ℕ → PassView → Type 0
 Reads word old found new =
     (word ≢ 0) × (new ≡ old)
@@ -82,12 +83,13 @@ Reads word old found new =
     → slice_get old.known.seen row ≡ Some entry
     → IsEntry entry × (found ≡ slice_index (name_before old.sessions old.known.seen row ∷ words_of entry) index))
 
--- a load of a word of the own cell: a 0 that it finds is the draft's next word, without a store
+-- a load of a word of the own cell: a 0 that it finds becomes the draft's word there, as after a store, so no store is
+-- needed; any other value changes nothing
 abbrev pub Finds : ℕ → PassView → ℕ → PassView → Type 0
 Finds word old found new =
     (word ≢ 0) × (found ≡ 0 → new ≡ drafted old (word - own_cell old) 0) × (found ≢ 0 → new ≡ old)
 
--- a store of a word into the own cell
+-- a store of a word into the own cell: the draft is cut at the word's place there, and ends with it
 abbrev pub Drafts : ℕ → ℕ → PassView → ℕ → PassView → Type 0
 Drafts word value old found new = new ≡ drafted old (word - own_cell old) value
 

@@ -12,7 +12,7 @@ use Rattle.xa_words.specs.Entry.{Entry}
 use Rattle.xa_words.specs.Words.{words_of}
 use Rattle.chain_log.specs.Cells.{name_at, name_before}
 
--- 2 ^ 59, so that all names are numbers of 64 bits
+-- how many entries a ring can have in addition to its rows: 2 ^ 59, so that all names are numbers of 64 bits
 abbrev pub most : ℕ
 most = 576460752303423488
 
@@ -20,7 +20,7 @@ most = 576460752303423488
 unfoldable pub rows_of : ℕ → ℕ
 rows_of capacity = capacity - most
 
--- the newest entry's name, and 23 words for each cell
+-- how many words a ring has: the newest entry's name, and 23 for each cell, of which each session has one in each row
 abbrev pub word_count : ℕ → ℕ → ℕ
 word_count sessions rows = 1 + rows * sessions * 23
 
@@ -28,12 +28,14 @@ word_count sessions rows = 1 + rows * sessions * 23
 abbrev pub cell_at : ℕ → ℕ
 cell_at cell = 1 + (cell - 1) * 23
 
--- a place of the history is in the row of its number, if rows are counted round and round; the cells of a column lie
--- side by side, so that the next entry of a session that adds alone is beside its last one
+-- the first word of the cell of a place of the history and a session: in the session's column, in row number
+-- `place % rows`; the cells of a column lie side by side, so that the next entry of a session that adds alone is beside
+-- its last one
 abbrev pub cell_of : ℕ → ℕ → ℕ → ℕ
 cell_of capacity place session = cell_at (name_at (rows_of capacity) (session - 1) (place % rows_of capacity + 1))
 
--- the entry's own name, its link, which is the name of the entry before it, and the entry
+-- the 23 words of a cell: the entry's own name, its link, which is the name of the entry before it, and the entry's
+-- words
 abbrev pub cell_words : ℕ → List Entry → ℕ → Entry → List ℕ
 cell_words sessions log place entry =
     name_at sessions place entry.session ∷ name_before sessions log place ∷ words_of entry

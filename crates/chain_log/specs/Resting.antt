@@ -7,7 +7,7 @@ use Rattle.decision_log.specs.Seats.{pass_view_of}
 use Rattle.chain_log.specs.declared.resting.RestingPass.{RestingPass}
 use Rattle.chain_log.specs.declared.resting.RestingSpare.{RestingSpare}
 
--- the table of the seat that rests, and the sizes that it was given
+-- of which log a pass at rest is: the table of its seat, and the log's sizes, as the seat knew them
 abbrev pub resting_log_of : RestingPass → LogIdentity
 resting_log_of pass =
     record {
@@ -16,11 +16,11 @@ resting_log_of pass =
       capacity = (pass_view_of pass.perch.view).capacity;
     }
 
--- what a pass at rest knows of the ring, by what its seat knew
+-- what a pass at rest knows of the ring, as its seat knew it when it was put to rest
 abbrev pub resting_known_of : RestingPass → Known
 resting_known_of pass = (pass_view_of pass.perch.view).known
 
--- the table of the seat that rests, and the sizes that it was given
+-- of which log a spare at rest is: the table of its seat, and the log's sizes, as the seat knew them
 abbrev pub resting_spare_log_of : RestingSpare → LogIdentity
 resting_spare_log_of spare =
     record {
@@ -29,6 +29,6 @@ resting_spare_log_of spare =
       capacity = (pass_view_of spare.perch.view).capacity;
     }
 
--- what a spare at rest knows of the ring, by what its seat knew
+-- what a spare at rest knows of the ring, as its seat knew it when it was put to rest
 abbrev pub resting_spare_known_of : RestingSpare → Known
 resting_spare_known_of spare = (pass_view_of spare.perch.view).known

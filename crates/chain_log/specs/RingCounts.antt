@@ -1,4 +1,4 @@
--- Each step of a ring raises the counts of its pass as it should.
+-- Each step of a ring raises the counts of its pass (`looks`, `tries` and `since`) as `Counts` of decision_log says.
 --     see_counts, check_counts, read_counts, find_counts, draft_counts, exchange_counts     the laws of the transitions
 use Rattle.std.specs.Prelude.{ℕ}
 use Rattle.std.proofs.Common.{ap, ◌∙◌, sym, inl, inr}
@@ -12,7 +12,7 @@ use Rattle.decision_log.specs.Counted.{IsCounted, leaves_counts, counts_at_load,
 use Rattle.chain_log.specs.RingRule.{try_word, newest_for}
 use Rattle.chain_log.specs.RingTransitions.{Sees, Checks, Reads, Finds, Drafts, Exchanges}
 
--- the load that sees the newest entry is a look, and counts as one
+-- `Sees`, the load of the newest entry's name, is a look, and raises the counts as a look does
 pub see_counts : IsCounted newest_for try_word (AtLoad Sees)
 see_counts =
     counts_at_load Sees
@@ -22,7 +22,7 @@ see_counts =
       since = ((λ _. ap (λ h. h.known.since) is.2), (λ never. absurd never), (λ other _. absurd (other is.0)));
     })
 
--- the load of the name in a cell is no look and no try
+-- `Checks`, the load of the name in a cell, is no look and no try, and leaves the counts
 pub check_counts : IsCounted newest_for try_word (AtLoad Checks)
 check_counts =
     counts_at_load Checks
@@ -30,7 +30,7 @@ check_counts =
     (ap (λ h. h.known.tries) is.2) (ap (λ h. h.known.since) is.2) is.0
     (λ never. never))
 
--- the load of a cell's word is no look and no try
+-- `Reads`, the load of a cell's word, is no look and no try, and leaves the counts
 pub read_counts : IsCounted newest_for try_word (AtLoad Reads)
 read_counts =
     counts_at_load Reads
@@ -38,7 +38,7 @@ read_counts =
     (ap (λ k. k.tries) is.1.known) (ap (λ k. k.since) is.1.known) is.0
     (λ never. never))
 
--- the load of a word of the own cell is no look and no try
+-- `Finds`, the load of a word of the own cell, is no look and no try, and leaves the counts
 pub find_counts : IsCounted newest_for try_word (AtLoad Finds)
 find_counts =
     counts_at_load Finds
@@ -46,14 +46,14 @@ find_counts =
     (ap (λ h. h.known.tries) is.1) (ap (λ h. h.known.since) is.1) is.0
     (λ never. never))
 
--- storing a word of a cell that isn't published yet leaves the counts
+-- `Drafts`, a store into a cell that isn't published yet, leaves the counts: a store neither looks nor tries
 pub draft_counts : IsCounted newest_for try_word (AtStore Drafts)
 draft_counts =
     counts_at_store Drafts
     (λ word value old found new is.
     (ap (λ h. h.known.looks) is, ap (λ h. h.known.tries) is, ap (λ h. h.known.since) is))
 
--- the exchange of the newest entry's name is a try, won or lost
+-- `Exchanges`, the exchange of the newest entry's name, is a try, won or lost, and raises the counts as a try does
 pub exchange_counts : IsCounted newest_for try_word (AtExchange Exchanges)
 exchange_counts = counts_at_exchange Exchanges counted
   where

@@ -38,7 +38,8 @@ pub record OpensSpares (sessions count : ℕ) (identity : LogIdentity) (spares :
   pub numbers : (index : ℕ) (spare : RingSpare) → slice_get spares index ≡ Some spare
       → spare_known_of spare ≡ newcomer (sessions + index + 1)
 
--- a log of so many rows, sessions and spares, with its passes and its spares
+-- a log of so many rows, sessions and spares, all in range, with its passes and its spares; its columns are one for
+-- each session and each spare
 pub record OpensRing (rows sessions spares : ℕ) (log : RingLog) (passes : List RingPass)
     (spare_list : List RingSpare) : Type 0 where
   pub rows_are : log.rows ≡ rows
@@ -50,7 +51,8 @@ pub record OpensRing (rows sessions spares : ℕ) (log : RingLog) (passes : List
   pub passes_are : OpensPasses sessions (identity_of log) passes
   pub spares_are : OpensSpares sessions spares (identity_of log) spare_list
 
--- why a ring of these sizes isn't opened, in the order of test
+-- why a ring of these sizes isn't opened, in the order of test: a number is out of range only if those tested before it
+-- aren't; no memory is the reason only if all are in range
 abbrev pub Refuses : ℕ → ℕ → ℕ → RingFault → Type 0
 Refuses rows sessions spares RowsOutOfRange = AreRows rows → ⊥
 Refuses rows sessions spares SessionsOutOfRange = AreRows rows × (IsCount sessions → ⊥)

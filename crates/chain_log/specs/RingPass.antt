@@ -15,7 +15,7 @@ use Rattle.chain_log.specs.RingRule.{least}
 abbrev pub identity_of : RingLog → LogIdentity
 identity_of log = record { table = log.table.inner.shared.table_id; sessions = log.columns; capacity = log.capacity }
 
--- the table of its seat, and the sizes that it was given
+-- of which log the pass is: the table of its seat, and the log's sizes, as the seat knows them
 abbrev pub log_of : RingPass → LogIdentity
 log_of pass =
     record {

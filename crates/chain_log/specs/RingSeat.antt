@@ -1,9 +1,9 @@
 -- A seat at a ring.
 --     IsSeat          it is a seat of this log, and knows one pass
---     IsStart         a cell of this log begins at a word
+--     IsStart         as many words as a cell has, from a word on, are words of this log after word 0
 --     IsOurs          the pass has this log's sizes, one of its numbers, and has seen no more than the log can have
 --     KeepsPass       a call leaves what the pass knows of the history
---     ReadsCell       the pass reads the cell of an entry that it has seen
+--     ReadsCell       what the pass keeps of its reading is of the cell of an entry that it has seen
 -- Here `h` is a pass's view: what a seat of the log knows of that pass.
 use Rattle.std.specs.Prelude.{◌≡◌, ◌<◌, ◌≤◌, ◌+◌, ℕ, length, slice_get, Some}
 use Rattle.atomic_table.specs.declared.shared.Seat.{Seat}
@@ -42,7 +42,8 @@ pub record KeepsPass (old new : PassView) : Type 0 where
   pub sessions : new.sessions ≡ old.sessions
   pub capacity : new.capacity ≡ old.capacity
 
--- the pass has seen this entry at this place, and has found the entry's name in its cell, which begins at `start`
+-- the pass has seen this entry at this place, and its notes say that it found the entry's name in the entry's cell,
+-- which begins at `start`
 pub record ReadsCell (start place : ℕ) (entry : Entry) (h : PassView) : Type 0 where
   pub seen : slice_get h.known.seen place ≡ Some entry
   pub cell : start ≡ cell_of h.capacity place entry.session

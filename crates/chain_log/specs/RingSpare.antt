@@ -6,7 +6,7 @@ use Rattle.decision_log.specs.Known.{LogIdentity}
 use Rattle.decision_log.specs.Seats.{pass_view_of}
 use Rattle.chain_log.specs.declared.spare.RingSpare.{RingSpare}
 
--- the table of its seat, and the sizes that it was given
+-- of which log the spare is: the table of its seat, and the log's sizes, as the seat knows them
 abbrev pub spare_log_of : RingSpare → LogIdentity
 spare_log_of spare =
     record {

@@ -17,7 +17,7 @@ use Rattle.chain_log.specs.Cells.{name_at, newest_of}
 use Rattle.chain_log.specs.Places.{rows_of, cell_of, cell_words}
 use Rattle.chain_log.specs.RingRule.{own_name, own_cell, try_word, newest_for, watched_word, watched_name, least}
 
--- the pass after a look that saw this history: its own cell is another now, and its draft is empty
+-- the pass after a look that saw this history: its own cell may be another one now, so its draft is empty
 abbrev pub with_look : PassView → List Entry → PassView
 with_look h seen = record {
   known =
@@ -36,7 +36,7 @@ with_look h seen = record {
   turn = Without;
 }
 
--- the pass after an exchange that won: its entry is appended
+-- the pass after an exchange that won: its entry is appended and seen; one more try, no look since, and no draft
 abbrev pub won : PassView → Entry → PassView
 won h entry = record {
   known =
@@ -77,11 +77,13 @@ abbrev pub with_words : PassView → List ℕ → PassView
 with_words h words =
     record { known = h.known; sessions = h.sessions; capacity = h.capacity; draft = words; turn = Without }
 
--- the pass after a store of a word of its draft, which forgets what was stored after it
+-- the pass after a store of the word of this index in its own cell: its draft is what was stored before that word, and
+-- the word
 abbrev pub stored : PassView → ℕ → ℕ → PassView
 stored h index word = with_words h (take index h.draft ++ word ∷ [])
 
--- the pass after it found a name in a cell's first word, when the history had so many entries more than it has seen
+-- the pass after it found `name` in a cell's first word, `word`, when the history had `more` entries beyond those that
+-- the pass has seen; it keeps the three in place of a draft
 abbrev pub noted : PassView → ℕ → ℕ → ℕ → Turn → PassView
 noted h word name more turn =
     record {
@@ -104,16 +106,19 @@ pub record KeepsWatch (old new : PassView) : Type 0 where
   pub reads : old.turn ≢ Without → new.turn ≢ Without
   pub whole : new.turn ≡ Won → old.turn ≡ Won
 
--- a load of word 0, the newest entry's name
+-- a load of word 0, which finds the newest entry's name: the pass has looked, and sees the history up to that entry, no
+-- shorter than the pass knew it to be (`least`)
 abbrev pub Sees : ℕ → PassView → ℕ → PassView → Type 0
 Sees word old found new =
     (word ≡ 0) × (seen : List Entry) × (new ≡ with_look old seen) × (found ≡ newest_of old.sessions seen)
     × HistoryIs old seen
     × (least old ≤ length seen)
 
--- a load of the first word of a cell. If it isn't the name of an entry that was seen, the history has at least as many
--- entries from that one's place on as there are rows. If it is, the words that were read since the pass found it there
--- before were the entry's
+-- a load of the first word of a cell: the pass notes the name that it found there, and how many entries beyond those
+-- seen the history has at least. Take any seen entry whose cell it is. If another name than the entry's is found, the
+-- history has at least as many entries from the entry's place on as there are rows. If the entry's is found, and the
+-- pass's last notes say that it was found before, the words read between were the entry's: the pass hadn't come to know
+-- that they are another's (`Fresh`)
 abbrev pub Checks : ℕ → PassView → ℕ → PassView → Type 0
 Checks word old found new =
     (word ≢ 0) × (more : ℕ) × (new ≡ noted old word found more Won)
@@ -138,16 +143,17 @@ Reads word old found new =
     → word ≡ watched_word old + index → index < 23
     → IsEntry entry × (found ≡ slice_index (cell_words old.sessions old.known.seen place entry) index))
 
--- a load of a word of the own cell: what it finds is the draft's next word, without a store
+-- a load of a word of the own cell: what it finds becomes the draft's word there, as after a store, so a word that is
+-- there already needs no store
 abbrev pub Finds : ℕ → PassView → ℕ → PassView → Type 0
 Finds word old found new = (word ≢ 0) × (new ≡ stored old (word - own_cell old) found)
 
--- a store of a word into the own cell
+-- a store of a word into the own cell: the draft is cut at the word's place there, and ends with it
 abbrev pub Drafts : ℕ → ℕ → PassView → ℕ → PassView → Type 0
 Drafts word value old found new = new ≡ stored old (word - own_cell old) value
 
 -- an exchange of word 0 from the last name that was seen to the own one, which is a try: the announced entry is added
--- only if that name was found, and else more was seen
+-- only if that name was found, and else the pass sees a longer history
 abbrev pub Exchanges : ℕ → ℕ → ℕ → Option Entry → PassView → ℕ → PassView → Type 0
 Exchanges word from to none old found new = ⊥
 Exchanges word from to (some entry) old found new =

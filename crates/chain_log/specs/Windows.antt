@@ -4,8 +4,8 @@ use Rattle.std.specs.Prelude.{◌≡◌, ◌<◌, ◌≤◌, ◌+◌, ◌%◌, �
 use Rattle.xa_words.specs.Entry.{Entry}
 use Rattle.chain_log.specs.Cells.{session_at}
 
--- of the places from `low` to `count` of a history, the table has the session of each that is among the last, as many
--- as there are rows
+-- the table has a byte for each row; for each place of a history from `low` on and before `count` that is among the
+-- last `rows` places, the byte of its row, number `place % rows`, is the session of the entry there
 pub record HasWindow (rows low count : ℕ) (history : List Entry) (columns : List ℕ) : Type 0 where
   pub sized : length columns ≡ rows
   pub filled : (place : ℕ) → low ≤ place → place < count → length history ≤ place + rows

@@ -47,6 +47,7 @@ impl DecisionLog for ChainLog {
         pass.count
     }
 
+    /// Sees the whole history, as it is when word 0 is loaded, and returns its length.
     fn look(&self, pass: &mut ChainPass) -> u64 {
         let first = pass.count;
         // The history as it is at this load is what the pass has seen afterwards.
@@ -59,11 +60,16 @@ impl DecisionLog for ChainLog {
         count
     }
 
+    /// Returns the entry at place `at`, which the pass has seen. Its cell is in the row of that number.
     fn entry(&self, pass: &mut ChainPass, at: u64) -> Entry {
         let name = self.find(pass, at);
         self.read_entry(&mut pass.seat, name, at)
     }
 
+    /// Appends an entry of the pass's own session, if the pass has seen the whole history.
+    ///
+    /// Errors, in this order: `Full` if the pass has seen as many entries as the log can have. `Overtaken` if the
+    /// history had more entries than the pass had seen; the pass has then seen more, `front` in all.
     fn try_add(&self, pass: &mut ChainPass, entry: &Entry) -> Result<(), AddFault>
         requires belongs { log_of pass.old ≡ identity_of self.now }
         requires own { entry.now.session ≡ (known_of pass.old).number }
@@ -93,16 +99,18 @@ impl DecisionLog for ChainLog {
             pass.count = front;
             return Err(AddFault::Overtaken { front });
         }
+        // The pass has now seen its own entry too. It was the only new one, so nothing else is to be filled in.
         pass.columns[row as usize] = pass.number.get() as u8;
         pass.newest = own;
         pass.count = row + 1;
         Ok(())
     }
 
+    /// Lets two passes meet: the second has then seen all that the first has. The first stays as it is.
     fn meet(&self, first: &mut ChainPass, second: &mut ChainPass) {
         let newest = self.table.meet(&mut first.seat, &mut second.seat);
         let first_unseen = second.count;
-        // Else the second has seen as much already, and stays as it is.
+        // Else the second has seen at least as much already, and stays as it is.
         if first_unseen < first.count {
             // `newest` was loaded at a seat that knows both passes, so what the second has seen ends there.
             let count = row_count(self.sessions, newest);

@@ -13,11 +13,11 @@ use decision_log::SeatView;
 use xa_words::{Entry, WORDS, encode, is_behind_text, read_back};
 
 impl ChainLog {
-    /// Returns the entry's word at `index` in the cell of an entry that was seen. `words` has the entry's words
-    /// before that one.
+    /// Returns the entry's word at `index` in the cell `name`, that of an entry that was seen. `words` has the entry's
+    /// words before that one.
     ///
-    /// A word after the end of its text isn't loaded: other sessions' cells are far, and most texts are
-    /// short.
+    /// For a word after the end of its text it returns 0 without a load: other sessions' cells are far, and most texts
+    /// are short.
     fn read_word(
         &self,
         seat: &mut Seat<Entry, SeatView>,
@@ -44,7 +44,8 @@ impl ChainLog {
         if is_behind_text(words, index) {
             return 0;
         }
-        // The cell isn't written between these loads, so the words are those of one entry.
+        // Word 0 of a cell is its link. The cell isn't written between the loads of its words, so all are of one
+        // entry.
         self.load_word(seat, name, 1 + index)
     }
 
@@ -63,13 +64,14 @@ impl ChainLog {
             → IsEntry entry × (result ≡ words_of entry) }
     {
         let mut words = [0; WORDS];
+        // In order, since the texts' lengths come before the texts, and say which words needn't be loaded.
         for index in 0..WORDS {
             words[index] = self.read_word(seat, name, index, &words);
         }
         words
     }
 
-    /// Reads the entry of a row that was seen, from the cell with this name.
+    /// Returns the entry of `row`, which was seen, from its cell, `name`. Only the contract needs the row.
     pub(crate) fn read_entry(&self, seat: &mut Seat<Entry, SeatView>, name: u64, row: u64) -> Entry
         requires seat { IsSeat self.now seat.old }
         requires ours { IsOurs self.now (pass_view seat.old) }
@@ -84,8 +86,8 @@ impl ChainLog {
         read_back(&words).unwrap()
     }
 
-    /// Writes a link and an entry's words into the cell `name`, the pass's own, over what was stored there before.
-    /// `link` is the name of the cell of the entry before.
+    /// Writes a link and an entry's words into the cell `name`, over what was stored there before. It is the pass's
+    /// own cell in the row after all that it has seen. `link` is the name of the cell of the last entry seen, or 0.
     pub(crate) fn write_cell(
         &self,
         seat: &mut Seat<Entry, SeatView>,

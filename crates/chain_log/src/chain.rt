@@ -8,7 +8,8 @@ use decision_log::LogTable;
 /// A log without a turn. To append, a pass writes its own cell, with a link to the newest cell that it has
 /// seen. One exchange then makes that cell the newest.
 ///
-/// A pass that stops doesn't keep others from appending. An exchange is lost only if the history grew.
+/// A pass that stops doesn't keep others from appending. An exchange is lost only if the history has entries that its
+/// pass hasn't seen.
 #[derive(Drop)]
 pub struct ChainLog {
     /// The words: the newest cell's name, and the cells row by row.

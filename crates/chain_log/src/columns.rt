@@ -24,8 +24,9 @@ impl ChainLog {
         cell_name(self.sessions, row, u64::from(pass.columns[row as usize]))
     }
 
-    /// Fills the table `columns`, which has the session of each row's entry, for the rows from `first` up to but not
-    /// including `count`. It goes from `newest`, the name of the history's newest cell, back along the links.
+    /// Fills the table `columns` for the rows from `first` up to but not including `count`; it has the rows below
+    /// `first` already. A row's byte is the session of its entry. `count` is how many entries the pass has seen by
+    /// now, and `newest` the name of the last one's cell. The walk goes from that cell back along the links.
     pub(crate) fn fill(
         &self,
         seat: &mut Seat<Entry, SeatView>,
@@ -49,7 +50,8 @@ impl ChainLog {
         let mut name = newest;
         for row in (first..count).rev() {
             columns[row as usize] = cell_column(self.sessions, name);
-            // The cell is one of the history, so its link is still what it was, and names a cell of the history.
+            // The cell is one of the history, so its link is still what it was. It names the cell in the row before,
+            // or is 0 if there is none. The link found in row `first` isn't used.
             name = self.load_word(seat, name, 0);
         }
     }

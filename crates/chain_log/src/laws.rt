@@ -36,7 +36,7 @@ pub fn one_history_of_its_words()
     ensures { (words : List ℕ) (one other : List Entry) → Chain words one → Chain words other → one ≡ other }
 {}
 
-/// States that a pass whose last cell is still the newest has seen the whole history.
+/// States that a pass has seen the whole history if the last cell that it has seen is still the newest.
 ///
 /// Takes no memory. Doesn't wait.
 /// Own rule: docs/INTERNALS.md#the-chain.
@@ -78,7 +78,7 @@ pub fn passes_are_sessions_of_the_machine()
 
 /// States that a word that a pass stores into its own cell leaves the history unchanged.
 ///
-/// Takes no memory. Doesn't wait.
+/// The rule is taken to hold before and after the store. Takes no memory. Doesn't wait.
 /// Own rule: docs/INTERNALS.md#the-chain.
 pub fn store_keeps_the_history()
     // Proved (log, steps-keep-the-history)
@@ -94,8 +94,8 @@ pub fn store_keeps_the_history()
 
 /// States that a won exchange appends the entry of the pass's own cell to the history.
 ///
-/// An exchange is won if the newest cell's name is the last that the pass has seen. Takes no memory.
-/// Doesn't wait.
+/// An exchange is won if the newest cell's name is that of the last cell that the pass has seen. The rule is taken to
+/// hold before and after it. Takes no memory. Doesn't wait.
 /// Own rule: docs/INTERNALS.md#the-chain.
 pub fn won_exchange_adds_its_entry()
     // Proved (log, steps-keep-the-history)

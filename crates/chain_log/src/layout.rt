@@ -6,10 +6,10 @@ ghost use Rattle.chain_log.specs.Cells.{word_count, name_at, cell_at, newest_of}
 
 use xa_words::WORDS;
 
-/// The word with the name of the newest cell, or 0.
+/// The index of the word that has the name of the newest cell, or 0 while the history is empty.
 pub(crate) const NEWEST: usize = 0;
 
-/// The number of words of a cell: its link, and an entry's.
+/// The number of words of a cell: its link, and the words of an entry.
 pub(crate) const CELL: usize = 1 + WORDS;
 
 /// Returns the number of words of a log.
@@ -18,6 +18,7 @@ pub(crate) fn count_words(sessions: u64, capacity: u64) -> usize
     requires capacity { capacity ≤ 1024 }
     ensures { result ≡ word_count sessions capacity }
 {
+    // A row for each entry that the log can have, with a cell for each session, after the word `NEWEST`.
     1 + capacity as usize * sessions as usize * CELL
 }
 
@@ -28,6 +29,7 @@ pub(crate) fn cell_name(sessions: u64, row: u64, session: u64) -> u64
     requires session { session ≤ 16 }
     ensures { result ≡ name_at sessions row session }
 {
+    // Sessions are numbered from 1, so no cell has the name 0.
     row * sessions + session
 }
 
@@ -52,7 +54,7 @@ pub(crate) fn cell_start(name: u64) -> usize
     1 + (name as usize - 1) * CELL
 }
 
-/// Returns how many entries a history has whose newest cell has this name: its row plus one.
+/// Returns how many entries a history has whose newest cell has this name: its row plus one, and 0 for the name 0.
 pub(crate) fn row_count(sessions: u64, newest: u64) -> u64
     requires { 1 ≤ sessions }
     ensures { (seen : List Entry) → AllOf sessions seen → newest ≡ newest_of sessions seen → result ≡ length seen }

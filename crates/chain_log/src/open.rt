@@ -47,12 +47,15 @@ impl SeatedPass for ChainPass {
 
     ghost known = { known_of };
 
+    /// Makes the pass of the session `number` at its seat, with nothing seen. May return `AllocError`.
     fn at_seat(
         alloc: Global,
         seat: Seat<Entry, SeatView>,
         number: SessionNo,
         sizes: &Sizes,
     ) -> Result<ChainPass, AllocError> {
+        // A byte for each row, of which there are as many as entries. None of them means anything yet, since nothing
+        // was seen.
         let columns = vec![in alloc; 0; sizes.capacity as usize]?;
         Ok(ChainPass {
             seat,

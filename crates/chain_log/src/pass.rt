@@ -23,13 +23,14 @@ pub struct ChainPass {
     pub(crate) newest: u64,
     /// How many entries it has seen.
     pub(crate) count: u64,
-    /// A byte for each row that the log can have. The bytes of rows that weren't seen mean nothing.
+    /// A byte for each row that the log can have: the column of the row's cell. The bytes of rows that weren't seen
+    /// mean nothing.
     pub(crate) columns: Vec<u8>,
     // The seat holds one pass: this one.
     ghost held: { seat.me ≡ seated (pass_view_of seat.me.0) },
     // That pass has this number, and has seen `count` entries.
     ghost state: { IsPass number count (pass_view_of seat.me.0) },
-    // `newest` is the name of the last entry that was seen.
+    // `newest` is the name of the cell of the last entry that was seen.
     ghost named: { newest ≡ newest_of (pass_view_of seat.me.0).sessions (pass_view_of seat.me.0).known.seen },
     // Proved (log, table-of-columns): Between any two calls a pass has a table with the session of each
     //   entry that it has seen.

@@ -11,9 +11,9 @@ use decision_log::SeatView;
 use xa_words::Entry;
 use xa_xid::SessionNo;
 
-/// A pass at rest: nobody looks or adds with it.
+/// A pass at rest: nobody looks or appends with it.
 ///
-/// A `RingPass` may be sent to another thread, and not be shared by threads. A pass at rest may be shared, too. Its
+/// A `RingPass` may be sent to another thread, but not be shared by threads. A pass at rest may be shared, too. Its
 /// fields are those of a `RingPass`, with the seat on a perch.
 #[derive(Drop)]
 pub struct RestingPass {

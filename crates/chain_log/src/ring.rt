@@ -9,7 +9,7 @@ use decision_log::LogTable;
 ///
 /// To append, a pass writes a cell of its own, with a link to the newest entry that it has seen. One exchange then
 /// makes its entry the newest. A pass that stops doesn't keep others from appending. An exchange is lost only if the
-/// history grew.
+/// history has entries that its pass hasn't seen.
 #[derive(Drop)]
 pub struct RingLog {
     /// The words: the newest entry's name, and the cells.

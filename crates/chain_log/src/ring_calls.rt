@@ -20,8 +20,8 @@ use xa_xid::SessionNo;
 impl RingLog {
     /// Returns how many rows of cells the ring has, in `[1, 65536]`.
     ///
-    /// An entry can be read while, from its place on, the history has fewer entries than that. Takes no memory.
-    /// Doesn't wait.
+    /// An entry can be read while, from its place on, the history has fewer entries than there are rows. Takes no
+    /// memory. Doesn't wait.
     /// Own rule: docs/INTERNALS.md#the-ring.
     pub fn rows(&self) -> u64
         ensures value { result ≡ self.now.rows }
@@ -156,7 +156,8 @@ impl RingLog {
             pass.count = front;
             return Err(AddFault::Overtaken { front });
         }
-        // The byte was that of the entry a whole turn back, if there is one. The table still begins at `low`.
+        // A session's number is its column. The byte was that of the entry a whole turn back, if there is one. The
+        // table still begins at `low`.
         pass.columns[(place % self.rows) as usize] = number as u8;
         pass.newest = own;
         pass.count = place + 1;
@@ -200,7 +201,7 @@ impl RingLog {
     {
         let newest = self.table.meet(first, &mut second.seat);
         let unseen = second.count;
-        // Else `second` has seen as much already, and stays as it is.
+        // Else `second` has seen at least as much already, and stays as it is.
         if unseen < front {
             // `newest` was loaded at a seat that knows both passes, so what the second has seen ends there.
             let count = place_count(self.columns, newest);
@@ -241,7 +242,7 @@ impl RingLog {
         if at + self.rows < pass.count {
             return None;
         }
-        // A link on the way down to this place was lost, and so is the entry.
+        // A link between the places that the table has and this one was lost, and so is the entry.
         if !self.reach(pass, at) {
             return None;
         }
@@ -251,8 +252,9 @@ impl RingLog {
         self.read_entry(&mut pass.seat, start, name, at)
     }
 
-    /// Fills the table of a pass back to the place `at`. Returns whether the table then has the place. If not, a link
-    /// on the way is lost, and so is the entry at `at`.
+    /// Fills the table of a pass back to the place `at`, as far as links aren't lost. Returns whether the table then
+    /// has the place. If not, a link on the way is lost, so the pass can't learn in which column the entry at `at` is.
+    /// The history has at least `at` + rows entries then.
     fn reach(&self, pass: &mut RingPass, at: u64) -> bool
         requires belongs { log_of pass.old ≡ identity_of self.now }
         requires seen { at < length (known_of pass.old).seen }

@@ -17,8 +17,10 @@ use decision_log::SeatView;
 use xa_words::{Entry, WORDS, encode, read_back};
 
 impl RingLog {
-    /// Loads the entry's words at `[from, end)` of the cell that begins at `start`, which the pass reads. They are the
-    /// entry's only if its name is in the cell before and afterwards.
+    /// Loads the words of an entry from index `from` up to but not including `end` into `words`, whose others stay.
+    /// They are in the cell that begins at the word `start`. If the name of an entry that was seen is in the cell
+    /// before this call and afterwards, they all are that entry's; else they may be any words. If `end` isn't above
+    /// `from`, nothing is loaded.
     fn read_words(
         &self,
         seat: &mut Seat<Entry, SeatView>,
@@ -44,6 +46,7 @@ impl RingLog {
             → index < end
             → IsEntry entry × (slice_index words.new index ≡ slice_index (words_of entry) index) }
     {
+        // Words 0 and 1 of a cell are its entry's name and the link.
         for index in from..end {
             words[index] = self.load_word(seat, start, 2 + index);
         }
@@ -51,7 +54,7 @@ impl RingLog {
 
     /// Returns the entry's words in the cell that begins at the word `start`. They may be any words if the cell is used
     /// again meanwhile: the caller tests its name before and after. A word after the end of its text is 0, and isn't
-    /// loaded: most texts are short, and a pass reads each entry of all others.
+    /// loaded, since most texts are short.
     fn read_cell(&self, seat: &mut Seat<Entry, SeatView>, start: usize) -> [u64; WORDS]
         requires seat { IsSeat self.now seat.old }
         requires start { IsStart self.now start }
@@ -75,7 +78,7 @@ impl RingLog {
     }
 
     /// Returns the entry of a place that was seen, or `None` if its cell is another entry's now. `start` is the first
-    /// word of the cell, `name` the entry's name.
+    /// word of the cell, `name` the entry's name. Only the contract needs the place.
     pub(crate) fn read_entry(
         &self,
         seat: &mut Seat<Entry, SeatView>,
@@ -104,12 +107,13 @@ impl RingLog {
         if self.check_name(seat, start) != name {
             return None;
         }
-        // The words are those of an entry of the history, so an entry is found.
+        // The words are those of an entry of the history, so `read_back` finds one, and doesn't return `None`.
         read_back(&words)
     }
 
     /// Returns the link in the cell of a place that was seen, or `None` if the cell is another entry's now. The link is
-    /// the name of the entry before. `start` is the first word of the cell, `name` the name of the place's entry.
+    /// the name of the entry before, or 0 at place 0. `start` is the first word of the cell, `name` the name of the
+    /// place's entry. Only the contract needs the place.
     pub(crate) fn read_link(
         &self,
         seat: &mut Seat<Entry, SeatView>,
@@ -143,7 +147,7 @@ impl RingLog {
     }
 
     /// Writes a name, a link and an entry's words into the own cell, over what was there before. `start` is the cell's
-    /// first word, `link` the name of the entry before.
+    /// first word, `name` the name that the entry will have, `link` the name of the last entry seen, or 0.
     pub(crate) fn write_cell(
         &self,
         seat: &mut Seat<Entry, SeatView>,

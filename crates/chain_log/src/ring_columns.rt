@@ -15,12 +15,13 @@ use atomic_table::Seat;
 use decision_log::SeatView;
 use xa_words::Entry;
 
-/// How many new places `fill` fills at most; of more, it fills the newest alone. Each takes loads of a cell that may be
-/// far, and a session that goes on from a checkpoint never needs those below it.
+/// How many new places `fill` fills at most; of more, it fills the newest alone. Each takes loads of a cell that may
+/// be far, and a session that goes on from a checkpoint never needs the places below the checkpoint. The number bounds
+/// only the work that is done at once: `reach` fills what is read later.
 const MOST_FILLED: u64 = 64;
 
 impl RingLog {
-    /// The session of the entry of a place that the table has.
+    /// Returns the session of the entry at `place`, which the table of the pass has.
     pub(crate) fn column(&self, pass: &RingPass, place: u64) -> u64
         requires belongs { log_of pass.now ≡ identity_of self.now }
         requires low { pass.now.low ≤ place }
@@ -34,8 +35,8 @@ impl RingLog {
     }
 
     /// Fills the table from `top`, a place that it has, back to `stop`, along the links. `newest` is the name of the
-    /// entry at `top`. Returns the place from which on the table has the columns. If that is above `stop`, the cell
-    /// there is another entry's now.
+    /// entry at `top`. Returns the place from which on the table has the columns. This is `stop`, or a higher place
+    /// whose entry's cell is another entry's now, so that the link to the place before it is lost.
     pub(crate) fn walk(
         &self,
         seat: &mut Seat<Entry, SeatView>,
@@ -82,10 +83,13 @@ impl RingLog {
         stop
     }
 
-    /// Fills the table for the new places, from `first` up to but not including `count`, as far as its rows reach and
-    /// until a link is lost, from the newest entry, whose name is `newest`, back along the links; or for the newest
-    /// alone, if more than `MOST_FILLED` are new. Before, the table has the columns of the places from `low` up to but
-    /// not including `first`. Returns the place from which on it then has the columns, both as far as its rows reach.
+    /// Brings the table up to date after the pass has seen more: `first` entries before, `count` now. `newest` is the
+    /// name of the last one. Before, the table has the columns of the places from `low` on, as far as its rows reach.
+    ///
+    /// The places from `first` up to but not including `count` are new. They are filled from the last one back along
+    /// the links, as far as the table's rows reach, or until a link is lost. If more than `MOST_FILLED` are new, only
+    /// the last one is filled. Returns the place from which on the table then has the columns, as far as its rows
+    /// reach.
     pub(crate) fn fill(
         &self,
         seat: &mut Seat<Entry, SeatView>,
@@ -107,10 +111,11 @@ impl RingLog {
         ensures bottom { 0 < result → result < count }
         ensures kept { HasWindow self.now.rows result count (pass_view seat.old).known.seen columns.new.items }
     {
-        // Nothing is new.
+        // Nothing is new, so the table begins where it began.
         if count <= first {
             return low;
         }
+        // The name of an entry tells its column, so the last place needs no link.
         let top = count - 1;
         columns[(top % self.rows) as usize] = name_column(self.columns, newest);
         // A pass that missed many may never read them, if its session goes on from a checkpoint. `reach` fills in what
@@ -126,7 +131,8 @@ impl RingLog {
     }
 }
 
-/// Returns how far back to fill the table: to the first place that is new, but no further than its rows reach.
+/// Returns the lowest place to fill: `first`, the first that is new, or the lowest of the last `rows` of the `count`
+/// places seen, if that is higher.
 fn walk_stop(rows: u64, first: u64, count: u64) -> u64
     requires some { 0 < rows }
     requires first { first < count }
@@ -135,7 +141,7 @@ fn walk_stop(rows: u64, first: u64, count: u64) -> u64
     ensures top { result < count }
     ensures reach { first < result → count ≡ result + rows }
 {
-    // Of more entries than it has rows, the table keeps the last ones.
+    // If more entries are new than the table has rows, it keeps the last ones.
     if count - first > rows {
         count - rows
     } else {

@@ -48,7 +48,7 @@ pub fn one_history_of_its_words()
         → slice_get one.log place ≡ slice_get other.log place) }
 {}
 
-/// States that a pass whose last entry is still the newest has seen the whole history.
+/// States that a pass has seen the whole history if the last entry that it has seen is still the newest.
 ///
 /// Cells are used again, but no name is. Takes no memory. Doesn't wait.
 /// Own rule: docs/INTERNALS.md#the-ring.
@@ -101,7 +101,7 @@ pub fn passes_are_sessions_of_the_machine()
         → (machine : Machine) × HasPasses sizes.sessions sizes.capacity rule.log views machine }
 {}
 
-/// States that the name of its next entry, which a pass stores into its own cell, leaves the history unchanged.
+/// States that after a pass stores the name of its next entry into its own cell, the rule holds with the same history.
 ///
 /// This holds whatever entries had the cell before. Takes no memory. Doesn't wait.
 /// Own rule: docs/INTERNALS.md#the-ring.
@@ -116,9 +116,9 @@ pub fn stored_name_keeps_the_history()
         × (after.log ≡ rule.log) }
 {}
 
-/// States that each word that a pass stores into its own cell after the name leaves the history unchanged.
+/// States that after a pass stores any word but the first into its own cell, the rule holds with the same history.
 ///
-/// Takes no memory. Doesn't wait.
+/// The name and all words before this one are stored already. Takes no memory. Doesn't wait.
 /// Own rule: docs/INTERNALS.md#the-ring.
 pub fn stored_word_keeps_the_history()
     // Proved (log, ring-steps)
@@ -134,7 +134,7 @@ pub fn stored_word_keeps_the_history()
         × (after.log ≡ rule.log) }
 {}
 
-/// States that a won exchange appends the entry of the pass's own cell to the history.
+/// States that after a won exchange the rule holds with the entry of the pass's own cell appended to the history.
 ///
 /// An exchange is won if the newest name is the name of the last entry that the pass has seen. Takes no memory.
 /// Doesn't wait.

@@ -7,14 +7,14 @@ ghost use Rattle.chain_log.specs.Places.{most, word_count, cell_at};
 
 use xa_words::WORDS;
 
-/// The word that names the newest entry, or is 0 if there is none.
+/// The index of the word that has the name of the newest entry, or 0 while the history is empty.
 pub(crate) const NEWEST: usize = 0;
 
-/// How many words a cell has: its entry's name, a link, and the entry's.
+/// How many words a cell has: its entry's name, a link, and the words of the entry.
 pub(crate) const CELL: usize = 2 + WORDS;
 
-/// How many entries a ring can have in addition to its rows: 2^59. A name numbers a place and one of up to 20
-/// columns, so all names fit into 64 bits.
+/// How many entries a ring can have in addition to one for each of its rows: 2^59. A name numbers a place and one of up
+/// to 20 columns, so all names fit into 64 bits.
 pub(crate) const MOST: u64 = 576_460_752_303_423_488;
 
 /// How many rows a ring can have at most. With 20 columns of 23 words, 65,536 rows take 241 MB.
@@ -40,6 +40,7 @@ pub(crate) fn entry_name(columns: u64, place: u64, session: u64) -> u64
     requires session { session ≤ 20 }
     ensures { result ≡ name_at columns place session }
 {
+    // Sessions are numbered from 1, so no entry has the name 0.
     place * columns + session
 }
 
@@ -68,7 +69,7 @@ pub(crate) fn cell_start(rows: u64, place: u64, session: u64) -> usize
     1 + (cell - 1) * CELL
 }
 
-/// How many of its eight words a text of so many bytes fills, in `[0, 8]`. The others are 0.
+/// How many of its eight words a text of `size` bytes fills, the last maybe in part, in `[0, 8]`. The others are 0.
 pub(crate) fn words_filled(size: u64) -> usize
     ensures most { result ≤ 8 }
     ensures behind { (word : ℕ) → result ≤ word → word < 8 → size ≤ 8 * word }
@@ -81,7 +82,7 @@ pub(crate) fn words_filled(size: u64) -> usize
     (size as usize + 7) / 8
 }
 
-/// How many entries a history has if its newest entry has this name: one more than its place.
+/// How many entries a history has if its newest entry has this name: one more than its place, and 0 for the name 0.
 pub(crate) fn place_count(columns: u64, newest: u64) -> u64
     requires { 1 ≤ columns }
     ensures { (seen : List Entry) → AllOf columns seen → newest ≡ newest_of columns seen → result ≡ length seen }

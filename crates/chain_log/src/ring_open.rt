@@ -70,6 +70,7 @@ fn lay_out(
     ensures all { IfOk result (λ made. pass_view made.1 ≡ newcomer_view (sessions + spares) made.0.capacity 1) }
 {
     let columns = sessions + spares;
+    // The rule knows no rows: it takes their number from the capacity, as what is beyond `MOST`.
     let capacity = MOST + rows;
     // The rule knows no spares: to it they are the passes of the last numbers. So these sizes may be greater than those
     // of a log in which each pass is a session's.
@@ -89,7 +90,8 @@ fn lay_out(
     Ok((log, rest))
 }
 
-/// Issues the passes of the sessions, in order, from the seat `rest`, which knows all passes. It then knows the spares.
+/// Issues the passes of the sessions, in order, from the seat `rest`, which knows all passes. Of these `rest` then
+/// knows the spares alone. May return `AllocError`.
 fn deal_all(
     alloc: Global,
     log: &RingLog,
@@ -112,7 +114,7 @@ fn deal_all(
     Ok(passes)
 }
 
-/// Issues `count` spares, in order, from the seat `rest`, which knows them.
+/// Issues `count` spares, in order, from the seat `rest`, which knows them and no other pass. May return `AllocError`.
 fn deal_spares(
     alloc: Global,
     log: &RingLog,
@@ -133,7 +135,8 @@ fn deal_spares(
 }
 
 impl RingPass {
-    /// The pass of a session, at its seat, before its first call.
+    /// Makes the pass of the session `number`, at its seat, before its first call. `rows` is how many rows the ring
+    /// has.
     ///
     /// May return `AllocError`. Doesn't wait.
     fn at_seat(
@@ -155,6 +158,7 @@ impl RingPass {
             })
             × (known_of pass ≡ newcomer number)) }
     {
+        // A byte for each row. None of them means anything yet, since nothing was seen.
         let columns = vec![in alloc; 0; rows as usize]?;
         Ok(RingPass {
             seat,

@@ -26,9 +26,11 @@ pub struct RingPass {
     /// How many entries it has seen.
     pub(crate) count: u64,
     /// The place from which on the table has the columns, as far as its rows reach. If it isn't 0, the table wasn't
-    /// filled further back: too many places were new at once, no read needed those below, or a link was lost.
+    /// filled further back: too many places were new at once and no read has needed those below since, or a link was
+    /// lost.
     pub(crate) low: u64,
-    /// A byte for each row.
+    /// A byte for each row: the column of the cell of the last entry seen in it, if its place is `low` or higher. Other
+    /// bytes mean nothing.
     pub(crate) columns: Vec<u8>,
     // The seat holds one pass: this one.
     ghost held: { seat.me ≡ seated (pass_view_of seat.me.0) },

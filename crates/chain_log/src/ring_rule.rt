@@ -1,4 +1,4 @@
-//! The rule of the log.
+//! The rule of a ring.
 
 use atomic_table::TableRule;
 use decision_log::{LogWords, SeatView, Sizes};

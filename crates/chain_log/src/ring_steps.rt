@@ -9,12 +9,13 @@
 //!    word, and no name is used twice. So if the same name is there afterwards, all that was loaded between was that
 //!    entry's. If another name is there, the history has at least as many entries from that entry's place on as there
 //!    are rows, since the cell's session had seen them all when it used the cell again.
-//! 3. To append, a pass writes its own cell, the name first (`store_name`, `store_word`). It doesn't store a word that
-//!    is there already (`find_word`). The cell has no entry that is still needed: the pass has seen all entries of its
-//!    own, and the last one in this row is a whole turn back. Then the pass exchanges word 0 from the last name that
-//!    it has seen to its own (`exchange`). So the cell is whole before its entry becomes the newest. A name has one
-//!    place and one session. So if word 0 still has that name, the history is exactly what the pass has seen. The
-//!    exchange tests this and appends at one step.
+//! 3. To append, a pass writes its own cell: the name first (`store_name`), then the link (`store_word`) and the words
+//!    of the entry (`put_word`), of which it doesn't store one that is there already (`find_word`). The cell has no
+//!    entry that the ring must keep: the pass has seen all entries of its own, and the last one in this row is at least
+//!    a whole turn back. Then the pass exchanges word 0 from the last name that it has seen to its own (`exchange`).
+//!    So the cell is whole before its entry becomes the newest. A name has one place and one session. So if word 0
+//!    still has that name, the history is exactly what the pass has seen. The exchange tests this and appends at one
+//!    step.
 //! 4. To let two passes meet, `LogTable::meet` splits off an empty seat, joins two seats, loads word 0 there, and
 //!    splits them. Each pass has seen a prefix of one history, so the longer begins with the shorter.
 //! 5. To open, `LogTable::issue` splits the seat that knows the passes not yet issued, once for each session and each
@@ -63,18 +64,20 @@ impl RingLog {
         self.table.load::<SeeAll>(seat, NEWEST)
     }
 
-    /// Loads the name in a cell.
+    /// Loads the name in the cell that begins at the word `start`.
     pub(crate) fn check_name(&self, seat: &mut Seat<Entry, SeatView>, start: usize) -> u64
         requires seat { IsSeat self.now seat.old }
         requires start { IsStart self.now start }
         ensures seat { IsSeat self.now seat.new }
         ensures checked { Checks start (pass_view seat.old) result (pass_view seat.new) }
     {
-        // If it is the name that was found before, the words that were loaded since then are of that name's entry.
+        // If it is the name that was found before, of an entry that was seen, the words loaded since then are that
+        // entry's.
         self.table.load::<CheckName>(seat, start)
     }
 
-    /// Loads a word of a cell: its link at 1, and the entry's words after it.
+    /// Loads a word of the cell that begins at the word `start`. At `index` 0 it is the name, at 1 the link, and then
+    /// come the entry's words.
     pub(crate) fn load_word(
         &self,
         seat: &mut Seat<Entry, SeatView>,
@@ -92,7 +95,8 @@ impl RingLog {
         self.table.load::<ReadWord>(seat, word)
     }
 
-    /// Stores the own name into the own cell.
+    /// Stores `name`, that of the entry that the pass is to append, into the own cell, which begins at the word
+    /// `start`.
     pub(crate) fn store_name(&self, seat: &mut Seat<Entry, SeatView>, start: usize, name: u64)
         requires seat { IsSeat self.now seat.old }
         requires start { IsStart self.now start }
@@ -101,11 +105,13 @@ impl RingLog {
         ensures seat { IsSeat self.now seat.new }
         ensures stored { pass_view seat.new ≡ stored (pass_view seat.old) 0 name }
     {
-        // The last entry that had the own cell is a whole turn back, and no other pass stores in this column.
+        // The last entry that had the own cell, if there is one, is at least a whole turn back, and no other pass
+        // stores in this column.
         self.table.store::<DraftWord>(seat, start, name)
     }
 
-    /// Loads a word of the own cell after its name, and returns it. It then counts as if the pass had stored it.
+    /// Loads the word at `index`, 1 or more, of the own cell, which begins at `start`, and returns it. From then on the
+    /// pass relies on that word as if it had stored it.
     fn find_word(&self, seat: &mut Seat<Entry, SeatView>, start: usize, index: usize) -> u64
         requires seat { IsSeat self.now seat.old }
         requires start { IsStart self.now start }
@@ -122,8 +128,8 @@ impl RingLog {
         self.table.load::<FindWord>(seat, word)
     }
 
-    /// Writes a word of the own cell after its name. A word that is there already isn't stored again, since a load
-    /// costs much less than a store.
+    /// Makes the word at `index`, 1 or more, of the own cell, which begins at `start`, the number `new`. If that is
+    /// there already, it isn't stored again, since a load costs much less than a store.
     pub(crate) fn put_word(
         &self,
         seat: &mut Seat<Entry, SeatView>,
@@ -149,7 +155,8 @@ impl RingLog {
         self.store_word(seat, start, index, new);
     }
 
-    /// Stores a word of the own cell after its name: the link at 1, and the entry's words after it.
+    /// Stores `new` as a word of the own cell, which begins at `start`. At `index` 1 it is the link, and then come the
+    /// entry's words. The name, at 0, is there already.
     pub(crate) fn store_word(
         &self,
         seat: &mut Seat<Entry, SeatView>,
@@ -173,7 +180,8 @@ impl RingLog {
     }
 
     /// Makes the own entry, of the name `own`, the newest, if the one that was seen last, of the name `old`, still is.
-    /// Returns the name that was the newest: the exchange is won if that is `old`.
+    /// Returns the name that was the newest: the exchange is won if that is `old`. `entry` is what the own cell has;
+    /// only the proof needs it.
     pub(crate) fn exchange(
         &self,
         seat: &mut Seat<Entry, SeatView>,

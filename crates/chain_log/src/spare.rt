@@ -9,7 +9,7 @@ use xa_words::Entry;
 /// A handle on a ring that remembers a prefix of the history, and no more.
 ///
 /// It is a pass that appends nothing and reads no entry. Passes tell it what they have seen, and others hear that from
-/// it. Its number is behind those of the sessions.
+/// it. Spares have the numbers after those of the sessions.
 #[derive(Drop)]
 pub struct RingSpare {
     /// Where it meets passes.

@@ -36,7 +36,7 @@ impl RingLog {
         ensures spare { MeetsSecond (known_of pass.old) (spare_known_of spare.old) (spare_known_of spare.new) }
     {
         let newest = self.table.meet(&mut pass.seat, &mut spare.seat);
-        // Else the spare has seen as much already, and stays as it is.
+        // Else the spare has seen at least as much already, and stays as it is.
         if spare.count < pass.count {
             // `newest` was loaded at a seat that knows both, so what the spare has seen ends there.
             spare.count = place_count(self.columns, newest);

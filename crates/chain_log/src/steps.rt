@@ -4,13 +4,13 @@
 //!
 //! 1. To look, a pass loads word 0 (`load_newest`). What the pass has seen stays a prefix of the history,
 //!    which grows only at its end. The draft is given up, since the own cell may be another from then on.
-//! 2. After it has seen more, by a look, a lost exchange or a meeting, it loads the link of each cell that
+//! 2. After a pass has seen more, by a look, a lost exchange or a meeting, it loads the link of each cell that
 //!    is new to it, from the newest back (`fill`, by `load_word`). A name that was seen once always leads
 //!    to the same cell.
-//! 3. To read, it loads words of a cell whose name it found before (`load_word`). A cell of the history is
+//! 3. To read, a pass loads words of a cell whose name it found before (`load_word`). A cell of the history is
 //!    never written again: its session stores only in later rows, and no other session stores in its
 //!    column.
-//! 4. To append, it writes its own cell (`put_word`). It stores each word (`store_word`), but a word that
+//! 4. To append, a pass writes its own cell (`put_word`). It stores each word (`store_word`), but a word that
 //!    is to be 0 it loads first (`find_blank`), and leaves it if it is 0 already. Then it exchanges word 0
 //!    from the last name it has seen to its own (`exchange`). The cell was whole before it became the
 //!    newest. A name has one row and one column, so an equal name in word 0 means that exactly what the
@@ -52,7 +52,8 @@ impl ChainLog {
         self.table.load::<SeeAll>(seat, NEWEST)
     }
 
-    /// Loads a word of the cell of an entry that was seen: its link at 0, and the entry's words after it.
+    /// Loads a word of the cell `name`, that of an entry that was seen. At `index` 0 it is the cell's link, and then
+    /// come the entry's words.
     pub(crate) fn load_word(&self, seat: &mut Seat<Entry, SeatView>, name: u64, index: usize) -> u64
         requires seat { IsSeat self.now seat.old }
         requires ours { IsOurs self.now (pass_view seat.old) }
@@ -74,7 +75,8 @@ impl ChainLog {
         self.table.load::<ReadWord>(seat, word)
     }
 
-    /// Loads a word of the own cell that is to be 0, and returns whether it is. If so, it counts as if it were stored.
+    /// Loads the word at `index` of the own cell, `name`, and returns whether it is 0, as it is to be. If so, the pass
+    /// relies on that 0 from then on as if it had stored it.
     fn find_blank(&self, seat: &mut Seat<Entry, SeatView>, name: u64, index: usize) -> bool
         requires seat { IsSeat self.now seat.old }
         requires ours { IsOurs self.now (pass_view seat.old) }
@@ -92,7 +94,7 @@ impl ChainLog {
         self.table.load::<FindBlank>(seat, word) == 0
     }
 
-    /// Stores a word into the own cell.
+    /// Stores `new` as the word at `index` of the own cell, `name`.
     fn store_word(&self, seat: &mut Seat<Entry, SeatView>, name: u64, index: usize, new: u64)
         requires seat { IsSeat self.now seat.old }
         requires ours { IsOurs self.now (pass_view seat.old) }
@@ -110,8 +112,8 @@ impl ChainLog {
         self.table.store::<DraftWord>(seat, word, new)
     }
 
-    /// Writes a word of the own cell. A 0 that is there already isn't stored again: a load costs much less
-    /// than a store.
+    /// Makes the word at `index` of the own cell, `name`, the number `new`. A 0 that is there already isn't stored
+    /// again: a load costs much less than a store.
     pub(crate) fn put_word(
         &self,
         seat: &mut Seat<Entry, SeatView>,
@@ -142,7 +144,8 @@ impl ChainLog {
     }
 
     /// Makes the own cell, of the name `own`, the newest, if the last cell seen, of the name `old`, still is. Returns
-    /// the name of the newest before: the exchange is won if that is `old`.
+    /// the name of the cell that was the newest: the exchange is won if that is `old`. `entry` is what the own cell
+    /// has; only the proof needs it.
     pub(crate) fn exchange(
         &self,
         seat: &mut Seat<Entry, SeatView>,

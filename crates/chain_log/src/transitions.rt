@@ -42,7 +42,7 @@ impl LogTransition<Links> for DraftWord {
     ghost counts = { draft_counts };
 }
 
-/// An exchange of the newest cell's name, with the entry of the own cell.
+/// An exchange of the newest cell's name for the own cell's. It announces the entry of the own cell.
 pub(crate) struct Publish;
 
 impl LogTransition<Links> for Publish {

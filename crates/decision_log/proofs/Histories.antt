@@ -76,7 +76,7 @@ there (x ∷ xs) (suc place) below = there xs place (omega arith)
 pub some_injective : (a b : Entry) → Some a ≡ Some b → a ≡ b
 some_injective a b is = cc
 
--- the entries of a longer list: an old one, or the last
+-- an entry of a list with one more at its end is one of the list, at its old place, or the last
 pub get_last : (xs : List Entry) (last : Entry) (place : ℕ) (entry : Entry)
     → slice_get (xs ++ last ∷ []) place ≡ Some entry
     → (slice_get xs place ≡ Some entry) ⊎ ((place ≡ length xs) × (last ≡ entry))
@@ -101,7 +101,7 @@ pub own_append : (number : ℕ) (xs ys : List Entry) → entries_of number (xs +
     ++ entries_of number ys
 own_append number xs ys = filter-append (is_of number) xs ys
 
--- an entry of its own behind a history
+-- an entry of the session behind a history comes behind the session's entries of that history
 pub own_last : (number : ℕ) (xs : List Entry) (entry : Entry) → entry.session ≡ number
     → entries_of number (xs ++ entry ∷ []) ≡ entries_of number xs ++ entry ∷ []
 own_last number xs entry own =

@@ -9,8 +9,8 @@ use Rattle.decision_log.specs.Machine.{Seen, Machine, Event, Look, Add, Looks, A
 use Rattle.decision_log.specs.Machine.{IsState}
 use Rattle.decision_log.proofs.Histories.{begins_itself, begins_more, own_last, own_other}
 
--- what a session knows: a prefix of the history, in which and in all of which its own entries are those that it has
--- noted
+-- what a session knows is right: it has seen a prefix of the history, and both this prefix and the whole history have
+-- just those entries of the session that it has noted as its own
 pub record Knows (history : List Entry) (session : ℕ) (known : Seen) : Type 0 where
   pub begins : Begins known.seen history
   pub own : entries_of session history ≡ known.mine

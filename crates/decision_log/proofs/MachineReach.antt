@@ -22,7 +22,7 @@ runs_append : (xs ys : List Event) (a b c : Machine) → Runs xs a b → Runs ys
 runs_append [] ys a b c p q = subst (λ m. Runs ys m c) p q
 runs_append (x ∷ xs) ys a b c p q = (p.0, p.1, runs_append xs ys p.0 b c p.2 q)
 
--- events of sessions up to a number, one after another
+-- two lists of events of sessions up to a number, one after another, are such a list
 events_append : (sessions : ℕ) (xs ys : List Event) → EventsOf sessions xs → EventsOf sessions ys
     → EventsOf sessions (xs ++ ys)
 events_append sessions [] ys p q = q

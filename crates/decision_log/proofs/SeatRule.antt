@@ -30,8 +30,8 @@ use Rattle.decision_log.proofs.Histories.{length_begins}
 use Rattle.decision_log.proofs.SeatLemmas.{step_two, join_seats, split_two, split_one, deal_seat, moved}
 use Rattle.decision_log.proofs.LogRules.{Rules, reseated, among}
 
--- a pass with no draft and no turn knows nothing of the words; and what word 0 is where a pass has seen the whole
--- history
+-- a pass with no draft and no turn knows nothing of the words; and if a pass has seen the whole history, word 0 is
+-- `newest` of it
 pub record HasWords (Spells : Sizes → List ℕ → List Entry → Type 0)
     (KnowsWords : List ℕ → List Entry → PassView → Type 0)
     (newest : PassView → ℕ) : Type 0 where

@@ -17,8 +17,8 @@ use Rattle.decision_log.specs.declared.sizes.Sizes.{Sizes}
 use Rattle.decision_log.specs.Atomic.{Meets}
 use Rattle.decision_log.specs.AtTable.{KeepsSeats}
 
--- if the rule is kept where a seat with one pass (`g`) splits off an empty seat, it is where a seat that has it is
--- split
+-- if the rule is kept where a seat with one pass (`g`) splits off an empty seat, it is kept where a seat that has
+-- this pass is split
 pub at_spare : {holds : State Entry SeatView → Type 0} {id : ℕ} {g : PassView} (me : Me Entry SeatView)
     → ◌≡◌ {A = Me Entry SeatView} me (seated g)
     → Splits holds id (Single g) (Single g) Empty → Splits holds id me.0 (left_of me.0) (right_of me.0)

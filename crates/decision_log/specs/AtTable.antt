@@ -45,7 +45,7 @@ pub record KnowsNone (table_id : TableId) (seat : Seat Entry SeatView) : Type 0 
 abbrev pub identity_at : TableId → Sizes → LogIdentity
 identity_at table_id sizes = record { table = table_id; sessions = sizes.sessions; capacity = sizes.capacity }
 
--- the seat's table, and the sizes that its pass was given
+-- of which log the pass at a seat is: the seat's table, and the log's sizes, as the seat knows them
 abbrev pub belongs_at : Seat Entry SeatView → LogIdentity
 belongs_at seat =
     record { table = seat.table_id; sessions = (pass_view seat).sessions; capacity = (pass_view seat).capacity }

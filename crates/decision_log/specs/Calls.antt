@@ -46,7 +46,8 @@ pub record IsBusy (old new : Known) : Type 0 where
   pub looks : new.looks ≡ old.looks
   pub tries : new.tries ≡ old.tries + 1
 
--- an append in a log of a capacity, with a turn or without; at Full nothing changes
+-- an append in a log of a capacity, with a turn or without: by its result `IsAdded` or `IsOvertaken`; Full only if the
+-- pass has seen as many entries as the capacity, and then nothing changes; Busy only in a log with a turn (`IsBusy`)
 abbrev pub Adds : Bool → ℕ → Entry → Result (Unit {0}) AddFault → Known → Known → Type 0
 Adds turns capacity entry (Ok _) old new = IsAdded entry old new
 Adds turns capacity entry (Err (Overtaken front)) old new = IsOvertaken front old new
@@ -61,8 +62,8 @@ pub record MeetsFirst (old new : Known) : Type 0 where
   pub looks : old.looks ≤ new.looks
   pub tries : new.tries ≡ old.tries
 
--- the second of two that meet: it has seen all that the first has, and the entries of the first's number there are the
--- first's own; it has seen more than before only if the first had
+-- the second of two that meet, where `other` is the first: it has seen all that the first has, and the entries of the
+-- first's number there are the first's own; it has seen more than before only if the first had seen more than it
 pub record MeetsSecond (other old new : Known) : Type 0 where
   pub number : new.number ≡ old.number
   pub seen : Begins old.seen new.seen

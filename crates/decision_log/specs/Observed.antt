@@ -10,8 +10,8 @@ use Rattle.decision_log.specs.declared.view.Turn.TheVariants.{Without}
 use Rattle.decision_log.specs.History.{Begins, entries_of}
 use Rattle.decision_log.specs.Known.{AllOf}
 
--- what a pass learns of a history that it sees: it begins with all that was seen, is no longer than the log can have,
--- and the entries of one's number in it are one's own
+-- what a pass learns of a history that it sees: it begins with all that the pass had seen, is no longer than the log
+-- can have, each entry is of one of the log's sessions, and those of the pass's number are its own
 pub record HistoryIs (h : PassView) (seen : List Entry) : Type 0 where
   pub begins : Begins h.known.seen seen
   pub room : length seen ≤ h.capacity

@@ -22,7 +22,8 @@ pub record AreSizes (sizes : Sizes) : Type 0 where
   pub capacity : IsCapacity sizes.capacity
   pub sessions : IsCount sizes.sessions
 
--- the passes of sessions 1 to the last, in order, each of this log and with nothing seen
+-- the log has this capacity and this number of sessions, both in range; the passes are of sessions 1 to the last, in
+-- order, each of this log and with nothing seen
 pub record Opens {Pass : Type 0} (belongs_to : Pass → LogIdentity) (known : Pass → Known) (capacity sessions : ℕ)
     (identity : LogIdentity)
     (passes : List Pass) : Type 0 where
@@ -34,7 +35,8 @@ pub record Opens {Pass : Type 0} (belongs_to : Pass → LogIdentity) (known : Pa
   pub belongs : All (λ pass. belongs_to pass ≡ identity) passes
   pub numbers : (index : ℕ) (pass : Pass) → slice_get passes index ≡ Some pass → known pass ≡ newcomer (index + 1)
 
--- why a log of these sizes isn't opened, in the order of test
+-- why a log of these sizes isn't opened, in the order of test: a size is out of range only if the one tested before it
+-- isn't; no memory is the reason only if both are in range
 abbrev pub Refuses : ℕ → ℕ → OpenFault → Type 0
 Refuses capacity sessions CapacityOutOfRange = IsCapacity capacity → ⊥
 Refuses capacity sessions SessionsOutOfRange = IsCapacity capacity × (IsCount sessions → ⊥)

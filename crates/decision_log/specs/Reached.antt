@@ -10,12 +10,13 @@ abbrev pub session_of : Event → ℕ
 session_of (Look session) = session
 session_of (Add session entry) = session
 
--- the sessions are 1 to a number
+-- each event is of a session from 1 to this number
 abbrev pub EventsOf : ℕ → List Event → Type 0
 EventsOf sessions [] = Unit {0}
 EventsOf sessions (event ∷ events) = (1 ≤ session_of event) × (session_of event ≤ sessions) × EventsOf sessions events
 
--- the machine's history, and what its sessions 1 to a number know, come of events of these sessions from the start
+-- events of sessions 1 to this number lead from the start to a machine with the same history and capacity, in which
+-- these sessions know the same; what others know isn't asked
 pub record IsReached (sessions : ℕ) (machine : Machine) : Type 0 where
   pub events : List Event
   pub own : EventsOf sessions events

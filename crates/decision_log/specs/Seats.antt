@@ -26,12 +26,12 @@ use Rattle.decision_log.specs.declared.sizes.Sizes.{Sizes}
 use Rattle.decision_log.specs.declared.view.SeatView.{SeatView}
 use Rattle.decision_log.specs.declared.view.SeatView.TheVariants.{Empty, Single, Pair, Unissued}
 
--- a pass that hasn't been given out
+-- the pass of a number before it is given out, by the log's sizes
 abbrev pub newcomer_view : ℕ → ℕ → ℕ → PassView
 newcomer_view sessions capacity number =
     record { known = newcomer number; sessions = sessions; capacity = capacity; draft = []; turn = Without }
 
--- the pass of the next number
+-- the pass of the next number, not yet given out
 abbrev pub following : PassView → PassView
 following pass_view = newcomer_view pass_view.sessions pass_view.capacity (pass_view.known.number + 1)
 
@@ -39,25 +39,25 @@ following pass_view = newcomer_view pass_view.sessions pass_view.capacity (pass_
 abbrev pub all_passes : Sizes → SeatView
 all_passes sizes = Unissued (newcomer_view sizes.sessions sizes.capacity 1)
 
--- a seat's pass; any, if it knows none
+-- the pass that a seat knows: the first of two, the next of those not yet issued, a made-up one if it knows none
 abbrev pub pass_view_of : SeatView → PassView
 pass_view_of Empty = newcomer_view 0 0 0
 pass_view_of (Single pass_view) = pass_view
 pass_view_of (Pair first second) = first
 pass_view_of (Unissued pass_view) = pass_view
 
--- the second of a seat's two passes; any, if it doesn't know two
+-- the second of a seat's two passes; it says nothing if the seat doesn't know two
 abbrev pub second_of : SeatView → PassView
 second_of Empty = newcomer_view 0 0 0
 second_of (Single pass_view) = pass_view
 second_of (Pair first second) = second
 second_of (Unissued pass_view) = pass_view
 
--- the pass that a seat knows
+-- the pass that a seat's value knows, as `pass_view_of` says
 abbrev pub pass_view : Seat Entry SeatView → PassView
 pass_view seat = pass_view_of seat.me.0
 
--- the second pass that a seat knows
+-- the second of the two passes that a seat's value knows
 abbrev pub second : Seat Entry SeatView → PassView
 second seat = second_of seat.me.0
 
@@ -65,11 +65,11 @@ second seat = second_of seat.me.0
 abbrev pub seated : PassView → Me Entry SeatView
 seated pass_view = (Single pass_view, [])
 
--- a seat that knows two passes
+-- a seat that knows two passes, and holds no slot
 abbrev pub seated_two : PassView → PassView → Me Entry SeatView
 seated_two first second = (Pair first second, [])
 
--- a seat that knows the passes that weren't given out
+-- a seat that knows the passes that weren't given out, from this one on
 abbrev pub seated_rest : PassView → Me Entry SeatView
 seated_rest pass_view = (Unissued pass_view, [])
 
@@ -91,7 +91,8 @@ right_of (Single pass_view) = Empty
 right_of (Pair first second) = Single second
 right_of (Unissued pass_view) = Single pass_view
 
--- what a seat with one pass knows after it has taken in another such seat: both passes; no other seats are joined
+-- what a seat with one pass knows after it has taken in another such seat: both passes; no other seats are joined, and
+-- of those this is `Empty`
 abbrev pub both_of : SeatView → SeatView → SeatView
 both_of (Single first) (Single second) = Pair first second
 both_of first second = Empty

@@ -1,4 +1,4 @@
--- Each step of a log with a turn raises the counts of its pass as it should.
+-- Each step of a log with a turn raises the counts of its pass (`looks`, `tries` and `since`) as `Counts` says.
 --     see_counts, read_counts, take_counts, draft_counts, publish_counts, release_counts     the laws of the
 --                                                                                            transitions
 --     tried_counts    an exchange of the turn's word, won or lost
@@ -15,7 +15,7 @@ use Rattle.decision_log.specs.Counted.{IsCounted, leaves_counts, counts_at_load,
 use Rattle.decision_log.specs.TurnRule.{turn_word, count_for}
 use Rattle.decision_log.specs.TurnTransitions.{tried, Sees, Reads, Takes, Drafts, Publishes, Releases}
 
--- the load that sees the newest count is a look, and counts as one
+-- `Sees`, the load of how many entries there are, is a look, and raises the counts as a look does
 pub see_counts : IsCounted count_for turn_word (AtLoad Sees)
 see_counts =
     counts_at_load Sees
@@ -25,7 +25,7 @@ see_counts =
       since = ((λ _. ap (λ h. h.known.since) is.2), (λ never. absurd never), (λ other _. absurd (other is.0)));
     })
 
--- the load of an entry's word is no look and no try
+-- `Reads`, the load of an entry's word, is no look and no try, and leaves the counts
 pub read_counts : IsCounted count_for turn_word (AtLoad Reads)
 read_counts =
     counts_at_load Reads
@@ -33,7 +33,7 @@ read_counts =
     (ap (λ h. h.known.tries) is.1) (ap (λ h. h.known.since) is.1) is.0
     (λ never. never))
 
--- an exchange of the turn's word counts as a try, won or lost
+-- an exchange of the turn's word, after which the pass is `tried`, raises the counts as a try does, won or lost
 tried_counts : (word from to : ℕ) (said : Option Entry) (old : PassView) (found : ℕ) (new : PassView) {turn : Turn}
     → word ≡ turn_word → new ≡ tried old turn
     → Counts count_for turn_word (Exchange word from to said) found old new
@@ -43,7 +43,8 @@ tried_counts word from to said old found new at is = record {
   since = ((λ never. absurd never), (λ _. ap (λ h. h.known.since) is), (λ _ other. absurd (other at)));
 }
 
--- the exchange of the turn's word is a try, whether it takes the turn (it finds 0) or loses it
+-- `Takes`, the exchange of the turn's word, is a try, whether it gets the turn (it finds 0) or not, and raises the
+-- counts as a try does
 pub take_counts : IsCounted count_for turn_word (AtExchange Takes)
 take_counts =
     counts_at_exchange Takes
@@ -51,21 +52,21 @@ take_counts =
     (λ free. tried_counts word from to said old found new is.0 (is.3 free))
     (λ taken. tried_counts word from to said old found new is.0 (is.4 taken)))
 
--- storing a word of an entry that isn't published yet leaves the counts: a store neither looks nor tries
+-- `Drafts`, a store of a word of an entry that isn't published yet, leaves the counts: a store neither looks nor tries
 pub draft_counts : IsCounted count_for turn_word (AtStore Drafts)
 draft_counts =
     counts_at_store Drafts
     (λ word value old found new is.
     (ap (λ h. h.known.looks) is, ap (λ h. h.known.tries) is, ap (λ h. h.known.since) is))
 
--- the store of the count, which publishes an entry, leaves the counts: a store neither looks nor tries
+-- `Publishes`, the store of how many entries there are, leaves the counts: a store neither looks nor tries
 pub publish_counts : IsCounted count_for turn_word (AtStore Publishes)
 publish_counts =
     counts_at_store Publishes
     (λ word value old found new is.
     (ap (λ h. h.known.looks) is.5, ap (λ h. h.known.tries) is.5, ap (λ h. h.known.since) is.5))
 
--- the store that gives the turn back leaves the counts
+-- `Releases`, the store that gives the turn back, leaves the counts: a store neither looks nor tries
 pub release_counts : IsCounted count_for turn_word (AtStore Releases)
 release_counts =
     counts_at_store Releases

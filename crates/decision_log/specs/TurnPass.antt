@@ -12,7 +12,7 @@ use Rattle.decision_log.specs.Seats.{pass_view_of}
 abbrev pub identity_of : TurnLog → LogIdentity
 identity_of log = record { table = log.table.inner.shared.table_id; sessions = log.sessions; capacity = log.capacity }
 
--- the table of its seat, and the sizes that it was given
+-- of which log the pass is: the table of its seat, and the log's sizes, as the seat knows them
 abbrev pub log_of : TurnPass → LogIdentity
 log_of pass =
     record {

@@ -26,7 +26,7 @@ row_at place = 2 + place * 21
 abbrev pub turn_word : ℕ
 turn_word = 1
 
--- the count of entries if the pass has seen the whole history
+-- what the count of entries, word 0, is if the pass has seen the whole history
 abbrev pub count_for : PassView → ℕ
 count_for pass_view = length pass_view.known.seen
 
@@ -37,8 +37,8 @@ pub record HasRows (sizes : Sizes) (words : List ℕ) (log : List Entry) : Type 
   pub rows : (place : ℕ) (entry : Entry) → slice_get log place ≡ Some entry
       → HasWordsAt words (row_at place) (words_of entry)
 
--- without the turn there is no draft; just won, there is none either, and the turn's word is the pass's number;
--- fresh, it is too, and the pass has seen the whole history
+-- `Without` the turn there is no draft; `Won`, just taken, there is none either, and the turn's word is the pass's
+-- number; `Fresh`, the turn's word is the pass's number, and the pass has seen the whole history
 abbrev pub HasTurn : List ℕ → List Entry → PassView → Turn → Type 0
 HasTurn words log pass_view Without = pass_view.draft ≡ []
 HasTurn words log pass_view Won = (pass_view.draft ≡ []) × (slice_index words 1 ≡ pass_view.known.number)

@@ -15,7 +15,7 @@ use Rattle.decision_log.specs.Draft.{drafted}
 use Rattle.decision_log.specs.Observed.{HistoryIs}
 use Rattle.decision_log.specs.TurnRule.{row_at, turn_word}
 
--- a pass that has the turn and looks is fresh
+-- a pass's turn after a look: a pass that has the turn is fresh then; without the turn nothing changes
 abbrev pub looked_turn : Turn → Turn
 looked_turn Without = Without
 looked_turn Won = Fresh
@@ -58,7 +58,7 @@ tried h turn = record {
   turn = turn;
 }
 
--- the pass after its entry was appended; it still has the turn
+-- the pass after its entry was appended, which it has seen; it has no draft, and still has the turn
 abbrev pub published : PassView → Entry → PassView
 published h entry = record {
   known =
@@ -80,12 +80,13 @@ published h entry = record {
 abbrev pub released : PassView → PassView
 released h = record { known = h.known; sessions = h.sessions; capacity = h.capacity; draft = []; turn = Without }
 
--- a load of word 0, the count
+-- a load of word 0, which finds how many entries there are: the pass has looked, and sees the history of that length
 abbrev pub Sees : ℕ → PassView → ℕ → PassView → Type 0
 Sees word old found new =
     (word ≡ 0) × (seen : List Entry) × (new ≡ with_look old seen) × (found ≡ length seen) × HistoryIs old seen
 
--- a load of a word after the count; in a row that was seen, it is the entry's word
+-- a load of a word after word 0, which changes nothing: in the row of an entry that the pass has seen, it finds the
+-- entry's word
 abbrev pub Reads : ℕ → PassView → ℕ → PassView → Type 0
 Reads word old found new =
     (word ≢ 0) × (new ≡ old)
@@ -109,6 +110,6 @@ Publishes word value old found new =
     (word ≡ 0) × (value ≡ length old.known.seen + 1) × (entry : Entry) × IsEntry entry × (old.draft ≡ words_of entry)
     × (new ≡ published old entry)
 
--- a store of 0 to the turn's word
+-- a store of 0 to the turn's word, which gives the turn back
 abbrev pub Releases : ℕ → ℕ → PassView → ℕ → PassView → Type 0
 Releases word value old found new = (word ≡ turn_word) × (value ≡ 0) × (new ≡ released old)

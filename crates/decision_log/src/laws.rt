@@ -17,7 +17,7 @@ ghost use Rattle.decision_log.specs.Passes.{HasPasses};
 ghost use Rattle.decision_log.specs.Atomic.{Atomic, Exchange, Does, Counts};
 ghost use Rattle.decision_log.specs.TurnRule.{row_at, turn_word, count_for, TurnRule};
 
-/// States that the entries of a session's number in what it has seen are its own, whatever happens.
+/// States that after any looks and appends, the entries of a session's number in what it has seen are its own.
 ///
 /// Takes no memory. Doesn't wait.
 /// Own rule: docs/INTERNALS.md#what-a-log-promises.
@@ -29,7 +29,7 @@ pub fn mine_is_the_own_part_of_seen()
         → entries_of session (machine.knows session).seen ≡ (machine.knows session).mine }
 {}
 
-/// States that what each session knows fits the history, whatever happens.
+/// States that after any looks and appends, what each session knows fits the history.
 ///
 /// Takes no memory. Doesn't wait.
 /// Own rule: docs/INTERNALS.md#what-a-log-promises.
@@ -41,10 +41,10 @@ pub fn what_happens_leads_to_states()
         → IsState machine }
 {}
 
-/// States the converse: if what each session knows fits the history, looks and appends lead there.
+/// States the converse: if what each session knows fits the history, looks and appends lead to that history, and to
+/// what sessions 1 to a number know.
 ///
-/// All entries of the history are of sessions 1 to a number, and so are the looks and appends. Takes no
-/// memory. Doesn't wait.
+/// All entries of the history are of these sessions, and so are the looks and appends. Takes no memory. Doesn't wait.
 /// Own rule: docs/INTERNALS.md#what-a-log-promises.
 pub fn states_are_reached()
     // Proved (log, machine-states)
@@ -65,7 +65,7 @@ pub fn passes_are_sessions_of_the_machine()
 
 /// States that taking the turn and giving it back leave the history unchanged.
 ///
-/// Takes no memory. Doesn't wait.
+/// The rule is taken to hold before and after the step. Takes no memory. Doesn't wait.
 /// Own rule: docs/INTERNALS.md#the-log-with-a-turn.
 pub fn turn_keeps_the_history()
     // Proved (log, steps-keep-the-history): No step that changes a word changes an entry of the history or
@@ -79,8 +79,8 @@ pub fn turn_keeps_the_history()
 
 /// States that a word stored by the pass with the turn leaves the history unchanged.
 ///
-/// The pass has looked since it took the turn, and the word is in the row after all that it has seen. Takes
-/// no memory. Doesn't wait.
+/// The pass has looked since it took the turn, and the word is in the row after all that it has seen. The rule is taken
+/// to hold before and after the store. Takes no memory. Doesn't wait.
 /// Own rule: docs/INTERNALS.md#the-log-with-a-turn.
 pub fn store_keeps_the_history()
     // Proved (log, steps-keep-the-history)
@@ -97,7 +97,8 @@ pub fn store_keeps_the_history()
 
 /// States that the count stored by the pass with the turn, one higher, appends the entry of its draft.
 ///
-/// The pass has looked since it took the turn. Takes no memory. Doesn't wait.
+/// The pass has looked since it took the turn. The rule is taken to hold before and after the store. Takes no memory.
+/// Doesn't wait.
 /// Own rule: docs/INTERNALS.md#the-log-with-a-turn.
 pub fn stored_count_adds_its_entry()
     // Proved (log, steps-keep-the-history)

@@ -1,5 +1,5 @@
 //! The history that threads share. The trait `DecisionLog` is what a log promises to a session; `TurnLog`
-//! is a log in which a pass takes a turn before it appends. README.md has an example, and how to add a log.
+//! is a log in which a pass takes the turn before it appends. README.md has an example, and how to add a log.
 //!
 //! Read first: docs/INTERNALS.md#what-a-log-promises, docs/INTERNALS.md#what-both-logs-share and
 //! docs/INTERNALS.md#the-log-with-a-turn; then src/log.rt, specs/Calls.antt, specs/LogRule.antt,

@@ -14,8 +14,8 @@ use xa_xid::SessionNo;
 ///
 /// A contract sees what a pass has seen of the history (`seen`, a prefix of it), the history's entries of
 /// the pass's own number (`mine`), and how often the pass has looked and tried (`looks`, `tries`, `since`).
-/// Each call requires that the pass came from this log's `open`, `belongs_to pass ≡ identity log`, and
-/// keeps that.
+/// Each call with a pass requires that the pass came from this log's `open`, `belongs_to pass ≡ identity log`,
+/// and keeps that.
 ///
 /// No call takes memory, and none waits.
 /// Own rule: docs/INTERNALS.md#what-a-log-promises.

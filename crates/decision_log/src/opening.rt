@@ -62,7 +62,7 @@ pub fn open_seats<R: LogWords, P: SeatedPass + Drop>(
     Ok((table, passes))
 }
 
-/// Makes the words, and the seat that knows all passes.
+/// Makes the table of `word_count` words, all 0, and the seat that knows all passes. May return `AllocError`.
 fn lay_out<R: LogWords>(
     alloc: Global,
     sizes: &Sizes,
@@ -78,7 +78,8 @@ fn lay_out<R: LogWords>(
     LogTable::of_words(alloc, &words, sizes)
 }
 
-/// Issues the passes of sessions 1 to `sizes.sessions`, in order, from `rest`, the seat that knows all of them.
+/// Issues the passes of sessions 1 to `sizes.sessions`, in order, from `rest`, the seat that knows all of them. May
+/// return `AllocError`.
 fn deal_all<R: LogWords, P: SeatedPass + Drop>(
     alloc: Global,
     table: &LogTable<R>,

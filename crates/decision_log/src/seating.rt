@@ -7,9 +7,9 @@ use atomic_table::{Join, Split};
 
 /// How seats are split and joined.
 ///
-/// A seat with two passes is split into one for each, a seat with one pass into itself and an empty one. The seat of
-/// the passes that aren't issued is split into itself, with those after the next, and a seat of the next. Two seats
-/// with a pass each are joined into one with both.
+/// A seat with two passes is split into one for each, a seat with one pass into itself and an empty one. From the seat
+/// of the passes that aren't issued, the first of them gets a seat of its own, and the others stay. Two seats with a
+/// pass each are joined into one with both.
 pub struct Seating;
 
 impl Split<SeatView> for Seating {

@@ -17,8 +17,8 @@ pub struct Sizes {
     pub capacity: u64,
 }
 
-/// The greatest capacity of a log, in entries. A chain takes all its words at once: with 16 sessions, 1,024 rows
-/// of 22 words each, 3 MB.
+/// The greatest capacity of a log, in entries. A chain takes all its words at once: with 16 sessions, 1,024 rows of 16
+/// cells of 22 words, which are 3 MB.
 pub const MOST_ENTRIES: u64 = 1024;
 
 impl Sizes {

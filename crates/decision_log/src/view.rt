@@ -20,13 +20,15 @@ pub enum Turn {
 pub struct PassView {
     /// What contracts see of the pass.
     pub known: Known,
-    /// How many sessions the log has.
+    /// How many sessions the log has; in a ring with its spares.
     pub sessions: u64,
     /// How many entries the log can have.
     pub capacity: u64,
-    /// The first words of an entry, which the pass has stored but not published.
+    /// The words that the pass has stored and not yet published: those of its next entry, in a chain after the link, in
+    /// a ring after the name and the link. While a ring's pass reads a cell, three numbers stand here instead: where
+    /// the cell begins, the name that was found there, and how many more entries the history had then than were seen.
     pub draft: LinkedList<u64>,
-    /// Whether the pass has the turn.
+    /// Whether the pass has the turn; in a ring, how it reads a cell.
     pub turn: Turn,
 }
 
@@ -38,6 +40,6 @@ pub enum SeatView {
     Single(PassView),
     /// Two passes that meet.
     Pair(PassView, PassView),
-    /// The passes that weren't issued, from this one on.
+    /// The passes not yet issued: this one and those of higher numbers.
     Unissued(PassView),
 }

@@ -92,7 +92,8 @@ module _ (base : State) (runs : List Run) (outcome : Outcome) (lines : Lines) (l
       (lines (place + 1)) is (fresh place run.0 run.1)
       (are.statements place run.0 run.1) (are.answered place given.0 given.1))
 
-  -- so it is for every session: one without a run has no line and no entry
+  -- the lines of each session are what remains at the history's beginning; a session without a run has no line and no
+  -- entry
   remains : (session : ℕ) → IsSession session
       → Remains spoken base outcome.history.items 0 session (lines session)
   remains zero is = absurd (omega (arith, is.0))
@@ -104,7 +105,7 @@ module _ (base : State) (runs : List Run) (outcome : Outcome) (lines : Lines) (l
         (omega arith))
   ]
 
-  -- what isn't a session's number has no lines
+  -- if there are at most 16 runs, what isn't a session's number has no lines
   outside : length runs ≤ 16 → (session : ℕ) → (IsSession session → ⊥) → lines session ≡ []
   outside few zero out = are.none
   outside few (suc place) out = elim (cases_lt place 16) [
@@ -113,7 +114,7 @@ module _ (base : State) (runs : List Run) (outcome : Outcome) (lines : Lines) (l
     | inr high ↦ are.past (suc place) (omega arith)
   ]
 
-  -- the lines can be written down as overlapping calls so that they are explained
+  -- if there are at most 16 runs, the lines can be written down as overlapping calls so that they are explained
   pub outcome_explained : length runs ≤ 16 → IsExplainedOverlap base lines
   outcome_explained few =
       overlap_explained base outcome.history.items lines

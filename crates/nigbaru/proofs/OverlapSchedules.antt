@@ -1,4 +1,5 @@
 -- The order in which the calls of a race's runs return.
+--     spoken                 what a line says, and was answered
 --     StandsWithin           the sessions stand as `Stands` says, and only they have lines
 --     overlap_explained      the lines can be written down so that they are explained
 use Rattle.std.proofs.Common.{◌≡◌, ◌⊎◌, ℕ, zero, suc, ◌+◌, ◌++◌, ◌∷◌, Some, List, [], length, refl, sym, ◌∙◌, subst}
@@ -37,7 +38,8 @@ outside_with lines session rest is outside other out =
     lines_other lines session other rest (λ same. out (subst (λ (n : ℕ). IsSession n) (sym same) is))
     ∙ outside other out
 
--- `emits`, with `StandsWithin` in place of `Stands`
+-- if a session's first line got the server's reply in this state, the lines can be written down, if the rest can from
+-- each configuration with the state after that line (as `emits`, with `StandsWithin` in place of `Stands`)
 next : (lines : Lines) (session : ℕ) (line : RunLine) (rest : List RunLine) (config : Config) → IsSession session
     → lines session ≡ line ∷ rest → StandsWithin lines config
     → line.answer.reply ≡ reply_to config.state session line.statement

@@ -1,13 +1,16 @@
 -- One line of a session: its statement takes effect, its call returns, and the session calls for the next one.
 --     RunsOn             some moves lead through the events
---     client_of        what a session is about that has these lines left
+--     client_of          what a session is about that has these lines left
 --     Stands             each session is about what its lines that are left say
 --     Goes               the lines can be written down so that they are explained
 --     effected, idle_again     the configuration after a statement took effect;  after its call returned, too
+--     GoesNext           from where a session is idle, its next call and all lines that are left can be written down
 --     emits              the first line of a session takes effect and returns
 --     HaveCalled         the sessions above a number have called for their first lines
+--     BegunOne, Begun    one session more has called;  the sessions up to a number have called, too
 --     begins             each session calls for its first line
 --     none_called        before the first call every session is idle
+--     opening-state      the first configuration has the store's base as its state
 use Rattle.std.proofs.Common.{◌≡◌, ◌≢◌, ℕ, zero, suc, ◌<◌, ◌≤◌, true, cond, Option, Some, None, List, [], ◌∷◌, ◌++◌}
 use Rattle.std.proofs.Common.{set, replicate, refl, ap, sym, ◌∙◌, subst, inl, inr}
 use Rattle.std.proofs.Common.{arith, append_assoc}
@@ -129,7 +132,7 @@ idle_there config session line found =
     (Answered (Replied (reply_to config.state session line.statement))) Idle
     (answered_there config session line found)
 
--- after that the other sessions' clients are as before
+-- after a session's statement took effect and its call returned the clients of the other sessions are as before
 others_there : (config : Config) (session : ℕ) (line : RunLine) (other : ℕ) → session ≢ other
     → slice_get (idle_again config session line).clients other ≡ slice_get config.clients other
 others_there config session line other apart =
@@ -176,8 +179,8 @@ goes_next lines session line (second ∷ rest) config stands found go =
       };
     }
 
--- the first line of a session got the server's reply in this state: its statement takes effect now, and its call
--- returns. So the lines can be written down if the rest can, from the state after it on
+-- if the first line of a session got the server's reply in this state, its statement can take effect now, and its
+-- call return: so the lines can be written down if the rest can, from the state after it on
 pub emits : (lines : Lines) (session : ℕ) (line : RunLine) (rest : List RunLine) (config : Config) → IsSession session
     → lines session ≡ line ∷ rest
     → Stands lines config → line.answer.reply ≡ reply_to config.state session line.statement
@@ -226,7 +229,8 @@ pub record BegunOne (count : ℕ) (lines : Lines) (config : Config) (left : List
   pub called : HaveCalled count lines new
   pub back : (events : List Event) → RunsOn new events → RunsOn config (next_call (suc count) left ++ events)
 
--- the step: one session more calls for its first line, if it has one, before anything takes effect
+-- if the sessions above `count + 1` have called for their first lines, that session can call for its first one, too,
+-- where it has one, before anything takes effect
 begins_one : (count : ℕ) → count < 16 → (lines : Lines) (config : Config) (left : List RunLine)
     → lines (suc count) ≡ left → HaveCalled (suc count) lines config
     → BegunOne count lines config left

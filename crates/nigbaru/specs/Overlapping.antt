@@ -35,12 +35,12 @@ pub record RunLine : Type 0 where
 abbrev pub Lines : Type 0
 Lines = ℕ → List RunLine
 
--- the session calls for the first of these lines, if there is one
+-- the session's call for the first of these lines, as a list of one event; no event if there is no line
 abbrev pub next_call : ℕ → List RunLine → List Event
 next_call session [] = []
 next_call session (line ∷ lines) = Call session (Given line.statement) ∷ []
 
--- the sessions from this number down to 1 call for their first lines
+-- the calls of the sessions from this number down to 1 for their first lines; a session without a line makes none
 unfoldable pub first_calls : ℕ → Lines → List Event
 first_calls zero lines = []
 first_calls (suc count) lines = next_call (suc count) (lines (suc count)) ++ first_calls count lines
@@ -54,7 +54,8 @@ pub data Overlap : Lines → List Event → Type 0 where
       → Overlap (with_lines lines session rest) events
       → Overlap lines (Return session line.seen ∷ (next_call session rest ++ events))
 
--- written down as overlapping calls, in some order of the returns, the lines make a record that is explained
+-- written down as overlapping calls, in some order of the returns, the lines make a record that is explained from this
+-- base
 abbrev pub IsExplainedOverlap : State → Lines → Type 0
 IsExplainedOverlap base lines =
     (events : List Event) × Overlap lines events × Explained base (first_calls 16 lines ++ events)

@@ -18,11 +18,12 @@ use Rattle.nigbaru_c.specs.contracts.chair.Chair.{the_row}
 abbrev pub heap : Global
 heap = record { memory = record { seal = tt } }
 
--- what a box of a chair owns
+-- the box at this address, from the C library's heap, holds this chair (what a handle points to), with the right to
+-- free the box
 abbrev pub boxed : Ptr → the_row.Denot → Fml
 boxed = box_owns (ghosts.dealloc_token heap) the_row
 
--- a box's value and the right to free it, or nothing at null
+-- what a handle with this address owns: the box of its chair and the right to free it, or nothing at null
 abbrev pub holds : Ptr → Option the_row.Denot → Fml
 holds at None = fex (at ≡ null_ptr) (λ _. ftrue)
 holds at (Some chair) = boxed at chair

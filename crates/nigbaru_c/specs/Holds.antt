@@ -8,7 +8,7 @@ use Rattle.nigbaru_c.specs.declared.chair.Chair.{Chair}
 use Rattle.nigbaru_c.specs.declared.hold.Hold.{Hold}
 use Rattle.nigbaru_c.specs.declared.hold.Hold.TheVariants.{Store, Session}
 
--- the session that a box holds, if it holds one
+-- the session that a box holds, if it holds one; a box may hold a store, or during a call nothing
 abbrev pub session_in : Option Hold → Option EndlessSession
 session_in None = None
 session_in (Some (Store store)) = None
@@ -19,7 +19,7 @@ abbrev pub session_of : Option Chair → Option EndlessSession
 session_of None = None
 session_of (Some chair) = session_in chair.hold
 
--- the store that a box holds, if it holds one
+-- the store that a box holds, if it holds one; a box may hold a session, or during a call nothing
 abbrev pub store_in : Option Hold → Option EndlessStore
 store_in None = None
 store_in (Some (Store store)) = Some store.value

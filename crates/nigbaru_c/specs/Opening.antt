@@ -8,7 +8,7 @@ use Rattle.xa_endless.specs.Opens.{Opens}
 use Rattle.xa_endless.specs.declared.store.EndlessStore.{EndlessStore}
 use Rattle.nigbaru_c.specs.declared.chair.Chair.{Chair}
 
--- a store of so many rows and sessions is held
+-- a store is held, and is one that opening with so many rows and sessions gives
 abbrev pub Opened : ℕ → ℕ → Option EndlessStore → Type 0
 Opened rows sessions None = ⊥
 Opened rows sessions (Some store) = Opens rows sessions store

@@ -45,7 +45,7 @@ status_of (Misspelled fault) = 8
 status_of Vacant = 9
 status_of OutOfRange = 10
 
--- the formatID of a statement about a branch is below 2^63, as C's type has it
+-- the formatID of a statement about a branch is below 2^63, as C's type has it; of others nothing is asked
 abbrev pub Fits : Statement → Type 0
 Fits (Start xid) = xid.format_id < 2 ^ 63
 Fits (End xid) = xid.format_id < 2 ^ 63
@@ -59,14 +59,16 @@ Fits (Put key value) = Unit {0}
 Fits (Del key) = Unit {0}
 Fits Disconnect = Unit {0}
 
--- one try: the session is of its store, the statement is answered or not for a cause, and at most one exchange was made
+-- one try: the session is of its store, the statement is answered or not for a cause, and the pass has looked, and has
+-- tried to append at most once
 pub record HasTried (statement : Statement) (result : Result Answer EndlessFault)
     (old new : EndlessSession) : Type 0 where
   pub stays : Stays old new
   pub finds : Finds old.store.value.log statement result new.member.replica old.member.pass new.member.pass
   pub once : TriesOnce result (known_of old.member.pass) (known_of new.member.pass)
 
--- one try at a statement: it was answered, or not for a cause, or its formatID is too large, and nothing changed
+-- one try at a statement, by the outcome: it was answered; it wasn't, for a cause; or its formatID is too large, and
+-- the session is unchanged. No other outcome comes of a try
 abbrev pub Tried : Statement → Outcome → EndlessSession → EndlessSession → Type 0
 Tried statement (Answered answer) old new = HasTried statement (Ok answer) old new
 Tried statement (Unanswered fault) old new = HasTried statement (Err fault) old new
@@ -74,19 +76,22 @@ Tried statement (Misspelled fault) old new = ⊥
 Tried statement Vacant old new = ⊥
 Tried statement OutOfRange old new = (Fits statement → ⊥) × (new ≡ old)
 
--- a statement was tried, and answered or not for a cause, if a session is held; there is no other outcome
+-- a statement was tried if a session is held, and was answered, or wasn't for a cause; else the outcome is Vacant,
+-- and no session is held afterwards. There is no other outcome
 abbrev pub Attempts : Statement → Outcome → Option EndlessSession → Option EndlessSession → Type 0
 Attempts statement Vacant None None = Unit {0}
 Attempts statement (Answered answer) (Some old) (Some new) = Tried statement (Answered answer) old new
 Attempts statement (Unanswered fault) (Some old) (Some new) = Tried statement (Unanswered fault) old new
 Attempts statement outcome old new = ⊥
 
--- the text spells a statement, which was tried, or it has a fault at this place, and nothing changed
+-- what a text did to the session, by the outcome: if Misspelled, the text has its fault at this place, and the session
+-- is unchanged; else the text spells a statement, which was tried with this outcome
 abbrev pub Goes : List ℕ → Outcome → EndlessSession → EndlessSession → Type 0
 Goes text (Misspelled fault) old new = FaultAt text fault.at × (new ≡ old)
 Goes text outcome old new = (statement : Statement) × Spells text statement × Tried statement outcome old new
 
--- what a call comes to, by what its handle holds; without a session nothing changes
+-- what a text did, by what the handle of its call holds: to a session as `Goes` says; without one the outcome is
+-- Vacant, and no session is held afterwards
 abbrev pub Comes : List ℕ → Outcome → Option EndlessSession → Option EndlessSession → Type 0
 Comes text Vacant None None = Unit {0}
 Comes text outcome (Some old) (Some new) = Goes text outcome old new

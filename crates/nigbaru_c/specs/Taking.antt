@@ -25,7 +25,8 @@ abbrev pub IsNumber : ℕ → EndlessStore → Type 0
 IsNumber number store = (1 ≤ number) × (number ≤ store.log.sessions)
 
 -- 13 is returned only if the handle that is to be filled held something, 10 only if it held nothing and the store has
--- no such session; 7, for memory, 11, if somebody has the session, and 0 only if both tests were passed
+-- no such session; 7, for memory, 11, for a session that somebody has or is just giving back, and 0 only if both tests
+-- were passed
 pub record IsSeatStatus (number : ℕ) (store : EndlessStore) (held : Option Chair) (status : ℕ) : Type 0 where
   pub some : (status ≡ 0) ⊎ ((status ≡ 13) ⊎ ((status ≡ 10) ⊎ ((status ≡ 7) ⊎ (status ≡ 11))))
   pub held_is : status ≡ 13 → held ≢ None

@@ -1,8 +1,8 @@
 -- How an outcome is written into the structures of C.
---     TellsReply, TellsPlace      the fields of a reply, or none of it
+--     TellsReply, TellsPlace      the fields of a reply;  a place, and no field of a reply
 --     Tells            all fields of an outcome
 --     IsLaid           an identifier as X/Open lays it out
---     LaidOut          identifiers, as many as there is room for
+--     LaidOut          identifiers, as many as there is room for, and the rest as it was
 --     ListsReply, Lists      the identifiers of a reply, or of an outcome
 use Rattle.std.specs.Prelude.{◌≡◌, ◌<◌, ◌≤◌, ◌+◌, ◌^◌, ◌++◌, ℕ, pos, negsuc, List, length, take}
 use Rattle.std.specs.Prelude.{slice_index_or, Option, Some, None}
@@ -15,7 +15,8 @@ use Rattle.nigbaru_c.specs.declared.xid_part.XidPart.{XidPart}
 use Rattle.nigbaru_c.specs.declared.outcome.Outcome.{Outcome}
 use Rattle.nigbaru_c.specs.declared.outcome.Outcome.TheVariants.{Vacant, Misspelled, OutOfRange, Answered, Unanswered}
 
--- the value, the count of identifiers, or the error of a reply, and only that
+-- the reply's value and the value's length, its count of identifiers, or its error, whichever it has; of length, count
+-- and error the rest are 0
 abbrev pub TellsReply : Reply → Told → Type 0
 TellsReply Accepted told = (told.length ≡ 0) × (told.count ≡ 0) × (told.error ≡ 0)
 TellsReply (Value (Some value)) told = (told.length ≡ length value.items) × (take told.length told.value ≡ value.items)
@@ -24,11 +25,12 @@ TellsReply (Value None) told = (told.length ≡ 0) × (told.count ≡ 0) × (tol
 TellsReply (Recovered xids) told = (told.length ≡ 0) × (told.count ≡ length xids) × (told.error ≡ 0)
 TellsReply (Refused error) told = (told.length ≡ 0) × (told.count ≡ 0) × (told.error ≡ number_of error)
 
--- a place, and nothing of a reply
+-- this place, and 0 as the value's length, the count of identifiers and the error
 abbrev pub TellsPlace : ℕ → Told → Type 0
 TellsPlace place told = (told.place ≡ place) × (told.length ≡ 0) × (told.count ≡ 0) × (told.error ≡ 0)
 
--- the place of an answer or of a fault of the text, and the fields of the reply; else 0
+-- after an answer its place and the fields of its reply; after any other outcome no field of a reply, and as the place
+-- that of the fault if the text is misspelled, else 0
 abbrev pub Tells : Outcome → Told → Type 0
 Tells (Answered answer) told = (told.place ≡ answer.place) × TellsReply answer.reply told
 Tells (Misspelled fault) told = TellsPlace fault.at told
@@ -45,7 +47,8 @@ pub record IsLaid (xid : Xid) (part : XidPart) : Type 0 where
   pub bqual : part.bqual_length ≡ pos (length xid.bqual.items)
   pub bytes : take (length (xid.gtrid.items ++ xid.bqual.items)) part.data ≡ xid.gtrid.items ++ xid.bqual.items
 
--- each identifier for which there is room, at its place, and after the last of them what was there
+-- as many parts as before: the k-th has the k-th identifier, if there is one, and those after the last identifier are
+-- as they were
 pub record LaidOut (xids : List Xid) (old new : List XidPart) : Type 0 where
   pub room : length new ≡ length old
   pub each : (k : ℕ) (d : Xid) (e : XidPart) → k < length xids → k < length new

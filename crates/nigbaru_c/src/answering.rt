@@ -8,7 +8,8 @@ use xa_endless::EndlessSession;
 use xa_statement::read_statement;
 use xa_xid::Statement;
 
-/// Whether X/Open's layout can hold the statement's identifier; true if the statement has none.
+/// Whether X/Open's layout, whose formatID is a number of 64 bits with a sign, can hold the statement's identifier;
+/// true if the statement has none.
 fn fits(statement: &Statement) -> bool
     ensures yes { IsTrue result → Fits statement.now }
     ensures no { Fits statement.now → IsTrue result }
@@ -23,7 +24,7 @@ fn fits(statement: &Statement) -> bool
     }
 }
 
-/// Tries a statement once.
+/// Has the session attempt once to answer a statement.
 fn attempt(session: &mut EndlessSession, statement: &Statement) -> Outcome
     ensures { Attempts statement.now result (Some session.old) (Some session.new) }
 {
@@ -33,8 +34,8 @@ fn attempt(session: &mut EndlessSession, statement: &Statement) -> Outcome
     }
 }
 
-/// Tries once the statement that a text spells. If the text spells none, or its formatID is above 2^63 - 1, nothing is
-/// tried.
+/// Has the session attempt once to answer the statement that a text spells. If the text spells none, or its formatID is
+/// above 2^63 - 1, the session does nothing.
 fn answer(session: &mut EndlessSession, text: &[u8]) -> Outcome
     ensures { Comes text.now result (Some session.old) (Some session.new) }
 {
@@ -52,7 +53,8 @@ fn answer(session: &mut EndlessSession, text: &[u8]) -> Outcome
 }
 
 impl Chair {
-    /// Tries once the statement that a text spells, if a session is held; else the outcome is `Vacant`.
+    /// Has the session that is held attempt once to answer the statement that a text spells. If none is held, the
+    /// outcome is `Vacant`.
     pub(crate) fn answer(&mut self, text: &[u8]) -> Outcome
         ensures comes { Comes text.now result (session_in self.old.hold) (session_in self.new.hold) }
         ensures same { session_in self.old.hold ≡ None → self.new.hold ≡ self.old.hold }

@@ -9,7 +9,8 @@ use crate::telling::list;
 use crate::{Handle, Outcome, Told, XidPart};
 use std::alloc::Global;
 
-/// Tries once the statement that a text spells, if the handle holds a session; else the outcome is `Vacant`.
+/// Has the handle's session attempt once to answer the statement that a text spells. If the handle holds no session,
+/// the outcome is `Vacant`.
 fn answer(alloc: Global, session: &mut Handle, text: &[u8]) -> Outcome
     ensures comes { Comes text.now result (session_of session.old.held) (session_of session.new.held) }
     ensures same { session_of session.old.held ≡ None → session.new.held ≡ session.old.held }
@@ -28,9 +29,10 @@ fn answer(alloc: Global, session: &mut Handle, text: &[u8]) -> Outcome
 /// Has a session try once to answer the statement that a text spells. See `nigbaru_attempt` of
 /// `include/nigbaru.h`.
 ///
-/// `session`: a handle. `text`: the statement. `told`: gets the answer. `xids`: gets the identifiers of a
-/// list, as many as there is room for, and is else as before. Returns a status: 0 to 4 with an answer, or in the
-/// order of test `NO_HANDLE`, `SYNTAX`, `OUT_OF_RANGE`, and then `BEHIND`, `NO_MEMORY` or `OVERTAKEN`.
+/// `session`: a handle. `text`: the statement. `told`: gets the answer, or at `SYNTAX` the place of the fault in the
+/// text. `xids`: gets the identifiers of a list, as many as there is room for, and is else as before. Returns a status:
+/// 0 to 4 with an answer, or in the order of test `NO_HANDLE`, `SYNTAX`, `OUT_OF_RANGE`, and then `BEHIND`, `NO_MEMORY`
+/// or `OVERTAKEN`.
 /// After an error nothing of the statement is in the history; the session may have seen more.
 /// May return `NO_MEMORY`. Doesn't wait.
 /// Own rule: docs/EMBEDDING.md#errors.

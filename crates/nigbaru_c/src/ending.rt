@@ -37,7 +37,7 @@ pub extern "C" fn nigbaru_raw_leave(alloc: Global, session: &mut Handle) -> u32
     }
 }
 
-/// Ends a store's handle, which is empty then. See `nigbaru_close` of `include/nigbaru.h`.
+/// Empties a store's handle. See `nigbaru_close` of `include/nigbaru.h`.
 ///
 /// Returns 0, or `NO_HANDLE` if no store is held, after which the handle is as before.
 /// Nothing is logged. Takes no memory. Doesn't wait.

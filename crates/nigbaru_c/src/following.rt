@@ -13,7 +13,7 @@ use xa_endless::Next;
 use xa_words::Entry;
 
 impl Handed {
-    /// What C gets without an entry: 0, and how many entries are lost.
+    /// What C gets without an entry: how many entries are lost, and 0 as the session's number and the text's length.
     fn none(lost: u64) -> Handed
         ensures { (result.number ≡ 0) × (result.length ≡ 0) × (result.lost ≡ lost) }
     {

@@ -10,6 +10,6 @@ pub struct Handed {
     pub length: u64,
     /// How many entries are counted as lost (`Next::Lost`), or 0.
     pub lost: u64,
-    /// The statement's canonical text.
+    /// The statement's canonical text in the first `length` bytes, and zeros after it.
     pub text: [u8; 304],
 }

@@ -1,7 +1,7 @@
 //! A store that is called from C: handles that C keeps, and the calls of `include/nigbaru.h`.
 //!
 //! A handle is null, or points to a box (`Chair`) with a store or a session of `xa_endless` (`Hold`). A session owns
-//! its store together with the store's other sessions.
+//! its store together with the store's other sessions, and with the store's handle until that is closed.
 //! Read `include/nigbaru.h` first, then `specs/Outcome.antt`, `src/attempting.rt` and `src/handle.rt`.
 #![tactic(auto)]
 

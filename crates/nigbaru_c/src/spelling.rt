@@ -9,7 +9,7 @@ use arrayvec::ArrayVec;
 use itoa::Buffer;
 use xa_xid::{Statement, Xid};
 
-/// Two lower-case hexadecimal digits for each byte.
+/// Two lower-case hexadecimal digits for each of at most 64 bytes.
 fn small_digits(bytes: &[u8]) -> ArrayVec<u8, 128>
     requires { length bytes.now ≤ text_bytes }
     ensures { result.items ≡ encode_lower bytes.now }
@@ -71,14 +71,15 @@ fn spell_xid(xid: &Xid) -> ArrayVec<u8, 282>
     text
 }
 
-/// A text of a statement's identifier, key or pair, with the statement's words before and after it.
+/// A statement's words `before`, then `text`, which is its identifier, key or pair or more words, then words `after`.
 fn between(before: &[u8], text: &[u8], after: &[u8]) -> ArrayVec<u8, 304>
     requires before { length before.now ≤ 12 }
     requires text { length text.now ≤ 282 }
     requires after { length after.now ≤ 10 }
     ensures { result.items ≡ before.now ++ (text.now ++ after.now) }
 {
-    // 304 is the sum of the three bounds, so nothing here can be refused.
+    // The longest words and identifier are `XA ROLLBACK ` with 12 bytes, 282 bytes and ` ONE PHASE` with 10. Together
+    // these are 304, so nothing here can be refused.
     let mut whole = ArrayVec::<u8, 304>::new();
     whole.try_extend_from_slice(before).unwrap();
     whole.try_extend_from_slice(text).unwrap();

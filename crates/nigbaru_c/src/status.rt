@@ -1,4 +1,5 @@
-//! The statuses, as `include/nigbaru.h` has them.
+//! The statuses, as `include/nigbaru.h` has them. The header's own functions return two more, 14 and 15, before they
+//! call this crate.
 
 /// The call was carried out, or the reply is OK.
 pub(crate) const OK: u32 = 0;
@@ -36,5 +37,5 @@ pub(crate) const NO_SESSION: u32 = 11;
 /// The handle that is to be filled holds something.
 pub(crate) const HELD: u32 = 13;
 
-/// Entries that the session needs were lost, and no checkpoint helped.
+/// Entries that the session needs were lost, and no checkpoint helped; of following, that entries are counted as lost.
 pub(crate) const BEHIND: u32 = 16;

@@ -39,8 +39,8 @@ fn seat(alloc: Global, store: &Arc<EndlessStore>, number: u64, session: &mut Han
 }
 
 impl Chair {
-    /// Takes the session `number` of the store that is held, and puts it into the handle, if that is empty. Returns a
-    /// status: `NO_HANDLE` if no store is held.
+    /// Takes the session `number` of the store that is held, and puts it into the handle, if that is empty. Returns
+    /// `NO_HANDLE` if no store is held, and else the status of `seat`.
     fn seat(&self, alloc: Global, number: u64, session: &mut Handle) -> u32
         ensures ok { result ≡ 0 → Takes number (store_in self.now.hold) (session_of session.new.held) }
         ensures err { result ≢ 0 → session.new.held ≡ session.old.held }

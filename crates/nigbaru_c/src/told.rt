@@ -4,7 +4,8 @@
 #[repr(C)]
 #[derive(Drop)]
 pub struct Told {
-    /// How many entries of the history come before the answer; at a fault of the text its place in the text; else 0.
+    /// How many entries of the history come before the answer; for a text that is no statement, the byte at which it
+    /// goes wrong, counted from 0; else 0.
     pub place: u64,
     /// How many bytes of `value` are the row's.
     pub length: u64,

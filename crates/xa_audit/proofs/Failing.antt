@@ -114,19 +114,19 @@ now_dropped deeds on = record {
   last = refl;
 }
 
--- an end that isn't ROLLED BACK isn't the last one where that is ROLLED BACK: this case doesn't arise
+-- if an end that isn't ROLLED BACK stands last, the last end can't be ROLLED BACK: this case doesn't arise
 other_last : (over : List End) (end : End) (deeds : List Deed) → (Some end ≡ Some RolledBack → ⊥)
     → last_end (over ++ end ∷ []) ≡ Some RolledBack → DropsWrites deeds
 other_last over end deeds apart is = absurd (apart (sym (last_more over end) ∙ is))
 
--- what lives tell of deeds (`Tells`), they tell after one deed more: a write
+-- if lives tell of deeds what `Tells` says, they still do after one deed more: a write
 writes_step : (going : Option Life) (over : List End) (deeds : List Deed) → Tells going over deeds
     → Tells (option_map written_life going) over (deeds ++ Writes ∷ [])
 unfolding Tells
 writes_step None over deeds tells = λ is. drops_more deeds Writes refl (tells is)
 writes_step (Some life) over deeds tells = on_more life.wrote true deeds Writes refl (or_true life.wrote) tells
 
--- what lives tell of deeds (`Tells`), they tell after one deed more: a prepare
+-- if lives tell of deeds what `Tells` says, they still do after one deed more: a prepare
 prepares_step : (going : Option Life) (over : List End) (deeds : List Deed) → Tells going over deeds
     → Tells (option_map prepared_life going) over (deeds ++ Prepares ∷ [])
 unfolding Tells
@@ -134,21 +134,22 @@ prepares_step None over deeds tells = λ is. drops_more deeds Prepares refl (tel
 prepares_step (Some life) over deeds tells =
     on_more life.wrote life.wrote deeds Prepares refl (or_false life.wrote) tells
 
--- a rollback that ends a life which wrote drops its writes
+-- if a rollback ends the life that goes on, and ROLLED BACK is noted as its end, the life's writes were dropped
 by_wrote : (wrote : Bool) (over : List End) (deeds : List Deed) → GoesOn wrote deeds
     → last_end (over ++ dropped_by wrote ∷ []) ≡ Some RolledBack
     → DropsWrites (deeds ++ RollsBack ∷ [])
 by_wrote true over deeds on is = now_dropped deeds on
 by_wrote false over deeds on is = other_last over Empty (deeds ++ RollsBack ∷ []) (λ e. absurd (cc)) is
 
--- what lives tell of deeds (`Tells`), they tell after one deed more: a rollback, which ends the life that goes on
+-- if lives tell of deeds what `Tells` says, they still do after one deed more: a rollback, which ends the life that
+-- goes on
 rolls_step : (going : Option Life) (over : List End) (deeds : List Deed) → Tells going over deeds
     → Tells None (over ++ dropped going ∷ []) (deeds ++ RollsBack ∷ [])
 unfolding Tells
 rolls_step None over deeds tells = λ is. other_last over Empty (deeds ++ RollsBack ∷ []) (λ e. absurd (cc)) is
 rolls_step (Some life) over deeds tells = λ is. by_wrote life.wrote over deeds tells is
 
--- what lives tell of deeds (`Tells`), they tell after one deed more of any kind
+-- if lives tell of deeds what `Tells` says, they still do after one deed more of any kind
 step : (lives : Lives) (deeds : List Deed) (deed : Deed) → Tells lives.going lives.over deeds
     → Tells (noted lives deed).going (noted lives deed).over (deeds ++ deed ∷ [])
 unfolding Tells
@@ -162,7 +163,7 @@ step lives deeds RollsBack tells = rolls_step lives.going lives.over deeds tells
 TellsAll : Option Lives → List Deed → Type 0
 TellsAll lives deeds = Tells (unwrap_or lives no_lives).going (unwrap_or lives no_lives).over deeds
 
--- what lives tell of deeds (`TellsAll`), they tell after any deeds more
+-- if lives, which may be missing, tell of deeds what `TellsAll` says, they still do after any deeds more
 steps : (deeds before : List Deed) (lives : Option Lives) → TellsAll lives before
     → TellsAll (lives_after lives deeds) (before ++ deeds)
 unfolding lives_after TellsAll
@@ -178,13 +179,13 @@ from_none : TellsAll None []
 unfolding TellsAll Tells
 from_none = λ is. absurd (cc)
 
--- the lives to which deeds lead tell of these deeds what `Tells` says
+-- the lives to which deeds lead from none tell of these deeds what `Tells` says
 tells_of : (deeds : List Deed) (lives : Lives) → lives_after None deeds ≡ Some lives
     → Tells lives.going lives.over deeds
 unfolding TellsAll
 tells_of deeds lives is = subst (λ (l : Option Lives). TellsAll l deeds) is (steps deeds [] None from_none)
 
--- an end that tests as rolled back is that
+-- if an end that may be missing passes the test for ROLLED BACK, it is there and is ROLLED BACK
 rolled : (end : Option End) → option_map_or is_rolled_back end false ≡ true → end ≡ Some RolledBack
 rolled None is = absurd (true≢false (sym is))
 rolled (Some Committed) is = absurd (true≢false (sym is))
@@ -276,14 +277,15 @@ unfolding Goes
 dropped_then None goes = absurd goes
 dropped_then (Some life) goes = ap dropped_by goes
 
--- lives of which none goes on, and the last was rolled back
+-- there are lives, none of them goes on, and the last end is ROLLED BACK
 record Ended (lives : Option Lives) : Type 0 where
   now : Lives
   is : lives ≡ Some now
   going : now.going ≡ None
   last : last_end now.over ≡ Some RolledBack
 
--- deeds within a life, without one, begin none: the last end stays a rollback
+-- if no life goes on and the last end is ROLLED BACK, that stays so after deeds that neither begin nor end a life
+-- (`Ended`)
 still : (later : List Deed) (lives : Lives) → lives.going ≡ None → last_end lives.over ≡ Some RolledBack
     → list_all is_within later ≡ true
     → Ended (lives_after (Some lives) later)

@@ -52,7 +52,7 @@ told_more told deeds m n notes xid = elim (same_or_apart xids_total exact_xids x
     itself : same_xid told.0 told.0 ≡ true
     itself = same_itself xids_total exact_xids told.0
 
--- noting the deed of a statement, if it has one, gives the lives with that deed
+-- noting the deed of a statement, if it has one, and then these deeds, gives the lives after that deed and these
 deed_more : (deed : Option (Xid × Deed)) (deeds : List (Xid × Deed)) (m n : BTreeMap Xid Lives) → Notes deed m n
     → (xid : Xid)
     → lives_after (get xid_cmp n xid) (deeds_about xid deeds)
@@ -94,7 +94,7 @@ unfolding lives_after deeds_about deeds_from statements_in
 lines_end left state found whole xid none before =
     ap (λ l. lives_after found (deeds_about xid (deeds_from state (statements_in l)))) (sym none) ∙ before
 
--- a statement that was refused leaves what is kept of lives
+-- a refused statement has no deed, so noting it leaves the kept lives as they are
 pub refused_notes : (state : State) (session : ℕ) (statement : Statement) (lives : BTreeMap Xid Lives)
     → is_refused (reply_to state session statement) ≡ true
     → Notes (deed_of state session statement) lives lives
@@ -102,8 +102,8 @@ unfolding deed_of
 refused_notes state session statement lives refused =
     subst (λ (b : Bool). Notes (cond b None (deed_by (own_xid state session) statement)) lives lives) (sym refused) refl
 
--- if the deed of an accepted statement was noted, as it is by the branch that its session owns, the deed of the
--- statement in its state was
+-- if an accepted statement's deed was noted as `deed_by` gives it from the branch that its session owns, it was noted
+-- as `deed_of` gives it in this state
 pub accepted_notes : (state : State) (session : ℕ) (statement : Statement) (own : Option Xid)
     (old new : BTreeMap Xid Lives)
     → is_refused (reply_to state session statement) ≡ false → own ≡ own_xid state session

@@ -18,7 +18,7 @@ use Rattle.xa_audit.specs.Following.{PutsAt}
 use Rattle.xa_audit.specs.Globals.{global_cmp, global_of, is_of, if_any}
 use Rattle.xa_audit.proofs.Lists.{filter_more}
 
--- names of global transactions are ordered: any two compare, one way
+-- `global_cmp` is a total order of the names of global transactions
 pub globals_total : IsTotalOrder global_cmp
 globals_total = then_total (on_total (λ (g : GlobalName). g.format_id) nat_cmp_total)
     (on_total (λ (g : GlobalName). g.gtrid.items) bytes_total)
@@ -36,12 +36,13 @@ pub exact_globals : CmpEqualImpliesEq global_cmp
 unfolding parts whole
 exact_globals a b h = ap whole (exact_pairs nat_cmp bytes_cmp exact_unsigned exact_bytes (parts a) (parts b) h)
 
--- one branch more under a name, the first or a later one
+-- a list that is kept only if it isn't empty (`if_any`) is kept once it has one element more at its end
 some_more : {A : Type 0} (xs : List A) (x : A) → Some (unwrap_or (if_any xs) [] ++ x ∷ []) ≡ if_any (xs ++ x ∷ [])
 some_more [] x = refl
 some_more (y ∷ ys) x = refl
 
--- the loop over branches: one more is put under its global transaction's name
+-- the loop over branches: after one more is put under its global transaction's name, each name has the branches so far
+-- that are of it
 pub branch_more : (m n : BTreeMap GlobalName (List Branch)) (branch d : Branch) (xs : List Branch) (i : ℕ)
     → i < length xs → branch ≡ get_or xs i d
     → PutsAt global_cmp m (global_of branch.xid) (unwrap_or (get global_cmp m (global_of branch.xid)) []
@@ -78,7 +79,8 @@ branch_more m n branch d xs i below at updates before name =
     here : name ≡ key → is_of name branch ≡ true
     here is = ap (λ k. is_of k branch) is ∙ same_itself globals_total exact_globals key
 
--- the loop over branches: one more is put under its name, with copies of both
+-- the loop over branches: after one more is put under its global transaction's name, both as copies, each name has the
+-- branches so far that are of it
 pub copy_more : (m n : BTreeMap GlobalName (List Branch)) (key : GlobalName) (copy branch d : Branch) (xs : List Branch)
     (i : ℕ) → i < length xs
     → branch ≡ get_or xs i d → key ≡ global_of branch.xid → copy ≡ branch

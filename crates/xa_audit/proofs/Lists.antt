@@ -1,4 +1,5 @@
--- Lists: what a search among what is left finds, a filter and a place more.
+-- Lists with one element more: reading at a place, a filter, the last end, counting verdicts; and a key that is set
+-- again.
 use Rattle.std.proofs.Common.{◌≡◌, ℕ, zero, suc, ◌+◌, ◌≤◌, List, [], ◌∷◌, ◌++◌, length, get_or, refl, ap, sym, ◌∙◌}
 use Rattle.std.proofs.Common.{Bool, true, false, arith}
 use Rattle.std.specs.Prelude.{Option, Some, None, cond, filter}
@@ -16,7 +17,7 @@ one_more_place d [] (suc i) = refl
 one_more_place d (x ∷ xs) zero = refl
 one_more_place d (x ∷ xs) (suc i) = one_more_place d xs i
 
--- filtering a list with one element in front and one behind keeps each if it passes
+-- to add `y` in front if `b`, and `x` behind if `c`, comes to the same in either order
 keeps_first : {A : Type 0} (b c : Bool) (y x : A) (ys : List A)
     → cond b (y ∷ cond c (ys ++ x ∷ []) ys) (cond c (ys ++ x ∷ []) ys)
     ≡ cond c (cond b (y ∷ ys) ys ++ x ∷ []) (cond b (y ∷ ys) ys)
@@ -38,7 +39,7 @@ last_more [] end = refl
 last_more (first ∷ []) end = refl
 last_more (first ∷ next ∷ ends) end = last_more (next ∷ ends) end
 
--- counting one element more stays below a bound that is one greater
+-- if a count is at most a bound, the count with one element more, counted or not, is at most the bound plus one
 bounded : (b : Bool) (n m : ℕ) → n ≤ m → cond b 1 0 + n ≤ m + 1
 bounded true n m h = omega arith
 bounded false n m h = omega arith
@@ -52,7 +53,8 @@ count_le verdict (global ∷ globals) =
     (count_le verdict globals) in
     omega (arith, h)
 
--- the loop that counts verdicts: this one has the wanted verdict
+-- the loop that counts verdicts: the next one is the wanted verdict, so the count is one more; with those behind it,
+-- it still comes to the whole
 pub count_in : (verdict : Verdict) (left rest : List Global) (global : Global) (count whole : ℕ) → left ≡ global ∷ rest
     → true ≡ same_verdict verdict (verdict_of global.1) → count + count_of verdict left ≡ whole
     → count + 1 + count_of verdict rest ≡ whole
@@ -62,7 +64,8 @@ count_in verdict left rest global count whole cut is before =
     ap (count_of verdict) cut ∙ ap (λ b. cond b 1 0 + count_of verdict rest) (sym is) in
     omega (arith, e, before)
 
--- the loop that counts verdicts: this one has another verdict
+-- the loop that counts verdicts: the next one is another verdict, so the count stays; with those behind it, it still
+-- comes to the whole
 pub count_out : (verdict : Verdict) (left rest : List Global) (global : Global) (count whole : ℕ) → left ≡ global ∷ rest
     → false ≡ same_verdict verdict (verdict_of global.1) → count + count_of verdict left ≡ whole
     → count + count_of verdict rest ≡ whole

@@ -29,7 +29,7 @@ use Rattle.xa_audit.proofs.Groups.{globals_total, exact_globals}
 use Rattle.xa_audit.proofs.Taking.{took_by}
 use Rattle.xa_audit.proofs.Verdicts.{mixed_iff}
 
--- a branch has lives in one of the histories that pass a test, whatever the number of its store
+-- in one of the histories a branch has lives that, with its identifier, pass a test, whatever the number of its store
 record IsFound (test : Xid × Lives → Bool) (histories : List (List ℕ)) : Type 0 where
   history : List ℕ
   xid : Xid
@@ -198,7 +198,8 @@ finds test of_lives same store (history ∷ histories) branches (first, rest, (e
           }))
     ])
 
--- a test of the branches that a filter lets through is a test of those that pass both
+-- some branch that a filter lets through passes a test if, and only if, some branch passes both the filter and the
+-- test
 filtered : (p test : Branch → Bool) (branches : List Branch)
     → list_any test (filter p branches) ≡ list_any (λ branch. p branch && test branch) branches
 filtered p test [] = refl
@@ -228,11 +229,11 @@ own_branches histories globals account global among =
 own_and : GlobalName → (Branch → Bool) → Xid × Lives → Bool
 own_and name test entry = is_of name (branch_in 1 entry) && test (branch_in 1 entry)
 
--- a name that compares as equal is that of the branch's global transaction
+-- a name that compares as equal with that of the branch's global transaction is that name
 own_name : (name : GlobalName) (xid : Xid) → eq_by_cmp global_cmp name (global_of xid) ≡ true → global_of xid ≡ name
 own_name name xid is = sym (same_is globals_total exact_globals name (global_of xid) is)
 
--- a branch's own global transaction compares as equal with its name
+-- a name that is that of the branch's global transaction compares as equal with it
 name_own : (name : GlobalName) (xid : Xid) → global_of xid ≡ name → eq_by_cmp global_cmp name (global_of xid) ≡ true
 name_own name xid is = ap (λ n. eq_by_cmp global_cmp name n) is ∙ same_itself globals_total exact_globals name
 
@@ -243,7 +244,8 @@ some_took history xid lives has =
     sym (ap (λ l. option_map_or (λ (x : Lives). took (branch_in 1 (xid, x))) l false) has)
     ∙ took_by (deeds_about xid (deeds_in history))
 
--- a branch failed by its lives if, and only if, it did by the branch as it is listed
+-- if a branch has lives in a history, it failed in that history (`failed_in`) if, and only if, the branch as it is
+-- listed with these lives did (`failed`)
 some_failed : (history : List ℕ) (xid : Xid) (lives : Lives) → lives_in history xid ≡ Some lives
     → failed_in 1 history xid ≡ failed (branch_in 1 (xid, lives))
 some_failed history xid lives has = ap (λ l. option_map_or (λ (x : Lives). failed (branch_in 1 (xid, x))) l false) has
@@ -267,7 +269,8 @@ committed_of histories name it = record {
   committed = sym (some_took it.history it.xid it.lives it.has) ∙ and_right _ _ it.passes;
 }
 
--- a name of which a history committed a branch has a branch that took effect
+-- if some history has an accepted XA COMMIT of a branch of the name (`HasCommitted`), in some history a branch of the
+-- name took effect by its lives
 of_committed : (histories : List (List ℕ)) (name : GlobalName) → HasCommitted histories name
     → IsFound (own_and name took) histories
 unfolding own_and
@@ -297,7 +300,8 @@ dropped_of histories name it = record {
       (some_failed it.history it.xid it.lives it.has ∙ and_right _ _ it.passes);
 }
 
--- a name of which a history dropped a branch's writes has a branch that failed
+-- if in some history the writes of a branch of the name were dropped (`HasDropped`), in some history a branch of the
+-- name failed by its lives
 of_dropped : (histories : List (List ℕ)) (name : GlobalName) → HasDropped histories name
     → IsFound (own_and name failed) histories
 unfolding own_and

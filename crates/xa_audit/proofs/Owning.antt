@@ -51,7 +51,8 @@ none_owned state session none law xid e = not_none xid (sym none ∙ owner_open 
 
 -- ---- a branch after a statement
 
--- a session owns a branch after its accepted statement if what the statement makes of that branch is the session's
+-- a session owns a branch after its accepted statement if, and only if, what the statement makes of that branch is the
+-- session's
 owned_then : (state : State) (session : ℕ) (statement : Statement) (at : Xid)
     → is_refused (reply_to state session statement) ≡ false →
     owns (after state session statement) session at
@@ -87,7 +88,7 @@ left_owned session change same true None e = e
 left_owned session change same true (Some branch) e =
     ap (λ owner. option_map_or (λ o. o == session) owner false) (same branch) ∙ e
 
--- a statement that starts, prepares or ends no branch
+-- a statement other than XA START, XA PREPARE, XA COMMIT, XA ROLLBACK and DISCONNECT
 abbrev pub IsQuiet : Statement → Type 0
 IsQuiet (Start xid) = ⊥
 IsQuiet (End xid) = Unit {0}
@@ -101,7 +102,7 @@ IsQuiet (Put key value) = Unit {0}
 IsQuiet (Del key) = Unit {0}
 IsQuiet Disconnect = ⊥
 
--- a quiet statement, which neither starts, detaches nor ends a branch, leaves the session's branch its own
+-- a quiet statement (`IsQuiet`; XA END is one, too) leaves the session's branch its own
 still_owned : (session : ℕ) (association : Association) (statement : Statement) → IsQuiet statement
     → (at : Xid) (found : Option Branch)
     → is_owned session found ≡ true → is_owned session (branch_after session association statement at found) ≡ true
@@ -128,11 +129,11 @@ still_owned session (Active own) (Del key) quiet at found e =
 still_owned session (Idle own) (Del key) quiet at found e = e
 still_owned session association Disconnect quiet at found e = absurd quiet
 
--- a quiet statement isn't XA START
+-- a quiet statement (`IsQuiet`) isn't XA START
 quiet_starts : (session : ℕ) (statement : Statement) (at : Xid) → IsQuiet statement → statement ≡ Start at → ⊥
 quiet_starts session statement at quiet is = subst IsQuiet is quiet
 
--- after a quiet statement a session owns what it owned
+-- after an accepted quiet statement (`IsQuiet`) a session owns what it owned
 quiet_own : (state : State) (session : ℕ) (statement : Statement) → LockLaw state
     → LockLaw (after state session statement) → IsQuiet statement
     → is_refused (reply_to state session statement) ≡ false
@@ -216,7 +217,7 @@ no_active x f = cc
 no_idle : (x : Xid) → Idle x ≡ Free → ⊥
 no_idle x f = cc
 
--- a session whose branch is neither ACTIVE nor IDLE owns none
+-- a free session, which has no ACTIVE or IDLE branch, owns none
 free_owns : (state : State) (session : ℕ) → LockLaw state → association_of state session ≡ Free → (xid : Xid)
     → owns state session xid ≡ true → ⊥
 unfolding association_of is_owned

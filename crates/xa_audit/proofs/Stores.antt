@@ -25,7 +25,8 @@ faults_more store (first ∷ histories) history =
     ++ faults_in n 1 (lines_of history))
     (let e : store + 1 + length histories ≡ store + length (first ∷ histories) = omega arith in e)
 
--- one history more: its branches are those of the next store
+-- with the branches of one history more behind them, under the next store's number, these are the branches of all
+-- these histories
 pub branches_more : (store : ℕ) (histories : List (List ℕ)) (history : List ℕ) (branches more : List Branch)
     → AreBranches store histories branches
     → AreBranchesOf (store + length histories) history more

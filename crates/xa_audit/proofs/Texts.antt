@@ -1,4 +1,5 @@
--- What is written for each of a list.
+-- What is written for each element of a list: texts, elements of a JSON array, faults of lines; and four counts in a
+-- row.
 use Rattle.std.proofs.Common.{◌≡◌, ℕ, ◌+◌, ◌<◌, ◌≤◌, List, [], ◌∷◌, ◌++◌, length, drop, get_or, refl, ap, sym, ◌∙◌}
 use Rattle.std.proofs.Common.{Bool, true, false, ◌==◌, arith, append_assoc, append-nil}
 use Rattle.std.proofs.lemmas.Grind.{common_steps}
@@ -16,7 +17,7 @@ each_next text left rest x whole old new cut put before =
     before ∙ ap (λ l. old ++ each_text text l) cut ∙ sym (append_assoc old (text x) (each_text text rest))
     ∙ ap (λ l. l ++ each_text text rest) (sym put)
 
--- the loop over elements by index: the text of one more is written
+-- the loop over elements by index: the text of one more is written, and those behind it are left
 pub each_step : {A : Type 0} (text : A → List ℕ) (xs : List A) (i : ℕ) (x d : A) (whole old new : List ℕ)
     → i < length xs → x ≡ get_or xs i d
     → new ≡ old ++ text x → whole ≡ old ++ each_text text (drop i xs) → whole ≡ new ++ each_text text (drop (i + 1) xs)
@@ -31,7 +32,7 @@ unfolding each_text
 each_done text left whole old none before =
     sym (append-nil old) ∙ ap (λ l. old ++ each_text text l) (sym none) ∙ sym before
 
--- past the last element nothing more is written
+-- the loop over elements by index ends: past the last one all are written
 pub each_end : {A : Type 0} (text : A → List ℕ) (xs : List A) (i : ℕ) (whole old : List ℕ) → length xs ≤ i
     → whole ≡ old ++ each_text text (drop i xs)
     → old ≡ whole
@@ -52,7 +53,7 @@ lead_none : {A : Type 0} (first : Bool) (xs : List A) → xs ≡ [] → lead fir
 lead_none true xs none = refl
 lead_none false xs none = ap comma_before none
 
--- the loop's step: a comma if it is needed, and the next element
+-- the loop over elements of an array: after a comma, if one is needed, and the next element, those behind it are left
 pub json_next : {A : Type 0} (json : A → List ℕ) (first : Bool) (left rest : List A) (x : A)
     (whole old one new : List ℕ) → left ≡ x ∷ rest
     → one ≡ old ++ comma_unless first → new ≡ one ++ json x
@@ -68,7 +69,8 @@ json_next json first left rest x whole old one new cut led put before =
     regroup : (a b c d : List ℕ) → a ++ ((b ++ c) ++ d) ≡ ((a ++ b) ++ c) ++ d
     regroup a b c d = simp append_assoc
 
--- the loop over elements of an array, by index: a comma if it is needed, and the next element
+-- the loop over elements of an array, by index: after a comma, if one is needed, and the next element, those behind it
+-- are left
 pub json_step : {A : Type 0} (json : A → List ℕ) (first : Bool) (xs : List A) (i : ℕ) (x d : A)
     (whole old one new : List ℕ) → i < length xs
     → x ≡ get_or xs i d → one ≡ old ++ comma_unless first → new ≡ one ++ json x
@@ -78,7 +80,7 @@ json_step json first xs i x d whole old one new below at led put before =
     json_next json first (drop i xs) (drop (i + 1) xs) x whole old one new
     (drop_more xs i d below ∙ ap (λ y. y ∷ drop (i + 1) xs) (sym at)) led put before
 
--- past the last element nothing more is written
+-- the loop over elements of an array ends: none is left, and all are written
 pub json_done : {A : Type 0} (json : A → List ℕ) (first : Bool) (left : List A) (whole old : List ℕ) → left ≡ []
     → whole ≡ (old ++ lead first left) ++ each_json json left → old ≡ whole
 unfolding each_json
@@ -87,7 +89,7 @@ json_done json first left whole old none before =
     ∙ sym (append-nil (old ++ lead first left))
     ∙ ap (λ l. (old ++ lead first left) ++ each_json json l) (sym none) ∙ sym before
 
--- the loop over elements of an array ends, by index: none is left
+-- the loop over elements of an array ends, by index: none is left, and all are written
 pub json_end : {A : Type 0} (json : A → List ℕ) (first : Bool) (xs : List A) (i : ℕ) (whole old : List ℕ)
     → length xs ≤ i
     → whole ≡ (old ++ lead first (drop i xs)) ++ each_json json (drop i xs) → old ≡ whole
@@ -99,7 +101,7 @@ unfolding lines_of
 no_lines [] empty = refl
 no_lines (byte ∷ text) empty = absurd (let none : length (byte ∷ text) ≡ 0 = grind (arith, common_steps) in omega arith)
 
--- the loop over lines: what is written for the fault of one more, if it has one
+-- the loop over lines: the fault of one more is written, if it has one, and those of the lines behind it are left
 pub faults_cut : (store number : ℕ) (text line rest old new whole : List ℕ) → lines_of text ≡ line ∷ lines_of rest
     → new ≡ old ++ fault_said store number (said_on line) → whole ≡ old ++ faults_in store number (lines_of text)
     → whole ≡ new ++ faults_in store (number + 1) (lines_of rest)

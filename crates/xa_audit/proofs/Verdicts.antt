@@ -7,7 +7,7 @@ use Rattle.xa_audit.specs.declared.branch.Branch.{Branch}
 use Rattle.xa_audit.specs.declared.verdict.Verdict.TheVariants.{Atomic, Mixed, InDoubt, Open}
 use Rattle.xa_audit.specs.Globals.{took, failed, ends_as, is_in_doubt, is_open, verdict_of}
 
--- a verdict that is MIXED comes from its two conditions
+-- if a verdict is MIXED, its two conditions hold
 by_parts : (a b c d : Bool) → (if a && b then Mixed else (if c then InDoubt else (if d then Open else Atomic))) ≡ Mixed
     → (a ≡ true) × (b ≡ true)
 by_parts true true c d e = (refl, refl)

@@ -85,8 +85,8 @@ took branch = list_any is_committed branch.ends
 abbrev pub failed : Branch → Bool
 failed branch = not (took branch) && ends_as is_rolled_back branch
 
--- MIXED, if one branch took and another failed; if not, IN DOUBT or OPEN, the first that the last life of a branch
--- is; and else ATOMIC
+-- MIXED, if one branch took and another failed; else IN DOUBT, if the last life of some branch is; else OPEN, if the
+-- last life of some branch is; else ATOMIC
 abbrev pub verdict_of : List Branch → Verdict
 verdict_of branches =
     if list_any took branches && list_any failed branches then Mixed

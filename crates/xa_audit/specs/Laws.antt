@@ -73,7 +73,8 @@ pub record HasCommitted (histories : List (List ℕ)) (name : GlobalName) : Type
   pub own : global_of xid ≡ name
   pub committed : list_any is_commit (deeds_about xid (deeds_in history)) ≡ true
 
--- in some history the writes of a branch of this global transaction were dropped
+-- in some history a branch of this global transaction failed: no `XA COMMIT` of it was accepted, and the writes of
+-- its last life were dropped
 pub record HasDropped (histories : List (List ℕ)) (name : GlobalName) : Type 0 where
   pub history : List ℕ
   pub xid : Xid

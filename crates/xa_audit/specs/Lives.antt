@@ -19,7 +19,7 @@ no_lives = record { over = []; going = None }
 abbrev pub new_life : Life
 new_life = record { wrote = false; prepared = false }
 
--- a life that is rolled back: what it wrote is dropped, if it wrote
+-- how a life ends that is rolled back, by whether it wrote: RolledBack, since its writes are dropped, or Empty
 abbrev pub dropped_by : Bool → End
 dropped_by true = RolledBack
 dropped_by false = Empty
@@ -29,7 +29,7 @@ abbrev pub dropped : Option Life → End
 dropped None = Empty
 dropped (Some life) = dropped_by life.wrote
 
--- the lives once the one that goes on has ended so, without one that goes on
+-- the lives with this end behind the ends of those that are over, and none that goes on
 abbrev pub over_by : End → Lives → Lives
 over_by end lives = record { over = lives.over ++ end ∷ []; going = None }
 

@@ -65,11 +65,11 @@ last_text globals =
 abbrev pub lines_text : List Global → List ℕ
 lines_text globals = each_text global_text globals ++ last_text globals
 
--- a word as a string of JSON; none of them has a byte that JSON escapes
+-- a word as a string of JSON; no word that is written here has a byte that JSON escapes
 abbrev pub string_text : List ℕ → List ℕ
 string_text word = codes "\"" ++ word ++ codes "\""
 
--- a comma before each of a list but the first
+-- a comma, unless this is the first of a list
 abbrev pub comma_unless : Bool → List ℕ
 comma_unless true = []
 comma_unless false = codes ","

@@ -12,7 +12,7 @@ use std::alloc::Global;
 use std::collections::BTreeMap;
 use xa_xid::{NoMemory, Xid};
 
-/// What is kept of the histories of stores 1, 2, .., each as it was read.
+/// What is kept of the histories that were taken: those of stores 1, 2, .., in this order.
 #[derive(Drop)]
 pub struct Audit {
     /// How many histories there are.
@@ -51,7 +51,7 @@ impl Audit {
         push_branches(alloc, &mut self.branches, self.stores, lives)
     }
 
-    /// Takes the history of the next store. At most 64 are taken.
+    /// Takes the history of the next store. At most 64 are taken, as many as the job `audit` reads.
     ///
     /// After `NoMemory` the audit is of no use.
     /// May return `NoMemory`. Doesn't wait.

@@ -27,7 +27,8 @@ pub struct Audited {
     pub text: Vec<u8>,
 }
 
-/// How an audit of these global transactions ends: `AllAtomic` if each of them is ATOMIC, also if there is none.
+/// How an audit of these global transactions ends: `AllAtomic` if each of them is ATOMIC, also if there is none; else
+/// `SomeNotAtomic`.
 #[tactic(auto, unfolding(crate::specs::Audits::ended_of))]
 fn ended_of(globals: &BTreeMap<GlobalName, Branches>) -> Ended
     ensures ended { result ≡ end_of globals.now.entries }
@@ -57,7 +58,7 @@ fn text_in(
 
 /// Returns how an audit ends, and what is written for it.
 ///
-/// If lines aren't read, only what is written for these is, in any form.
+/// If some line isn't read, the text has the faults of such lines and nothing else, whatever the form.
 /// Errors: `NoMemory` if an allocation failed.
 /// May return `NoMemory`. Doesn't wait.
 /// Own rule: docs/HISTORIES.md#audits.

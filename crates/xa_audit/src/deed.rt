@@ -20,7 +20,7 @@ pub enum Deed {
     RollsBack,
 }
 
-/// The deed on a branch, if there is one.
+/// The deed, with the branch that it is about, `own`; None if there is no branch.
 fn deed_on(own: Option<Xid>, deed: Deed) -> Option<(Xid, Deed)>
     ensures { result ≡ option_map (λ xid. (xid, deed)) own }
 {

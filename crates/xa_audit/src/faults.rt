@@ -7,8 +7,8 @@ use crate::said::{Said, read_said};
 use xa_lines::{push_number, push_syntax_fault, split_line};
 use xa_xid::NoMemory;
 
-/// Appends what is written for a line that isn't read: its store, its number there, and the byte at which the text of
-/// its statement goes wrong. Appends nothing for any other line.
+/// Appends what is written for a line that isn't read: its store, its number in the store's history, and the byte at
+/// which the text of its statement goes wrong. Appends nothing for any other line.
 fn push_fault(faults: &mut Vec<u8>, store: u64, number: u64, line: &[u8]) -> Result<(), NoMemory>
     ensures { OnOk result (faults.new.items ≡ faults.old.items ++ fault_said store number (said_on line.now)) }
 {

@@ -13,7 +13,7 @@ use std::alloc::Global;
 use std::collections::BTreeMap;
 use xa_xid::NoMemory;
 
-/// Returns the branches that were found, or none.
+/// Returns the branches that were found; an empty list if none were.
 fn known_branches(alloc: Global, found: Option<Branches>) -> Branches
     ensures { result ≡ unwrap_or found [] }
 {

@@ -31,7 +31,8 @@ pub fn branch_fails_by_dropped_writes()
         ↔ FailsBy (deeds_about xid (deeds_in history)) }
 {}
 
-/// States that MIXED stands if, and only if, one branch took and another one failed.
+/// States that the verdict on a global transaction is MIXED if, and only if, one of its branches took (a life of it is
+/// COMMITTED), and another one failed (no life of it is COMMITTED, and its last one is ROLLED BACK).
 ///
 /// Takes no memory. Doesn't wait.
 /// Own rule: docs/HISTORIES.md#audits.
@@ -42,8 +43,8 @@ pub fn mixed_is_one_that_took_and_one_that_failed()
         → (verdict_of branches ≡ Mixed) ↔ ((list_any took branches ≡ true) × (list_any failed branches ≡ true)) }
 {}
 
-/// States that MIXED stands if, and only if, one branch of the global transaction was committed and another one's
-/// writes were dropped, in the histories that the account is of.
+/// States that the verdict on a global transaction is MIXED if, and only if, one branch of it was committed and another
+/// one's writes were dropped, in the histories that are audited.
 ///
 /// Takes no memory. Doesn't wait.
 /// Own rule: docs/HISTORIES.md#audits.

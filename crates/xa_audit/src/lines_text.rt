@@ -124,7 +124,7 @@ fn push_globals(
 pub fn count(verdict: Verdict, globals: &BTreeMap<GlobalName, Branches>) -> u64
     ensures { result ≡ count_of verdict globals.now.entries }
 {
-    // A map has fewer than 2^64 entries, so the sum below can't overflow.
+    // Only the promise of this call is needed: a map has fewer than 2^64 entries, so the sum below can't overflow.
     let _size = globals.len();
     let mut count: u64 = 0;
     for (_, branches) in globals {

@@ -32,6 +32,7 @@ fn dropped_end(going: Option<Life>) -> End
     ensures { result ≡ dropped going }
 {
     match going {
+        // Without a life no writes are dropped.
         None => End::Empty,
         Some(life) => {
             if life.wrote {

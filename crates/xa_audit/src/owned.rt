@@ -5,15 +5,14 @@ ghost use Rattle.xa_audit.specs.Following.{own_after};
 use std::alloc::Global;
 use xa_xid::{NoMemory, SessionNo, Statement, Xid};
 
-/// The branch that each session owns, if it owns one, at the place of its number. A session past the end owns
-/// none.
+/// At each session's number, the branch that it owns, or None. A session past the end owns none.
 #[derive(Drop)]
 pub struct Owned {
     /// The branches.
     pub places: Vec<Option<Xid>>,
 }
 
-/// Returns the branch that a session owns after its statement was accepted, None for none. `own` is the one that it
+/// Returns the branch that a session owns after its statement was accepted; None if it owns none. `own` is what it
 /// owned before.
 pub fn own_by(own: Option<Xid>, statement: &Statement) -> Option<Xid>
     ensures { result ≡ own_after own statement.now }
@@ -21,7 +20,7 @@ pub fn own_by(own: Option<Xid>, statement: &Statement) -> Option<Xid>
     match statement {
         Statement::Start(xid) => Some(xid.copy()),
         Statement::Prepare(_) => None,
-        // A session that owns another branch can't commit or roll one back, so it owns none after it.
+        // A session that owns another branch can't commit or roll this one back, so it owns none afterwards.
         Statement::Commit {
             xid: _,
             one_phase: _,
@@ -37,12 +36,13 @@ pub fn own_by(own: Option<Xid>, statement: &Statement) -> Option<Xid>
     }
 }
 
-/// Makes a place for a session in the list. Each session owns what it owned, also after `NoMemory`.
+/// Lengthens the list, by sessions that own none, until it has an entry for this session. Each session owns what it
+/// owned, also after `NoMemory`.
 fn make_place(places: &mut Vec<Option<Xid>>, session: SessionNo) -> Result<(), NoMemory>
     ensures same { (at : ℕ) → slice_index_or places.new.items at None ≡ slice_index_or places.old.items at None }
     ensures there { OnOk result (session < length places.new.items) }
 {
-    // A place is the session's number, so place 0 stays without a branch.
+    // A session's index is its number, so index 0 stays without a branch.
     while places.len() <= session.get() as usize {
         places.push(None)?;
     }
@@ -50,7 +50,7 @@ fn make_place(places: &mut Vec<Option<Xid>>, session: SessionNo) -> Result<(), N
 }
 
 impl Owned {
-    /// Returns that no session owns a branch.
+    /// Returns the list in which no session owns a branch.
     pub fn new(alloc: Global) -> Owned
         ensures { (at : ℕ) → slice_index_or result.places.items at None ≡ None }
     {

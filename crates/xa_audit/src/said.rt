@@ -39,7 +39,7 @@ pub fn read_said(line: &[u8]) -> Said
     }
     match read_line(line) {
         ScriptLine::Blank => Said::Nothing,
-        // It doesn't begin with a session's number, so there is no text of a statement. The place is 0 then.
+        // It doesn't begin with a session's number, so there is no text of a statement. The byte is 0 then.
         ScriptLine::Bad => Said::Unread(0),
         ScriptLine::Given(session, text) => said_with(session, text),
     }

@@ -83,7 +83,7 @@ impl Store {
     }
 
     /// Takes note of an accepted statement: of what its session owns after it, and of its deed in the lives of the
-    /// deed's branch. Leaves the server.
+    /// deed's branch. Leaves the server as it is.
     fn note(
         &mut self,
         alloc: Global,

@@ -10,9 +10,9 @@ use crate::ends::End;
 /// The verdict on a global transaction.
 #[derive(Clone, Copy, Debug, PartialEq, Eq)]
 pub enum Verdict {
-    /// None of the others.
+    /// It is neither mixed, nor in doubt, nor open.
     Atomic,
-    /// A branch of it took, and another failed.
+    /// A branch of it took (a life of it is COMMITTED), and another failed (none is, and its last life is ROLLED BACK).
     Mixed,
     /// It isn't mixed, and the last life of a branch is in doubt.
     InDoubt,
@@ -95,7 +95,7 @@ fn any_failed(branches: &[Branch]) -> bool
     false
 }
 
-/// Whether the last life of a branch is in doubt.
+/// Whether the last life of some branch is in doubt.
 fn any_in_doubt(branches: &[Branch]) -> bool
     ensures { result ≡ list_any (ends_as is_in_doubt) branches.now }
 {
@@ -107,7 +107,7 @@ fn any_in_doubt(branches: &[Branch]) -> bool
     false
 }
 
-/// Whether the last life of a branch is open.
+/// Whether the last life of some branch is open.
 fn any_open(branches: &[Branch]) -> bool
     ensures { result ≡ list_any (ends_as is_open) branches.now }
 {

@@ -33,7 +33,8 @@ use Rattle.xa_coordinator.specs.declared.transaction.VoteKind.TheVariants.{No as
 use Rattle.xa_coordinator.proofs.Telling.{adds_then, adds_nothing}
 use Rattle.xa_coordinator.proofs.Walk.{at_weaker, from_ends, same_one}
 
--- the decisions allow that a transaction is finished so
+-- the decisions allow this way of finishing a transaction: two phases if it is decided, a rollback if it isn't, and
+-- one phase always
 abbrev pub Allows : List Decision → ℕ → Closing → Type 0
 Allows decisions number InTwoPhases = is_decided decisions number ≡ true
 Allows decisions number InOnePhase = Unit {0}

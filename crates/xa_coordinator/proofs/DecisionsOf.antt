@@ -150,7 +150,7 @@ closed_decides decisions number = ap decides (closed_decision decisions number) 
     by (Some Decided) = refl
     by (Some Closed) = refl
 
--- after a recovery closed them, no number is undecided
+-- after a recovery closed the undecided numbers, no number is undecided
 pub closed_none : (decisions : List Decision) (number : ℕ)
     → decision_of (map closed_of decisions) number ≢ Some Undecided
 closed_none decisions number is = by (decision_of decisions number) (sym (closed_decision decisions number) ∙ is)

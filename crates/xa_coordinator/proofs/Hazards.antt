@@ -58,7 +58,7 @@ listed_more participants place stores is takes = record {
   short = omega (arith, is.short, length-append stores (place ∷ []));
 }
 
--- a store that isn't below the list's end isn't in it
+-- if the stores listed so far are below this place, the store at this place isn't listed
 not_listed : (participants : Participants) (place : ℕ) (stores : List ℕ) → IsListed participants place stores
     → lists_store stores place ≡ false
 unfolding lists_store

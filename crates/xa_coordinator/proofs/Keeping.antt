@@ -19,8 +19,8 @@ use Rattle.xa_coordinator.specs.declared.branches.OpenBranch.{OpenBranch}
 use Rattle.xa_coordinator.proofs.Places.{get_set_other, get_set_is, get_before_set}
 
 module _ {S : Type 0} (view : S → SessionView) (name : List ℕ) where
-  -- if each branch that the coordinator notes is open there, it stays so after one session was replaced and another
-  -- mark was noted for its store, if the session has the marked branch open
+  -- if each branch that the coordinator notes is open in its store's session (`OpenThere`), it stays so after one
+  -- session was replaced and another mark was noted for its store, if the session has the marked branch open
   pub marked : (stores : List S) (branches : List (Option OpenBranch)) (store : ℕ) (session : S)
       (mark : Option OpenBranch)
       → OpenThere view name stores branches →
@@ -41,8 +41,8 @@ module _ {S : Type 0} (view : S → SessionView) (name : List ℕ) where
             (sym (get_set_other branches store at mark apart) ∙ is_marked)
       ]
 
-  -- if each branch that the coordinator notes is open there, it stays so after one session was used that has the same
-  -- open as before
+  -- if each branch that the coordinator notes is open in its store's session (`OpenThere`), it stays so after one
+  -- session was used that has the same open as before
   pub unmarked : (stores : List S) (branches : List (Option OpenBranch)) (store : ℕ) (old session : S)
       → old ≡ get_or stores store old
       → OpenThere view name stores branches →
@@ -60,8 +60,8 @@ module _ {S : Type 0} (view : S → SessionView) (name : List ℕ) where
         | inr (_, apart) ↦ kept at other branch (sym (get_set_other stores store at session apart) ∙ is_there) is_marked
       ]
 
-  -- if a fact holds of a store's session before and after it was used, it holds at the store in the list that has the
-  -- used session
+  -- if a fact holds of a store's session before and after it was used, it holds at the store between the list of
+  -- sessions and the one that has the used session in its place
   pub at_place : (fact : SessionView → SessionView → Type 0) (stores : List S) (store : ℕ) (old session : S)
       → old ≡ get_or stores store old
       → fact (view old) (view session) →

@@ -61,7 +61,7 @@ disconnected_as answer old new law stays is takes = by (enters there old.known.n
       takes = takes;
     }
 
--- what an answered XA RECOVER says: the list of prepared branches, and nothing added
+-- an answered XA RECOVER that isn't refused lists the prepared branches as `ListsPrepared` says, and adds nothing
 pub listed_as : (convert : Bool) (answer : Answer) (xids : List Xid) (old new : SessionView) → StaysOfLog old new
     → IsAnswered old.base (Recover convert) answer old.known new.known → Takes 1 old.left new.left
     → answer.reply ≡ Recovered xids
@@ -84,7 +84,7 @@ listed_as convert answer xids old new stays is takes reply =
       takes = takes;
     }
 
--- XA RECOVER adds nothing to the history
+-- an answered XA RECOVER adds no entry to its session's own
 pub listed_quietly : (base : State) (convert : Bool) (answer : Answer) (old new : Known)
     → IsAnswered base (Recover convert) answer old new
     → new.mine ≡ old.mine

@@ -6,7 +6,7 @@ use Rattle.std.proofs.lemmas.Option.{slice_get-map}
 use Rattle.xa_coordinator.specs.declared.fused.Fused.{Fused}
 use Rattle.xa_coordinator.proofs.Places.{get_set_same}
 
--- the session that was limited has so many calls left
+-- once a session that has so many calls left stands in a store's place, so many are left there
 pub left_there : {S : Type 0} (sessions : List (Fused S)) (store calls : ℕ) (session : Fused S)
     → store < length sessions → session.left ≡ calls
     → slice_get (map (λ (s : Fused S). s.left) (slice_set sessions store session)) store ≡ Some calls

@@ -46,8 +46,8 @@ pub keeps_farther : (participants : Participants) (place farther : ℕ) (old new
 keeps_farther participants place farther old new less keeps =
     record { apart = keeps.apart; behind = λ store from. keeps.behind store (omega arith) }
 
--- if what is open is as before in the stores that take no part and in those from a place on, the store there takes
--- part, and then only this one is changed, it is so from the next place on
+-- if what is open is as before in the stores that take no part and in those from a place on, and then only the store
+-- at that place changes, which takes part, the same holds from the next place on
 pub keeps_next : (participants : Participants) (place : ℕ) (old now next : List (Option OpenBranch))
     → KeepsOpen participants place old now
     → takes_part participants place ≡ true → ChangesAt place now next →

@@ -77,8 +77,8 @@ module _ (decisions : List Decision) (place : ℕ) (undecided : Option ℕ)
     closed = at_place decisions place (Some Closed) closed;
   }
 
-  -- the walk goes on by one number: `now` is the first undecided one up to there, and if the number looked at is
-  -- closed, none was undecided before it
+  -- the walk goes on by the next number, with `now` as the first undecided one (None: there is none), if `now` is
+  -- right up to there, and the next number is closed only if the walk has met no undecided one
   step : (decision : Decision) (now : Option ℕ) → slice_get decisions place ≡ Some decision
       → ((number : ℕ) → now ≡ Some number → (decision_of decisions number ≡ Some Undecided) × (number ≤ place + 1))
       → ((number earlier : ℕ) → now ≡ Some number → decision_of decisions earlier ≡ Some Undecided → number ≤ earlier)

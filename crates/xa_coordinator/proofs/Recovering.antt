@@ -150,7 +150,8 @@ module _ {S : Type 0} (view : S → SessionView) (decisions : List Decision) (na
     missing = so_far.missing;
   }
 
-  -- if the recovery of a store failed, one of its statements wasn't carried out (without what is open there)
+  -- if the recovery of a store failed (`BreaksBy`), one of its statements wasn't carried out (`IsBroken`); what the
+  -- coordinator has open there is left out
   broken_at : (place : ℕ) (cause : Cause) (marks marks' : List (Option OpenBranch)) (old new : List S)
       → BreaksBy view decisions name place cause marks marks' old new
       → AtStore view place (IsBroken decisions name place cause) old new

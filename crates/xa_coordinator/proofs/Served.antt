@@ -55,7 +55,8 @@ starts base = state_after-nil base
 pub none_entered : (base : State) → AllEntered base []
 none_entered base = record { entered = λ place entry is. absurd (cc); two = λ place entry is. absurd (cc) }
 
--- a history of entries that all have entered, and one more that has
+-- if all entries of a history have entered, and one more, of session 1 or 2, enters after them, so have all of the
+-- longer history
 entered_more : (base : State) (history : List Entry) (last : Entry)
     → enters (state_after base history) last.session last.statement ≡ true
     → (1 ≤ last.session) × (last.session ≤ 2) → AllEntered base history → AllEntered base (history ++ last ∷ [])
@@ -163,7 +164,7 @@ module _ (session : ℕ) (statement : Statement) (answer : Answer) (base old new
   abbrev mid : Known
   mid = known_from session history (entries_of session history) (watch.looks + 1)
 
-  -- from what it knew before the call to what it knows then is a look
+  -- what the session knows once it has looked comes from what it knew before the call by a look
   looked : Looked before mid
   looked = record
       { number = refl; seen = begins_take watch.seen history; mine = refl; looks = refl; tries = refl; since = refl }

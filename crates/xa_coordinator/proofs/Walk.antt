@@ -116,8 +116,8 @@ module _ {S : Type 0} (view : S → SessionView) where
       behind = λ other more. changes.others other (omega arith) ∙ so_far.behind other (omega arith);
     }
 
-    -- if a call ended at a store, a goal holds of each store that follows from the fact below it, from what holds of
-    -- the last one at it, and of each session that didn't change
+    -- if a call ended at a store, a goal holds of each store, provided that it follows from the fact at the stores
+    -- below, follows from `last` at this one, and holds of each session that didn't change
     pub from_ends : (goal : ℕ → SessionView → SessionView → Type 0) (store : ℕ)
         (last : SessionView → SessionView → Type 0) (old new : List S)
         → EndsAt view fact store last old new →
@@ -144,8 +144,8 @@ module _ {S : Type 0} (view : S → SessionView) where
     behind = so_far.behind;
   }
 
-  -- if only one store was changed, a fact holds of each store that holds of that one, and elsewhere of each session
-  -- that didn't change
+  -- if only one store was changed, a fact holds of each store, provided that it holds of that one over the change,
+  -- and at the others of each session that didn't change
   pub only_at : (fact : ℕ → SessionView → SessionView → Type 0) (store : ℕ) (old new : List S) → ChangesAt store old new
       → AtStore view store (fact store) old new → ((other : ℕ) → other ≢ store → (a : SessionView) → fact other a a)
       → EachStore view fact old new

@@ -5,8 +5,8 @@ use Rattle.std.specs.Prelude.{◌≡◌, ◌<◌, ◌^◌, ℕ, List, [], ◌∷
 use Rattle.std.specs.Int.{w64, to_be_bytes}
 use Rattle.xa_xid.specs.declared.xid.Xid.{Xid}
 
--- gtrid is the coordinator's name and the transaction's number in eight bytes, highest first; bqual is the store's
--- number (own rule)
+-- the formatID is 22593; gtrid is the coordinator's name and the transaction's number in eight bytes, highest first;
+-- bqual is the store's number (own rule)
 unfoldable pub branch_xid : List ℕ → ℕ → ℕ → Xid
 branch_xid name number store =
     record {

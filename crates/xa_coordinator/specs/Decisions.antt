@@ -41,7 +41,7 @@ is_decided decisions number = decides (decision_of decisions number)
 abbrev pub may_be_decided : List Decision → ℕ → Bool
 may_be_decided decisions number = is_not_closed (decision_of decisions number)
 
--- the decisions with this number decided; the others have the states that they had
+-- the decisions with this number, which is at least 1, decided; the others have the states that they had
 unfoldable pub with_decided : List Decision → ℕ → List Decision
 with_decided decisions number = slice_set decisions (number - 1) Decided
 

@@ -11,8 +11,8 @@ use Rattle.xa_session.specs.declared.fault.Fault.{Fault}
 use Rattle.xa_session.specs.declared.fault.Fault.TheVariants.{NoMemory}
 use Rattle.xa_coordinator.specs.declared.fused.Fused.{Fused}
 
--- if a call is left, the session within gave the answer, and one call less is left; else the answer is
--- NoMemory, and it got no statement
+-- if a call is left, the session within gave the answer, and one call less is left; else the answer is NoMemory, and
+-- the session within got no statement
 pub record AnswersAsWithin {S : Type 0} (gives : S → Statement → Result Answer Fault → S → Type 0) (old : Fused S)
     (statement : Statement)
     (result : Result Answer Fault) (new : Fused S) : Type 0 where

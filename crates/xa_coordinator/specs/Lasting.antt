@@ -5,7 +5,7 @@
 --     IsAnsweredBeside         a session of it answered a statement
 --     alone_at         a session that holds no other, of a base and of what it knows
 --     other_alone      the other client's session by itself
---     other-steady     it stays as it was when the store's own session is used
+--     other-steady     using the store's own session leaves the other client's by itself as it was
 use Rattle.std.specs.Prelude.{◌≡◌, false, true, None, List, [], ◌∷◌, map}
 use Rattle.std.proofs.Common.{ap, ◌∙◌}
 use Rattle.xa_words.specs.Entry.{Entry}

@@ -1,12 +1,12 @@
 -- What a coordinator has open in its stores.
 --     association_seen  what a session has open, as far as it has seen
---     association_in   a session that has the branch open in this phase
+--     association_in   what a session has open if it has this branch open in this phase
 --     OpenThere        each branch that the coordinator has open is what the session of its store has open
 --     HasOpen          the coordinator has a transaction's branch open
 --     is_active        whether a phase is ACTIVE
 --     works_for        whether what is open in a store is the branch of a number, ACTIVE
---     has_working_branch  whether it has it open and ACTIVE
---     IsWorking        it has it open and ACTIVE
+--     has_working_branch  whether the coordinator has a transaction's branch open in a store, and ACTIVE
+--     IsWorking        it has that branch open, and ACTIVE
 --     IsAsBeforeOrEnded  what is open in a store is as before, or the branch is IDLE
 --     KeepsOpen        in the stores that a call didn't speak to, what is open is as before
 use Rattle.std.specs.Prelude.{◌≡◌, ◌≤◌, ◌==◌, ◌&&◌, ◌⊎◌, ℕ, Bool, true, false, List, Option, Some, slice_get}
@@ -28,12 +28,13 @@ use Rattle.xa_coordinator.specs.declared.branches.Phase.TheVariants.{Active, Idl
 abbrev pub association_seen : SessionView → Association
 association_seen session = association_of (state_after session.base session.known.seen) session.known.number
 
--- a session that has the branch open in this phase
+-- what a session has open if it has this branch open in this phase
 abbrev pub association_in : Phase → Xid → Association
 association_in Active xid = AssociationActive xid
 association_in Idle xid = AssociationIdle xid
 
--- whatever branch the coordinator has open in a store, the session of that store has it open in that phase
+-- whatever branch the coordinator has open in a store, the session of that store has it open in the same phase, as far
+-- as the session has seen
 abbrev pub OpenThere : {S : Type 0} → (S → SessionView) → List ℕ → List S → List (Option OpenBranch) → Type 0
 OpenThere view name stores branches =
     (store : ℕ) (session : _) (branch : OpenBranch) → slice_get stores store ≡ Some session

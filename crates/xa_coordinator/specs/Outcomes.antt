@@ -8,7 +8,7 @@
 --     IsEnded          the store of the only participant, after its XA END
 --     Ascends          the numbers of a list ascend
 --     IsHazard         a list of participants, ascending, at least one
---     commits          whether a way of finishing commits
+--     commits          whether a kind of finishing commits
 --     branch_of        the branch of a transaction in a store
 --     EndsAs           how the finishing of a transaction ended
 --     asked_by_ending, asked_by_vote      the stores below this number were spoken to
@@ -60,7 +60,7 @@ abbrev pub IsClosed : (ends : Bool) → Statement → Xid → SessionView → Se
 IsClosed false statement xid old new = AddsEach (statement ∷ []) old new
 IsClosed true statement xid old new = AddsEach (End xid ∷ statement ∷ []) old new
 
--- the store is in the list
+-- whether the store is in the list
 unfoldable pub lists_store : List ℕ → ℕ → Bool
 lists_store stores store = list_any (nat_eq store) stores
 
@@ -184,8 +184,8 @@ abbrev pub KeepsUnfinished : (number : ℕ) → Ending → List (Option OpenBran
 KeepsUnfinished number (Unfinished store cause) old new = IsAsBeforeOrEnded store number old new
 KeepsUnfinished number ending old new = Unit {0}
 
--- how a transaction that was voted on is finished: as decided, else in one phase or by rolling back (presumed
--- abort)
+-- how a transaction that was voted on is finished: in two phases if it is decided; else in one phase if its vote was
+-- OnePhase; else by rolling back (presumed abort)
 abbrev pub finish_for : Bool → VoteKind → Closing
 finish_for true vote_kind = InTwoPhases
 finish_for false VoteKindOnePhase = InOnePhase

@@ -66,8 +66,8 @@ abbrev pub statement_into : Phase → Xid → Statement
 statement_into Active xid = Start xid
 statement_into Idle xid = End xid
 
--- what the coordinator may note as open after the statement: nothing after any statement; a branch only after the
--- XA START or XA END that brings it into its phase
+-- what the coordinator may note as open after the statement: that nothing is, whatever the statement was; or a branch,
+-- but only after the XA START or XA END that brings it into its phase
 abbrev pub LeavesOpen : List ℕ → ℕ → Statement → Option OpenBranch → Type 0
 LeavesOpen name store statement None = Unit {0}
 LeavesOpen name store statement (Some branch) =
@@ -80,8 +80,9 @@ SaysAs statement (Ok Closed) old new = AddsEach (statement ∷ []) old new
 SaysAs statement (Ok Missing) old new = IsUndone statement (CauseRefused Nota) old new
 SaysAs statement (Err cause) old new = (cause ≢ CauseRefused Nota) × IsUndone statement cause old new
 
--- what finishing a branch did. Closed: the finishing statement was added, after XA END if that comes before it.
--- Missing: the statement was answered XAER_NOTA. Err: the branch isn't finished, for this cause
+-- what finishing a branch did. If XA END comes before the finishing statement (`ends`), it was added first, after
+-- Closed and Missing. Closed: the finishing statement was added. Missing: that was answered XAER_NOTA. Err: the branch
+-- isn't finished, for this cause
 abbrev pub ClosesAs : (ends : Bool) → Statement → Xid → Result Found Cause → SessionView → SessionView → Type 0
 ClosesAs ends statement xid (Ok Closed) old new = IsClosed ends statement xid old new
 ClosesAs ends statement xid (Ok Missing) old new = IsMissing ends statement xid old new
@@ -92,14 +93,16 @@ abbrev pub PreparesAs : Xid → Result (Unit {0}) Cause → SessionView → Sess
 PreparesAs xid (Ok _) old new = AddsEach (End xid ∷ Prepare xid ∷ []) old new
 PreparesAs xid (Err cause) old new = IsStopped true (Prepare xid) xid cause old new
 
--- the branch of a store was finished, or wasn't known there and the store was listed
+-- the branch of a store was finished, and the list is as it was; or it wasn't known there, and the store was added to
+-- the list
 abbrev pub ClosesNext : {S : Type 0} → (S → SessionView) → (ends : Bool) → Statement → Xid → ℕ
     → (listed listed' : List ℕ) → List S → List S → Type 0
 ClosesNext view ends statement xid store listed listed' old new =
     ((listed' ≡ listed) × AtStore view store (IsClosed ends statement xid) old new)
     ⊎ ((listed' ≡ listed ++ store ∷ []) × AtStore view store (IsMissing ends statement xid) old new)
 
--- the participants were asked to prepare, in ascending order, up to the first that didn't
+-- Ok: each participant's branch was ended and prepared. Err: that of this store wasn't, for this cause, those of the
+-- participants below it were, and the stores above it got no statement
 abbrev pub PollsAs : {S : Type 0} → (S → SessionView) → Transaction → Result (Unit {0}) (ℕ × Cause) → List S → List S
     → Type 0
 PollsAs view transaction (Ok _) old new =
@@ -109,7 +112,7 @@ PollsAs view transaction (Err (store, cause)) old new =
     × EndsAt view (λ other. IsVoted (branch_of transaction other) (takes_part transaction.participants other))
     store (IsStopped true (Prepare (branch_of transaction store)) (branch_of transaction store) cause) old new
 
--- the stores below this number were asked, if they take part
+-- the stores below this number were asked, if they take part; all stores are below 16
 abbrev pub asked_by_poll : Result (Unit {0}) (ℕ × Cause) → ℕ
 asked_by_poll (Ok _) = 16
 asked_by_poll (Err (store, cause)) = store + 1
@@ -130,7 +133,7 @@ WorksWithin view xid store row (Err (Session fault)) before after =
 WorksWithin view xid store row (Err (Refused error)) before after = ⊥
 WorksWithin view xid store row (Err Lost) before after = ⊥
 
--- how many branches a recovery counted, of all kinds
+-- how many branches a recovery counted: committed, rolled back and missing ones
 abbrev pub total : Tally → ℕ
 total tally = tally.committed + tally.rolled_back + tally.missing
 

@@ -14,7 +14,7 @@
 --     RecoveredBy      a store was recovered, with the tally and the place that a list has for it
 --     Recovers         all stores were recovered
 --     BreaksOff        the recovery failed
---     asked_by_fault   how far it came
+--     asked_by_fault   the stores below this number were spoken to
 use Rattle.std.specs.Prelude.{◌≡◌, ◌≢◌, ◌<◌, ◌≤◌, ◌+◌, ◌^◌, ◌⊎◌, ℕ, Bool, true, false, List, [], ◌∷◌, ◌++◌, length}
 use Rattle.std.specs.Prelude.{take, map, slice_get, Option, Some, None}
 use Rattle.std.specs.List.{sum_by}
@@ -46,7 +46,8 @@ use Rattle.xa_coordinator.specs.Stores.{AtStore, EachStore}
 use Rattle.xa_coordinator.specs.Told.{IsUndone}
 use Rattle.xa_coordinator.specs.Work.{MayBe}
 
--- the session was given DISCONNECT, which is logged if it has a branch open, and has none open then
+-- the session was given DISCONNECT, and has no branch open then; it added that statement at most, which is logged if it
+-- ends a branch
 pub record IsDisconnected (old new : SessionView) : Type 0 where
   pub statements : List Statement
   pub is : MayBe Disconnect statements
@@ -54,7 +55,8 @@ pub record IsDisconnected (old new : SessionView) : Type 0 where
   pub free : association_seen new ≡ Free
   pub takes : Takes 1 old.left new.left
 
--- the list is that of the prepared branches at this place, the end of all that the session sees then, and it has looked
+-- XA RECOVER was answered with this list: that of the prepared branches at this place, the end of all that the session
+-- sees then; the session has looked, and has added nothing
 pub record ListsPrepared (xids : List Xid) (place : ℕ) (old new : SessionView) : Type 0 where
   pub adds : AddsStatements [] old new
   pub looked : old.known.looks < new.known.looks
@@ -71,8 +73,8 @@ abbrev pub finish_decided : Bool → Closing
 finish_decided true = InTwoPhases
 finish_decided false = RollBack
 
--- what became of a listed branch, and what is counted then: one that isn't of this coordinator's naming gets
--- no statement; another one is committed or rolled back as the decisions say, or was answered XAER_NOTA
+-- what became of a listed branch, and the tally after it: one that isn't of this coordinator's naming gets no
+-- statement; another one is committed or rolled back as the decisions say, or was answered XAER_NOTA
 pub data SettlesOne (decisions : List Decision) (name : List ℕ) (store : ℕ) (xid : Xid) (tally : Tally)
     (old : SessionView) : Tally → SessionView → Type 0 where
   foreign : (IsNamed name store xid → ⊥) → SettlesOne decisions name store xid tally old tally old
@@ -105,7 +107,7 @@ pub record IsFinished (decisions : List Decision) (name : List ℕ) (store : ℕ
   pub listed : ListsPrepared xids place old listing
   pub settled : Settled decisions name store listing xids tally new
 
--- the session ended what it had open, and then the prepared branches were finished
+-- the session was given DISCONNECT, and then the prepared branches were listed and settled (`SettlesOne`)
 pub record IsSettled (decisions : List Decision) (name : List ℕ) (store : ℕ) (tally : Tally)
     (old new : SessionView) : Type 0 where
   pub freed : SessionView
@@ -131,7 +133,8 @@ pub record IsRecovered (decisions : List Decision) (name : List ℕ) (store : �
   pub settled : IsSettled decisions name store tally old finished
   pub clear : IsClear name store front finished new
 
--- a listed branch wasn't finished, for this cause, which isn't that it wasn't known
+-- a listed branch of this coordinator's naming wasn't committed or rolled back as the decisions say, for this cause,
+-- which isn't XAER_NOTA
 pub record IsUnsettled (decisions : List Decision) (name : List ℕ) (store : ℕ) (xid : Xid) (cause : Cause)
     (old new : SessionView) : Type 0 where
   pub number : ℕ
@@ -139,7 +142,7 @@ pub record IsUnsettled (decisions : List Decision) (name : List ℕ) (store : �
   pub undone : IsUndone (finish_statement (finish_decided (is_decided decisions number)) xid) cause old new
   pub known : cause ≢ CauseRefused Nota
 
--- the branches of a list were settled up to this place, and the branch there wasn't finished
+-- the branches of a list before one of them were settled, and that one wasn't finished, for this cause
 pub record StopsAmong (decisions : List Decision) (name : List ℕ) (store : ℕ) (xids : List Xid) (cause : Cause)
     (old new : SessionView) : Type 0 where
   pub place : ℕ
@@ -150,7 +153,7 @@ pub record StopsAmong (decisions : List Decision) (name : List ℕ) (store : ℕ
   pub settled : Settled decisions name store old (take place xids) tally mid
   pub unsettled : IsUnsettled decisions name store xid cause mid new
 
--- after the DISCONNECT the first list, the finish of a listed branch, or the last list wasn't carried out;
+-- after the DISCONNECT the first XA RECOVER, the finish of a listed branch, or the last XA RECOVER wasn't carried out;
 -- everything before it was
 pub data IsCutOff (decisions : List Decision) (name : List ℕ) (store : ℕ) (old : SessionView) : Cause → SessionView
     → Type 0 where
@@ -208,7 +211,8 @@ BreaksBy view decisions name store (CauseRefused error) marks marks' old new =
     (slice_get marks' store ≡ Some None) × AtStore view store
     (λ before after. IsCutOff decisions name store before (CauseRefused error) after) old new
 
--- the recovery of the store that a fault names failed, by what the coordinator has open there
+-- the recovery of the store that the fault names failed as it says, and this is what the coordinator has open there; at
+-- NoMemory nothing was done, and what is open is as before
 abbrev pub BreaksHere : {S : Type 0} → (S → SessionView) → List Decision → List ℕ → RecoverFault
     → (marks marks' : List (Option OpenBranch)) → List S → List S
     → Type 0
@@ -228,7 +232,7 @@ asked_by_fault NoMemory = 0
 asked_by_fault (Refused store error) = store + 1
 
 -- the recovery failed: the stores below the one that the fault names are recovered, and those above it got no
--- statement
+-- statement; at NoMemory no store got one
 pub record BreaksOff {S : Type 0} (view : S → SessionView) (decisions : List Decision) (name : List ℕ)
     (fault : RecoverFault)
     (marks marks' : List (Option OpenBranch)) (old new : List S) : Type 0 where

@@ -1,7 +1,7 @@
 -- Facts about the stores of a coordinator, by their numbers, before and after a call.
 --     AtStore          a fact of one store
 --     EachStore        a fact of each store
---     ChangesAt        only one store's session was used
+--     ChangesAt        lists with one item for each store differ at most at this one
 --     EndsAt           a call ended at this store
 use Rattle.std.specs.Prelude.{◌≡◌, ◌≢◌, ◌<◌, ℕ, List, Some, length, slice_get}
 use Rattle.xa_session.specs.View.{SessionView}
@@ -18,7 +18,7 @@ abbrev pub EachStore : {S : Type 0} → (S → SessionView) → (ℕ → Session
     → Type 0
 EachStore {S} view fact old new = (store : ℕ) → AtStore view store (fact store) old new
 
--- as many stores, and the sessions of the others are as they were
+-- the lists have as many stores, and the same for each other store; that of this store may have changed
 pub record ChangesAt {S : Type 0} (store : ℕ) (old new : List S) : Type 0 where
   pub count : length new ≡ length old
   pub others : (other : ℕ) → other ≢ store → slice_get new other ≡ slice_get old other

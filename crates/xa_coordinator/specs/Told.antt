@@ -29,7 +29,7 @@ pub record IsDone (statement : Statement) (old new : SessionView) : Type 0 where
   pub adds : AddsStatements (statement ∷ []) old new
   pub takes : Takes 1 old.left new.left
 
--- the statement was answered, at a place not before what had been seen, with this refusal
+-- the statement was answered with this refusal, at a place not before the end of what had been seen
 pub record IsRefused (statement : Statement) (error : XaError) (old new : SessionView) : Type 0 where
   pub place : ℕ
   pub answered : IsAnswered old.base statement (record { place = place; reply = Refused error }) old.known new.known
@@ -54,19 +54,21 @@ pub record IsUndoneBehind (statement : Statement) (xid : Xid) (cause : Cause) (o
   pub ends : IsDone (End xid) old mid
   pub undone : IsUndone statement cause mid new
 
--- the statement, which XA END of the branch comes before or not, wasn't carried out, or that XA END wasn't
+-- the statement wasn't carried out, for this cause; or, if XA END of the branch comes before it (`ends`), that XA END
+-- wasn't
 abbrev pub IsStopped : (ends : Bool) → Statement → Xid → Cause → SessionView → SessionView → Type 0
 IsStopped false statement xid cause old new = IsUndone statement cause old new
 IsStopped true statement xid cause old new =
     IsUndone (End xid) cause old new ⊎ IsUndoneBehind statement xid cause old new
 
--- the statement, which XA END of the branch comes before or not, was answered XAER_NOTA
+-- the statement was answered XAER_NOTA; if XA END of the branch comes before it (`ends`), that was carried out
 abbrev pub IsMissing : (ends : Bool) → Statement → Xid → SessionView → SessionView → Type 0
 IsMissing false statement xid old new = IsUndone statement (RefusedBy Nota) old new
 IsMissing true statement xid old new = IsUndoneBehind statement xid (RefusedBy Nota) old new
 
--- the branch isn't ended, for this cause: the statement wasn't carried out, for another cause than XAER_NOTA. If XA END
--- of the branch comes before it (`ends`), that wasn't carried out, or it was and the statement wasn't
+-- the branch isn't finished, for this cause. Without XA END (`ends` is false): the statement wasn't carried out, for
+-- another cause than XAER_NOTA. With XA END of the branch before it: that wasn't carried out, or it was, and the
+-- statement wasn't, for another cause than XAER_NOTA
 abbrev pub IsUnfinished : (ends : Bool) → Statement → Xid → Cause → SessionView → SessionView → Type 0
 IsUnfinished false statement xid cause old new = (cause ≢ RefusedBy Nota) × IsUndone statement cause old new
 IsUnfinished true statement xid cause old new =

@@ -62,8 +62,8 @@ pub data MayStart (xid : Xid) (old : SessionView) : SessionView → Type 0 where
   was_open : association_seen old ≡ Active xid → MayStart xid old old
   was_started : (mid : SessionView) → IsDone (Start xid) old mid → MayStart xid old mid
 
--- the row statement was answered, at a place not before what had been seen, and the session's branch was this
--- one, ACTIVE
+-- the row statement was answered, at a place not before the end of what had been seen, and the session's branch was
+-- this one there, ACTIVE
 pub record IsReplied (row : Statement) (reply : Reply) (xid : Xid) (old new : SessionView) : Type 0 where
   pub log : StaysOfLog old new
   pub place : ℕ
@@ -90,10 +90,11 @@ pub record KeepsOthers (store : ℕ) (old new : Transaction) : Type 0 where
   pub stores : new.stores ≡ old.stores
   pub others : (other : ℕ) → other ≢ store → takes_part new.participants other ≡ takes_part old.participants other
 
--- what work did, by its result. Ok: the row statement was answered in the branch, which was open or was started.
--- Session: so it was, but the row statement wasn't answered; or XA START wasn't carried out, and all else is as before.
--- Refused: XA START was refused, and all else is as before. Lost: the store takes part, the coordinator hasn't its
--- branch open, and nothing was done. After Ok and the first case of Session the store takes part, its branch ACTIVE
+-- what work did, by its result. Ok: the branch was open or was started, and the row statement was answered in it.
+-- Session: the branch was open or was started, but the row statement wasn't answered; or XA START wasn't carried out,
+-- and all else is as before. Refused: XA START was refused, and all else is as before. Lost: the store takes part, the
+-- coordinator hasn't its branch open, and nothing was done. After Ok and the first case of Session the store takes
+-- part, its branch ACTIVE
 abbrev pub WorksAs : {S : Type 0} → (S → SessionView) → (marks marks' : List (Option OpenBranch)) → Transaction
     → Transaction → ℕ → Statement
     → Result Reply WorkFault → List S → List S → Type 0

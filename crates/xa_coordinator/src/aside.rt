@@ -1,4 +1,5 @@
-//! Statements of another client, whose sessions are held together with the coordinator's.
+//! How many stores a coordinator has, and statements of another client, whose sessions are held together with the
+//! coordinator's.
 ghost use Rattle.std.specs.Prelude.{◌≡◌, ◌<◌, ◌≤◌, map, vec_len};
 ghost use Rattle.xa_coordinator.specs.Beside.{IsLeftAlone, IsAnsweredSo};
 ghost use Rattle.xa_coordinator.specs.Stores.{AtStore, EachStore, ChangesAt};
@@ -57,7 +58,8 @@ impl<S: Beside> Coordinator<Fused<S>> {
 }
 
 impl<S: Beside> Fused<S> {
-    /// Has the other client's session within answer. It uses up none of the calls that are left.
+    /// Has the other client's session, which the session within holds, answer a statement. That uses up none of the
+    /// calls that are left.
     fn execute_inner<R: Wait>(&mut self, rt: &R, statement: &Statement) -> Result<Answer, Fault>
         ensures left { self.new.left ≡ self.old.left }
         ensures alone { IsLeftAlone (S.view self.old.inner) (S.view self.new.inner) }

@@ -36,13 +36,13 @@ pub fn branch_xid(name: &Bytes, number: u64, store: u8) -> Xid
     }
 }
 
-/// The number that the bytes of a text after the first `place` spell, highest first. None unless these are exactly
-/// eight.
+/// The number that the bytes behind the first `place` bytes of `bytes` spell, highest first. None unless exactly eight
+/// bytes are behind them: as many as a number has in a gtrid.
 fn number_behind(place: usize, bytes: &[u8]) -> Option<u64>
     ensures some { IfSome result (λ number. number ≡ from_be_bytes w64 (drop place bytes.now)) }
     ensures none { IfNone result (length bytes.now ≢ place + 8) }
 {
-    // Too short to be a name with a number behind it.
+    // Too short even for the first `place` bytes, the name.
     if bytes.len() < place {
         return None;
     }
@@ -64,7 +64,8 @@ pub(crate) fn number_of_branch(name: &Bytes, store: u8, xid: &Xid) -> Option<u64
     let Some(number) = number_behind(name.len(), xid.gtrid.as_slice()) else {
         return None;
     };
-    // The number alone doesn't show that the name, the store and the formatID are those of the branch, too.
+    // Only the gtrid's length was looked at. Its first bytes may be another name, and the bqual or the formatID may be
+    // others, too.
     if *xid == branch_xid(name, number, store) {
         Some(number)
     } else {

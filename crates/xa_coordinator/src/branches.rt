@@ -1,4 +1,5 @@
-//! The branch of a transaction in one store, from its start to its end.
+//! The branch of a transaction in one store, from its start to its end. `number` is the transaction's, `store` the
+//! store's.
 //!
 //! Of the contracts' clauses, `frame` says that no other store's session changes, `marks` and `mark` what the
 //! coordinator then has open in its stores, and `says` what became of the statement. `unsaid` says that after an error
@@ -106,8 +107,8 @@ impl<S: Speak> Coordinator<S> {
         self.execute_at(rt, store, &statement, None)
     }
 
-    /// Ends and prepares a transaction's branch. The error says why one of the two wasn't carried out; if it is
-    /// `XA END`, `XA PREPARE` isn't given.
+    /// Ends and prepares a transaction's branch. The error says why `XA END` wasn't carried out, and `XA PREPARE` isn't
+    /// given; or why `XA PREPARE` wasn't, and the branch is left open, IDLE.
     pub(crate) fn prepare_branch<R: Wait>(
         &mut self,
         rt: &R,
@@ -151,8 +152,9 @@ impl<S: Speak> Coordinator<S> {
         found(self.execute_at(rt, store, &statement, None))
     }
 
-    /// Ends a branch that takes work, and rolls it back. Returns `Missing` if the rollback is answered
-    /// XAER_NOTA. The error says why `XA END` or, for another cause, the rollback wasn't carried out.
+    /// Ends a branch that takes work, and rolls it back. Returns `Closed` if both are carried out, `Missing` if the
+    /// rollback is answered XAER_NOTA. The error says why `XA END` or, for another cause, the rollback wasn't carried
+    /// out.
     fn end_and_roll_back<R: Wait>(&mut self, rt: &R, store: u8, number: u64) -> Result<Found, Cause>
         requires { store < vec_len self.old.stores }
         ensures name { self.new.name ≡ self.old.name }
@@ -193,8 +195,8 @@ impl<S: Speak> Coordinator<S> {
     }
 
     /// Finishes a transaction's branch in a store, as `closing` says. One that takes work and is to be rolled
-    /// back is ended first. Returns `Missing` if the finishing statement is answered XAER_NOTA. The error says why
-    /// `XA END` or, for another cause, the finishing statement wasn't carried out.
+    /// back is ended first. Returns `Closed` if the finishing statement is carried out, `Missing` if it is answered
+    /// XAER_NOTA. The error says why `XA END` or, for another cause, the finishing statement wasn't carried out.
     pub(crate) fn finish_open<R: Wait>(
         &mut self,
         rt: &R,

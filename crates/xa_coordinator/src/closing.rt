@@ -43,8 +43,8 @@ impl Closing {
         }
     }
 
-    /// Whether `XA END` comes before the statement that finishes a branch: only before a rollback of one that
-    /// takes work. `working` tells whether it does.
+    /// Whether `XA END` comes before the statement that finishes a branch: only before a rollback of a branch that
+    /// takes work. `working`: whether the branch takes work.
     pub(crate) fn ends_first(self, working: bool) -> bool
         ensures { result ≡ ends_first_by self working }
     {

@@ -50,6 +50,7 @@ impl<S: Speak> Coordinator<S> {
         Coordinator {
             name,
             stores,
+            // One place for each store that a coordinator may have. Those without a store stay empty.
             branches: [None; 16],
         }
     }
@@ -90,7 +91,7 @@ impl<S: Speak> Coordinator<S> {
         })
     }
 
-    /// Forgets what is open, as a new coordinator of the same name over the same sessions does.
+    /// Forgets what is open: the coordinator is then as a new one of the same name over the same sessions.
     ///
     /// The stores get no statement. Takes no memory. Doesn't wait.
     /// Own rule: docs/COORDINATOR.md#recovery.

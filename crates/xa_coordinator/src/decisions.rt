@@ -55,7 +55,8 @@ fn overtaken(list: &[Decision]) -> Option<u64>
     ensures first { IfSome result (λ number. (other : ℕ) → IsOvertaken list.now other → number ≤ other) }
     ensures none { IfNone result ((number : ℕ) → IsOvertaken list.now number → ⊥) }
 {
-    // The first undecided number so far. The number at place 0 is 1.
+    // The first undecided number so far. A later one needn't be kept: a closed number after it is after the first, too.
+    // The number at place 0 is 1.
     let mut undecided = None;
     for (place, decision) in list.iter().enumerate() {
         match (decision, undecided) {
@@ -151,7 +152,7 @@ impl Decisions {
         }
     }
 
-    /// Whether the number was given and isn't closed.
+    /// Whether the number was given and isn't closed. A decided one may be decided again: that changes nothing.
     fn may_be_decided(&self, number: u64) -> bool
         ensures { result ≡ may_be_decided self.now number }
     {
@@ -170,6 +171,7 @@ impl Decisions {
             × (may_be_decided self.now number ≡ true)) }
         ensures none { IfNone result (may_be_decided self.now number ≡ false) }
     {
+        // A number that may be decided was given, so it is at least 1.
         if !self.may_be_decided(number) {
             return None;
         }

@@ -17,7 +17,7 @@ use std::sync::Wait;
 use xa_server::{Reply, XaError};
 use xa_xid::{Statement, Xid};
 
-/// The error with which the statement was refused. None if it wasn't.
+/// The error with which a statement that got this reply was refused. None if it wasn't refused.
 pub(crate) fn refusal(reply: &Reply) -> Option<XaError>
     ensures { MatchOption result (is_refused reply.now ≡ false) (λ error. reply.now ≡ Refused error) }
 {
@@ -29,7 +29,8 @@ pub(crate) fn refusal(reply: &Reply) -> Option<XaError>
     }
 }
 
-/// Gives a statement about a branch to a session. The error says why it wasn't carried out.
+/// Gives a statement about a branch to a session. Ok if it was carried out. The error says why it wasn't: the server
+/// refused it, or the session couldn't answer.
 ///
 /// May wait: no number of tries is promised.
 pub(crate) fn execute_on<S: Speak, R: Wait>(
@@ -58,8 +59,8 @@ impl<S: Speak> Coordinator<S> {
         branch_xid(&self.name, number, store)
     }
 
-    /// Gives a statement about a branch to a store. If it is carried out, the coordinator has `then` open
-    /// there (nothing if None), else what it had. The error says why it wasn't.
+    /// Gives a statement about a branch to a store. `then`: the branch that the coordinator has open there if the
+    /// statement is carried out, or None if it then has none. The error says why it wasn't; what is open stays then.
     ///
     /// May wait: no number of tries is promised.
     pub(crate) fn execute_at<R: Wait>(

@@ -111,7 +111,7 @@ pub enum RecoverFault {
         /// Why it couldn't.
         fault: Fault,
     },
-    /// Another client prepared another branch of this coordinator's naming in this store during the recovery.
+    /// Another client prepared a branch of this coordinator's naming in this store during the recovery.
     #[error("store {store}: another branch of this coordinator was prepared meanwhile")]
     StillPrepared {
         /// The store, by its number.

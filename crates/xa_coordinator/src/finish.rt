@@ -1,7 +1,7 @@
 //! The second phase: finishing the branches of a transaction.
 //!
 //! Of the contracts' clauses, `count` says that there are as many stores, `elsewhere` that what is open stays in
-//! stores that weren't spoken to, and `cut` what is open in the store at which the call ended, if one failed. `frame`
+//! stores that weren't spoken to, and `cut` what is open in the store that an `Unfinished` names. `frame`
 //! says that no other store changes and `marks` that no other branch's mark does; `closed` how a branch ends, if the
 //! call succeeds, `stopped` what a failed call leaves, and `unsaid` that the branch is then as before, or ended.
 ghost use Rattle.std.specs.Prelude.{◌≡◌, ◌<◌, List, false, OnOk, OnErr, IfErr, vec_len};
@@ -40,9 +40,9 @@ fn finish_for(decided: bool, vote_kind: VoteKind) -> Closing
 }
 
 impl<S: Speak> Coordinator<S> {
-    /// Finishes a transaction's branch in a store, as `closing` says. If the statement that finishes it is answered
-    /// XAER_NOTA, adds the store to `missing`, and returns Ok. The error says why `XA END` or, for another cause, that
-    /// statement wasn't carried out.
+    /// Finishes a transaction's branch in a store, as `closing` says; one that is to be rolled back gets `XA END` first
+    /// if it is open and ACTIVE. If the statement that finishes it is answered XAER_NOTA, adds the store to `missing`,
+    /// and returns Ok. Error: why `XA END` wasn't carried out, or why that statement wasn't, if not for XAER_NOTA.
     fn finish_next<R: Wait>(
         &mut self,
         rt: &R,
@@ -97,6 +97,7 @@ impl<S: Speak> Coordinator<S> {
         ensures ends { EndsAs S.view self.old.branches transaction.now closing result self.old.stores.items
             self.new.stores.items }
     {
+        // There is room for each store: a coordinator has at most 16.
         let mut missing = ArrayVec::<u8, 16>::new();
         for store in 0..transaction.stores {
             if !transaction.has(store) {
@@ -107,8 +108,8 @@ impl<S: Speak> Coordinator<S> {
                 return Ending::Unfinished { store, cause };
             }
         }
-        // These branches were finished before, by somebody else or by a recovery. So how the transaction ended isn't
-        // known.
+        // The branches in the stores of `missing` were finished before, by somebody else or by a recovery. So how the
+        // transaction ended isn't known.
         if !missing.is_empty() {
             return Ending::Hazard { stores: missing };
         }
@@ -123,10 +124,10 @@ impl<S: Speak> Coordinator<S> {
     ///
     /// Each participant, in ascending order, gets `XA COMMIT` if the number is decided, `XA COMMIT .. ONE
     /// PHASE` after a vote of OnePhase, else `XA ROLLBACK`. `XA END` precedes a rollback if this coordinator
-    /// has the branch open and ACTIVE. A participant that answers XAER_NOTA is skipped; any other refusal and
-    /// any fault of a session ends the call. The transaction must have been begun under this name, over as
-    /// many stores, and `decisions` must be those that gave its number. It can't be used again, whatever is
-    /// returned.
+    /// has the branch open and ACTIVE. A participant that answers the commit or rollback with XAER_NOTA is
+    /// skipped; any other refusal and any fault of a session ends the call. The transaction must have been begun
+    /// under this name, over as many stores, and `decisions` must be those that gave its number. The transaction
+    /// can't be used again, whatever is returned.
     /// May return a fault of a session. May wait: no number of tries is promised.
     /// Own rule: docs/COORDINATOR.md#finishing.
     pub fn finish<R: Wait>(&mut self, rt: &R, decisions: &Decisions, prepared: Prepared) -> Ending
@@ -174,9 +175,9 @@ impl<S: Speak> Coordinator<S> {
     /// Rolls back a transaction that wasn't voted on.
     ///
     /// Each participant, in ascending order, gets `XA ROLLBACK`, after `XA END` if this coordinator has the
-    /// branch open and ACTIVE. A participant that answers XAER_NOTA is skipped; any other refusal and any
-    /// fault of a session ends the call. The transaction must have been begun under this name, over as many
-    /// stores. It can't be used again, whatever is returned.
+    /// branch open and ACTIVE. A participant that answers the rollback with XAER_NOTA is skipped; any other
+    /// refusal and any fault of a session ends the call. The transaction must have been begun under this name,
+    /// over as many stores. It can't be used again, whatever is returned.
     /// May return a fault of a session. May wait: no number of tries is promised.
     /// Own rule: docs/COORDINATOR.md#finishing.
     pub fn abandon<R: Wait>(&mut self, rt: &R, transaction: Transaction) -> Ending

@@ -9,10 +9,11 @@ use std::sync::Wait;
 use xa_session::{Answer, Fault};
 use xa_xid::Statement;
 
-/// A session that passes on a given number of calls, and then returns `NoMemory` for each, as if it had been
-/// stopped.
+/// A session that passes on a given number of calls, and then returns `NoMemory` for each later one, as if the
+/// coordinator had been stopped there.
 ///
-/// A contract sees it as the session within, so it keeps every promise of a session.
+/// A contract sees it as the session within, but it takes only as many more statements as calls are left. It keeps
+/// every promise of a session.
 #[derive(Drop)]
 pub struct Fused<S: Speak> {
     /// The session within.

@@ -57,7 +57,7 @@ impl Participants {
         self.members[usize::from(store)] = true;
     }
 
-    /// The first store from `from` on that takes part, or None.
+    /// The first store that takes part, of the number `from` or a higher one below 16. None if none does.
     fn next_from(&self, from: u8) -> Option<u8>
         ensures some { IfSome result (λ store. (from ≤ store) × (store < 16) × (takes_part self.now store ≡ true)) }
         ensures before { IfSome result (λ store. (other : ℕ) → from ≤ other → other < store

@@ -7,7 +7,7 @@ use crate::branches::OpenBranch;
 use crate::{Coordinator, Speak};
 use xa_xid::Bytes;
 
-/// A coordinator without its sessions: its name, and its record of the branches that it has open in them.
+/// A coordinator without its sessions: its name, and which branch it has open in each of them.
 #[derive(Drop)]
 pub struct Paused {
     /// The coordinator's name, 1 to 56 bytes.

@@ -1,7 +1,8 @@
 //! The first phase: the stores vote.
 //!
 //! Of the contracts' clauses, `count` says that there are as many stores, `elsewhere` that what is open stays in
-//! stores that weren't spoken to, and `cut` what is open in the store at which the vote ended.
+//! stores that weren't spoken to, and `cut` what is open in the only participant's store after `OnePhase`, and in the
+//! store that a `No` names.
 ghost use Rattle.std.specs.Prelude.{◌≡◌, List, IfErr, vec_len};
 ghost use Rattle.xa_coordinator.specs.Agreement.{Agrees};
 ghost use Rattle.xa_coordinator.specs.Stores.{EachStore};
@@ -33,7 +34,8 @@ fn no(transaction: Transaction, store: u8, cause: Cause) -> Vote
 
 impl<S: Speak> Coordinator<S> {
     /// Ends and prepares each participant's branch, in ascending order, until `XA END` or `XA PREPARE` isn't carried
-    /// out. The error names the store in which it wasn't, and the cause.
+    /// out. Ok if all are prepared. The error names the store in which one wasn't carried out, and the cause; the
+    /// stores above it get no statement.
     fn poll<R: Wait>(&mut self, rt: &R, transaction: &Transaction) -> Result<(), (u8, Cause)>
         requires name { transaction.now.name.items ≡ self.old.name.items }
         requires stores { transaction.now.stores ≡ vec_len self.old.stores }
@@ -112,7 +114,7 @@ impl<S: Speak> Coordinator<S> {
     /// only `XA END`, and if there is none, the vote is Nothing. The vote is No at the first store that doesn't
     /// carry its statement out; the stores above it get no statement. The transaction must have been begun under
     /// this name, over as many stores.
-    /// It takes no more work.
+    /// Afterwards the transaction takes no more work.
     /// May return a fault of a session. May wait: no number of tries is promised.
     /// Own rule: docs/COORDINATOR.md#votes.
     pub fn prepare<R: Wait>(&mut self, rt: &R, transaction: Transaction) -> Vote

@@ -59,6 +59,7 @@ impl<S: Speak> Coordinator<S> {
             + total tally) }
     {
         match self.prepared_in(rt, store) {
+            // Only the list is needed here, not its place.
             Ok(found) => self.settle_each(rt, decisions, store, found.0.as_slice()),
             Err(fault) => Err(Cause::Session(fault)),
         }
@@ -94,8 +95,9 @@ impl<S: Speak> Coordinator<S> {
         }
     }
 
-    /// Lists the prepared branches of a store once more. If none is of this coordinator's naming, returns how many
-    /// entries the session had seen. Errors: `StillPrepared` if one is, `Session` if the session couldn't answer.
+    /// Lists the prepared branches of a store once more. If none is of this coordinator's naming, returns the list's
+    /// place: how many entries the session had seen. Errors: `StillPrepared` if one is, `Session` if the session
+    /// couldn't answer.
     fn look_again<R: Wait>(&mut self, rt: &R, store: u8) -> Result<u64, RecoverFault>
         requires store { store < vec_len self.old.stores }
         requires free { slice_get self.old.branches store ≡ Some None }
@@ -121,6 +123,7 @@ impl<S: Speak> Coordinator<S> {
             Ok(found) => match self.own_number(store, found.0.as_slice()) {
                 // All were finished before, so another client has prepared this one since.
                 Some(_number) => Err(RecoverFault::StillPrepared { store }),
+                // The list's place.
                 None => Ok(found.1),
             },
             Err(fault) => Err(RecoverFault::Session { store, fault }),

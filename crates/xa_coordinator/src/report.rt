@@ -4,8 +4,8 @@ ghost use Rattle.std.specs.Prelude.{◌≡◌, ◌<◌, ◌+◌, ◌^◌, ◌++�
 /// What a recovery found and did, in all stores.
 #[derive(Debug, Drop)]
 pub struct Report {
-    /// For each store, the place of its last `XA RECOVER`: how many entries its session had seen. After these
-    /// no branch of this coordinator is prepared.
+    /// For each store, the place of its last `XA RECOVER`: how many entries its session had seen. At that place
+    /// no branch of this coordinator's naming was prepared there.
     pub fronts: Vec<u64>,
     /// How many branches were committed.
     pub committed: u128,
@@ -33,8 +33,8 @@ impl Report {
         ensures rolled_back_within { self.new.rolled_back < self.old.rolled_back + 2 ^ 64 }
         ensures missing_within { self.new.missing < self.old.missing + 2 ^ 64 }
     {
-        // Less than 2^64 branches of each store are counted, but those of all stores may be more: so the sums have 128
-        // bits.
+        // Fewer than 2^64 branches of each store are counted, but those of all stores together may be more: so the sums
+        // have 128 bits.
         self.fronts.push_reserved(front);
         self.committed += u128::from(tally.committed);
         self.rolled_back += u128::from(tally.rolled_back);

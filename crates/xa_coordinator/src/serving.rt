@@ -12,8 +12,10 @@ use xa_xid::{SessionNo, Statement};
 
 /// Answers a session's statement from the state that the history leaves. If it is logged, carries it out and
 /// adds it to the history. Room for the entry is taken first, so that nothing fails once the server has changed.
-/// After an answer `watch` says that the session has seen the whole history, and has looked once more.
+/// After an answer `watch` says that the session has seen the whole history, and has looked once more. The answer's
+/// place is how many entries the history had before the statement.
 ///
+/// `server`: the state that `history` leaves. `watch`: what the session has seen. `session`: its number.
 /// Errors: `NoMemory`, also after 2^64 - 1 looks of the session. Nothing has changed then.
 pub(crate) fn serve(
     server: &mut Server,

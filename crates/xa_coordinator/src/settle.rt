@@ -1,7 +1,7 @@
 //! What a recovery does with the prepared branches of one store.
 //!
-//! Of the contracts' clauses, `frame` says that no other store's session changes, `marks` what the coordinator then
-//! has open in its stores, `free` that nothing is open in this one, and `few` how many entries are added at most.
+//! Of the contracts' clauses, `frame` says that no other store's session changes, `marks` that what the coordinator has
+//! open in other stores stays, `free` that nothing is open in this one, and `few` how many entries are added at most.
 ghost use Rattle.std.specs.Prelude.{◌≡◌, ◌<◌, ◌≤◌, ◌+◌, ◌^◌, ℕ, true, false, IfOk, IfErr, IfSome, IfNone, slice_get};
 ghost use Rattle.std.specs.Prelude.{Some, None, vec_len};
 ghost use Rattle.std.specs.List.{list_any};
@@ -31,7 +31,7 @@ fn finish_decided(decided: bool) -> Closing
 }
 
 /// The tally with one more branch: missing if it wasn't found, else committed if its number is decided, else
-/// rolled back.
+/// rolled back. `decided`: whether its number is. `found`: whether the branch was found, and so finished.
 fn with_one(tally: Tally, decided: bool, found: Found) -> Tally
     requires { total tally + 1 < 2 ^ 64 }
     ensures counted { result ≡ counted tally decided found }
@@ -54,9 +54,9 @@ fn with_one(tally: Tally, decided: bool, found: Found) -> Tally
 }
 
 impl<S: Speak> Coordinator<S> {
-    /// Finishes a prepared branch of this coordinator's naming as the decisions say, and returns the tally with
-    /// it. For any other branch it gives no statement, and returns the tally as it is. The error says why the branch
-    /// isn't finished.
+    /// Finishes a prepared branch of this coordinator's naming as the decisions say, and returns the tally with one
+    /// more. For any other branch it gives no statement, and returns the tally as it is. The error says why the
+    /// branch isn't finished, for another cause than XAER_NOTA, which counts as missing.
     fn settle<R: Wait>(
         &mut self,
         rt: &R,
@@ -94,8 +94,8 @@ impl<S: Speak> Coordinator<S> {
         Ok(with_one(tally, decided, found))
     }
 
-    /// Finishes each listed branch of this coordinator's naming, in order, until one isn't finished for another
-    /// cause than XAER_NOTA. Returns how many came to which end, or that cause.
+    /// Finishes each listed branch of this coordinator's naming, in order; XAER_NOTA counts as missing. Stops at the
+    /// first that isn't finished for another cause, and returns that cause; else returns how many came to which end.
     pub(crate) fn settle_each<R: Wait>(
         &mut self,
         rt: &R,

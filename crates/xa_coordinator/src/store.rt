@@ -101,7 +101,7 @@ impl LastingStore {
         // Proved (coordinator, unbounded-store-beside)
         ensures cause { OnErr result (result ≡ Err WantsMemory) }
     {
-        // Sessions have the numbers 1 to 16, so this error never comes.
+        // The other client is session 2. Sessions have the numbers 1 to 16, so this error never comes.
         let Some(session) = SessionNo::of(2) else {
             return Err(Fault::NoMemory);
         };
@@ -123,7 +123,7 @@ impl LastingStore {
         ensures err { OnErr result (own_view self.new ≡ own_view self.old) }
         ensures cause { OnErr result (result ≡ Err WantsMemory) }
     {
-        // Sessions have the numbers 1 to 16, so this error never comes.
+        // The store's own session is 1. Sessions have the numbers 1 to 16, so this error never comes.
         let Some(session) = SessionNo::of(1) else {
             return Err(Fault::NoMemory);
         };

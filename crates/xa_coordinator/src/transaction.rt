@@ -19,7 +19,7 @@ pub struct Transaction {
     pub(crate) participants: Participants,
     // The number is written as 8 bytes of the gtrid.
     ghost eight_bytes: { number < 2 ^ 64 },
-    // As many stores as its coordinator has.
+    // A coordinator has at most 16 stores.
     ghost among: { stores ≤ 16 },
     // Only these can take part.
     ghost within: { (store : ℕ) → takes_part participants store ≡ true → store < stores },

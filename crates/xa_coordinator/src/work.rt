@@ -51,8 +51,8 @@ impl<S: Speak> Coordinator<S> {
         Ok(answer.reply)
     }
 
-    /// Works in a store in which the coordinator has the transaction's branch open and ACTIVE. The store takes
-    /// part then, also after an error.
+    /// Gives a row statement to a store in which the coordinator has the transaction's branch open and ACTIVE, and
+    /// returns the reply, which may be a refusal. The store takes part then, also after an error, the session's fault.
     fn work_within<R: Wait>(
         &mut self,
         rt: &R,
@@ -82,8 +82,9 @@ impl<S: Speak> Coordinator<S> {
         }
     }
 
-    /// Works in a store in which the coordinator doesn't have the transaction's branch open and ACTIVE: starts
-    /// it first. If `XA START` isn't carried out, the transaction is as before.
+    /// Starts the transaction's branch in a store in which the coordinator doesn't have it open and ACTIVE, and then
+    /// gives the row statement there. Returns the reply, which may be a refusal. The error says why `XA START` wasn't
+    /// carried out, and the transaction is as before; or it is the session's fault at the row statement.
     ///
     /// Clause `again`: if the branch is open already, its work was ended, and a session that has an open branch
     /// starts none. So `XA START` isn't added then.
@@ -116,9 +117,9 @@ impl<S: Speak> Coordinator<S> {
         }
     }
 
-    /// Works in a store: in the transaction's branch if the coordinator has it open and ACTIVE there, else in one that
-    /// it starts; or returns `Lost` if the store takes part, and the coordinator has no branch of the transaction open
-    /// there. Other errors are those of `work`.
+    /// Gives a row statement to a store: in the transaction's branch if the coordinator has it open and ACTIVE there,
+    /// else in one that it starts first. The error is `Lost` if the store takes part and the coordinator has no
+    /// branch of the transaction open there; then the store gets no statement. Other errors are those of `work`.
     fn work_at<R: Wait>(
         &mut self,
         rt: &R,

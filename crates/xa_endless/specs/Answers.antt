@@ -36,13 +36,15 @@ pub record HasAnswered (statement : Statement) (answer : Answer) (replica : Repl
   pub replayed : answer.place ≤ replica.replayed
   pub kept : IsKept no_state statement answer (kept_of replica) new
 
--- nothing of the statement was appended; at Overtaken a try was lost to a longer history
+-- nothing of the statement was appended; at Overtaken a try was lost to another session, and `front` entries are seen
+-- now
 abbrev pub Fails : EndlessFault → Known → Known → Type 0
 Fails (Overtaken front) old new = IsOvertaken front old new
 Fails NoMemory old new = IsUnanswered old new
 Fails Behind old new = IsUnanswered old new
 
--- from the next entry that the replica would replay on, the history has at least as many entries as the ring has rows
+-- from the replica's next entry on, the history has at least as many entries as the ring has rows, so the ring may have
+-- overwritten that entry
 abbrev pub IsLost : ℕ → Replica → RingPass → Type 0
 IsLost rows replica pass = replica.replayed + rows ≤ least_of pass
 
@@ -78,7 +80,7 @@ Leaves (Overtaken front) replica old new = (length old.seen ≤ replica.replayed
 Leaves NoMemory replica old new = Unit {0}
 Leaves Behind replica old new = Unit {0}
 
--- nothing of the statement was appended, for a cause of this fault
+-- nothing of the statement was appended, the fault has its cause, and the replica has replayed as much as `Leaves` says
 pub record HasFailed (log : RingLog) (statement : Statement) (fault : EndlessFault) (replica : Replica)
     (old new : RingPass) : Type 0 where
   pub fails : Fails fault (known_of old) (known_of new)

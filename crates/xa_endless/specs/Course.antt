@@ -11,7 +11,8 @@ use Rattle.xa_session.specs.View.{SessionView}
 use Rattle.xa_coordinator.specs.Agreement.{AgreesWith, Agrees}
 use Rattle.xa_coordinator.specs.declared.decisions.Decision.{Decision}
 
--- from one session of the store to the session after calls, each with the decisions of its time
+-- calls of the coordinator of this name, one after another, lead from the old session of the store of this number to
+-- the new one; the list has the decisions as they stood at each call
 pub data Course (name : List ℕ) (store : ℕ) : List (List Decision) → SessionView → SessionView → Type 0 where
   stays : (session : SessionView) → Course name store [] session session
   calls : (decisions : List Decision) (later : List (List Decision)) (old mid new : SessionView)
@@ -23,8 +24,8 @@ abbrev pub joined : List (List Statement) → List Statement
 joined [] = []
 joined (list ∷ lists) = list ++ joined lists
 
--- the session is of its log, and its history begins as it did; exactly these statements of the session were added,
--- those of each call as its decisions allow
+-- the session has the same log and number, its history begins in the same state, and it sees no less; exactly these
+-- statements of the session were added, those of each call as its decisions allow
 pub record AgreesThroughout (name : List ℕ) (store : ℕ) (decisions : List (List Decision))
     (old new : SessionView) : Type 0 where
   pub identity : new.identity ≡ old.identity

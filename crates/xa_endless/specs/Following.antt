@@ -1,6 +1,6 @@
 -- How a session hands out the history.
 --     Loses            so many entries are counted as lost
---     Hands            the next entry, or how many are lost, or nothing
+--     Hands            the next entry, or how many are lost, or the end
 use Rattle.std.specs.Prelude.{◌≡◌, ◌<◌, ◌≤◌, ◌+◌, ◌-◌, ◌/◌, ◌⊎◌, ℕ, length, slice_get, Some}
 use Rattle.chain_log.specs.declared.ring.RingLog.{RingLog}
 use Rattle.chain_log.specs.RingPass.{known_of}
@@ -8,16 +8,17 @@ use Rattle.xa_endless.specs.declared.following.Next.{Next as NextOf}
 use Rattle.xa_endless.specs.declared.following.Next.TheVariants.{Entry as IsEntry, Lost, End}
 use Rattle.xa_endless.specs.declared.member.Member.{Member}
 
--- so many entries are counted as lost: of the first of them the ring may have no copy any more, and unless it is only
--- that one, the last three quarters of the ring's rows are still to be handed out
+-- so many entries are counted as lost, at least one: the ring may have overwritten the first of them; and unless it is
+-- only that one, the entries that are seen and still to be handed out are as many as the ring's rows less a quarter
+-- (rounded down)
 pub record Loses (log : RingLog) (count : ℕ) (old new : Member) : Type 0 where
   pub some : 0 < count
   pub told : new.told ≡ old.told + count
   pub round : old.told + log.rows ≤ length (known_of new.pass).seen
   pub few : (count ≡ 1) ⊎ (new.told + (log.rows - log.rows / 4) ≡ length (known_of new.pass).seen)
 
--- the entry at the place up to which the history was handed out; or entries from there on are lost; or no entry, at the
--- end of a history at which the session has looked
+-- the next entry, behind those that were handed out; or entries from there on are lost; or no entry, if all that is
+-- seen was handed out and the session has looked
 abbrev pub Hands : RingLog → NextOf → Member → Member → Type 0
 Hands log (IsEntry entry) old new =
     (slice_get (known_of new.pass).seen old.told ≡ Some entry) × (new.told ≡ old.told + 1)

@@ -11,19 +11,22 @@ use Rattle.xa_endless.specs.Seen.{HasOnlySeen}
 use Rattle.xa_endless.specs.declared.member.Member.{Member}
 use Rattle.xa_endless.specs.declared.replica.Replica.{Replica}
 
--- nothing was tried, the replica has replayed no less, and as much of the history is handed out
+-- more may be seen, and nothing was tried; the replica has replayed no less, and as much of the history is handed out
+-- as before
 pub record Keeps (old new : Member) : Type 0 where
   pub seen : HasOnlySeen (known_of old.pass) (known_of new.pass)
   pub folds : old.replica.replayed ≤ new.replica.replayed
   pub told : new.told ≡ old.told
 
--- the member has only seen more: it tried nothing, and its replica is the same
+-- the member may have seen more, and nothing else: nothing was tried, its replica is the same, and as much of the
+-- history is handed out
 pub record Hears (old new : Member) : Type 0 where
   pub seen : HasOnlySeen (known_of old.pass) (known_of new.pass)
   pub replica : new.replica ≡ old.replica
   pub told : new.told ≡ old.told
 
--- the pass has met others, and has heard nothing from them
+-- the pass has seen, tried and appended nothing more, as the first of two that meet; the replica is the same, and as
+-- much of the history is handed out
 pub record Tends (old new : Member) : Type 0 where
   pub met : MeetsFirst (known_of old.pass) (known_of new.pass)
   pub replica : new.replica ≡ old.replica

@@ -4,7 +4,8 @@
 use Rattle.std.specs.Prelude.{◌≡◌, ℕ, length, min, nat_le, if◌then◌else◌}
 use Rattle.xa_endless.specs.declared.store.EndlessStore.{EndlessStore}
 
--- how many checkpoints a store has: none for one session, which nobody can leave behind, else one for each, up to 4
+-- how many checkpoints a store has: none for one session, which nobody can leave behind, else as many as sessions, up
+-- to 4
 abbrev pub checkpoints_of : ℕ → ℕ
 checkpoints_of sessions = if nat_le sessions 1 then 0 else min sessions 4
 

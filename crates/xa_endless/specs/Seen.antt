@@ -4,7 +4,7 @@ use Rattle.std.specs.Prelude.{◌≡◌, ◌≤◌}
 use Rattle.decision_log.specs.History.{Begins}
 use Rattle.decision_log.specs.declared.known.Known.{Known}
 
--- more may be seen, and nothing was tried
+-- more may be seen, and nothing was tried or appended
 pub record HasOnlySeen (old new : Known) : Type 0 where
   pub number : new.number ≡ old.number
   pub seen : Begins old.seen new.seen

@@ -40,8 +40,8 @@ view_of session =
 pub keeps-law : (session : EndlessSession) → LockLaw (view_of session).base
 keeps-law session = law_no_state
 
--- the only fault of `execute` is NoMemory, for the cause that `IsCaused` names: a list, a replica that hasn't replayed
--- all that is seen, or more than 2^59 entries. The store is never full and has no turn
+-- the only fault of `execute` is NoMemory, for a cause that `IsCaused` names: the list of an XA RECOVER, a replica that
+-- hasn't replayed all that is seen, or more than 2^59 entries. The store is never full and has no turn
 abbrev pub MayFail : Statement → Fault → EndlessSession → Type 0
 MayFail statement (Overtaken front) session = ⊥
 MayFail statement Full session = ⊥
@@ -67,8 +67,8 @@ pub record SpeaksOnce (statement : Statement) (result : Result Answer Fault) (ol
   pub cause : IfErr result (λ fault. MayFailOnce statement fault new)
   pub once : TriesOnce result (known_of old.member.pass) (known_of new.member.pass)
 
--- tries of a statement, one after another, until one is answered; a fault doesn't come in place of a try that was
--- lost
+-- the session is of its store, and after any number of tries the statement is answered, or not for a cause; after a
+-- fault there were more looks than tries, so the last look led to no try
 pub record SpeaksOn (statement : Statement) (result : Result Answer Fault) (old new : EndlessSession) : Type 0 where
   pub stays : Stays old new
   pub answered : IfOk result (λ answer. HasAnswered statement answer new.member.replica (known_of old.member.pass)

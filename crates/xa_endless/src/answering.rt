@@ -14,7 +14,7 @@ use xa_session::Answer;
 use xa_xid::{NoMemory, Statement};
 
 impl EndlessStore {
-    /// Tries once to answer a statement, with the session's own replica, as `Replica::attempt` does.
+    /// Makes one attempt to answer a statement, with the session's own replica, as `Replica::attempt` does.
     fn try_once(&self, member: &mut Member, statement: &Statement) -> Result<Answer, EndlessFault>
         requires { log_of member.old.pass ≡ identity_of self.now.log }
         ensures belongs { log_of member.new.pass ≡ log_of member.old.pass }
@@ -28,8 +28,9 @@ impl EndlessStore {
             .attempt(&self.log, &mut member.pass, statement)
     }
 
-    /// Tries to answer a statement. Before that the session goes on from a checkpoint, if that is faster than to
-    /// replay. If it then turns out to be behind, it goes on from a checkpoint and tries once more.
+    /// Makes an attempt to answer a statement. Before that the session goes on from a checkpoint, if that should be
+    /// faster than to replay. If it then turns out to be behind, and can go on from a checkpoint, it does so and makes
+    /// one more attempt.
     ///
     /// Errors: as for `Replica::attempt`; `NoMemory` also if a session that is behind couldn't copy the checkpoint.
     fn answer(&self, member: &mut Member, statement: &Statement) -> Result<Answer, EndlessFault>
@@ -50,12 +51,12 @@ impl EndlessStore {
         if self.help(member)? {
             return self.try_once(member, statement);
         }
-        // No checkpoint is in its place, or none is further: another session may leave one.
+        // The session can go on from no checkpoint now, so it returns `Behind`: another session may leave one.
         answered
     }
 
-    /// Answers a statement as `answer` does. After an answer, but not after a fault, it looks after a checkpoint, if it
-    /// is time.
+    /// Answers a statement as `answer` does. After an answer, but not after a fault, the session tends a checkpoint, if
+    /// it is time (`tend_in_time`).
     fn attempt(&self, member: &mut Member, statement: &Statement) -> Result<Answer, EndlessFault>
         requires { log_of member.old.pass ≡ identity_of self.now.log }
         ensures belongs { log_of member.new.pass ≡ log_of member.old.pass }
@@ -65,7 +66,7 @@ impl EndlessStore {
         ensures once { TriesOnce result (known_of member.old.pass) (known_of member.new.pass) }
     {
         let answer = self.answer(member, statement)?;
-        // The session has just replayed what it saw. It may be the last one that adds, so it does this now.
+        // The session has just replayed what it saw. It may be the last one that adds, so it tends a checkpoint now.
         self.tend_in_time(member);
         Ok(answer)
     }
@@ -75,12 +76,12 @@ impl EndlessSession {
     /// Answers a statement from the whole history, as it is at one step of the call, and appends it if it is logged.
     ///
     /// The answer's place is the length of the history at that step. Errors: `Behind` if entries that the session
-    /// hasn't replayed were overwritten, and it found no checkpoint that is nearer to the end, or others added as many
-    /// entries as the ring has rows while it copied one. Try again: no number of tries is promised. `NoMemory` if an
-    /// entry couldn't be replayed, or a checkpoint couldn't be copied, or the list of `XA RECOVER` couldn't be made, or
-    /// the history has more than 2^59 entries;
-    /// `Overtaken` if another session appended after this attempt looked. After an error the history has nothing of the
-    /// statement, and the session may have seen and replayed more. `NoMemory` is never returned after an append.
+    /// hasn't replayed may be overwritten, and either it could go on from no checkpoint, or entries after the
+    /// checkpoint's were also overwritten before it had replayed them. Try again: no number of tries is promised.
+    /// `NoMemory` if an entry couldn't be replayed, or a checkpoint couldn't be copied, or the list of `XA RECOVER`
+    /// couldn't be made, or the statement would be logged and the history has as many entries as it can, more than
+    /// 2^59; `Overtaken` if another session appended after this attempt looked. After an error the history has nothing
+    /// of the statement, and the session may have seen and replayed more. `NoMemory` is never returned after an append.
     ///
     /// After an answer the session may bring a checkpoint up to date, for which it may copy its replica with all rows
     /// of the store. Doesn't wait, and yields no processor.
@@ -142,6 +143,8 @@ impl EndlessSession {
                     return Ok(answer);
                 }
                 Err(EndlessFault::NoMemory) => return Err(std::alloc::AllocError),
+                // Another attempt may be answered. Before it other threads may go on, and leave a checkpoint if one is
+                // missing.
                 Err(EndlessFault::Overtaken { .. }) | Err(EndlessFault::Behind) =>
                     thread::yield_now(),
             }

@@ -17,7 +17,7 @@ use std::sync::Arc;
 
 /// A replica that no session owns, and a spare, which remembers the history that the replica stands for.
 ///
-/// The sessions keep it near the end of the history, so that a session that is behind can go on from there. Such a
+/// The sessions bring it up to date from time to time, so that a session that is behind can go on from there. Such a
 /// session shares the replica while it copies it. A replica that is shared can't change.
 #[derive(Drop)]
 pub(crate) struct Checkpoint {
@@ -32,17 +32,17 @@ pub(crate) struct Checkpoint {
 }
 
 impl Checkpoint {
-    /// How many entries the replica has replayed, if a session can go on from there, else None. It can if the replica
-    /// has replayed more than the session's own, and its next entry isn't lost, as far as the session has seen: fewer
-    /// entries come after the replayed ones than the ring has rows.
+    /// How many entries the replica has replayed, if the session can go on from there, else None. The session can if
+    /// the checkpoint's replica has replayed more than the session's own, and the next entry isn't lost: of the entries
+    /// that the session has seen, fewer come after the replayed ones than the ring has rows.
     pub(crate) fn offers(&self, log: &RingLog, member: &Member) -> Option<u64>
         requires mine { spare_log_of self.now.spare ≡ identity_of log.now }
         requires belongs { log_of member.now.pass ≡ identity_of log.now }
         ensures { IfSome result (λ _. member.now.replica.replayed < self.now.replica.value.replayed) }
     {
         let replayed = self.replica.replayed;
-        // A replica whose next entry may be lost, too, is of no use. A log is full long before such a sum reaches 2^64,
-        // but that isn't known here, so it saturates.
+        // A replica whose next entry may be lost is of no use: it can't catch up. A log is full long before such a sum
+        // reaches 2^64, but that isn't known here, so the sum saturates.
         let is_lost = replayed.saturating_add(log.rows()) <= log.length(&member.pass);
         if replayed <= member.replica.replayed || is_lost {
             None
@@ -51,10 +51,10 @@ impl Checkpoint {
         }
     }
 
-    /// Shares the replica with a session that can go on from there. None, with the session as it was, if it can't, or
-    /// if the replica can't be shared once more.
+    /// Shares the replica with a session that can go on from there (`offers`). None, with the session as it was, if the
+    /// session can't, or if the replica can't be shared once more.
     ///
-    /// The session has then seen all that the replica stands for.
+    /// A session that shares the replica has then seen all that the replica stands for.
     pub(crate) fn share(&mut self, log: &RingLog, member: &mut Member) -> Option<Arc<Replica>>
         requires mine { spare_log_of self.old.spare ≡ identity_of log.now }
         requires belongs { log_of member.old.pass ≡ identity_of log.now }
@@ -68,8 +68,8 @@ impl Checkpoint {
         // These two can fail, so they come before anything changes.
         self.offers(log, member)?;
         let shared = Arc::try_clone(&self.replica).ok()?;
-        // The session then sees at least as many entries as it knew the history to have. `copy` promises that, also if
-        // there is no memory for the copy.
+        // The session then sees at least as many entries as it knew the history to have. `EndlessStore::copy` promises
+        // that if there is no memory for the copy.
         log.look(&mut member.pass);
         // Spare and pass have seen prefixes of one history, so what the replica has replayed begins what the session
         // has seen.
@@ -77,8 +77,8 @@ impl Checkpoint {
         Some(shared)
     }
 
-    /// Exchanges the replica with that of a session, if the session can go on from there, and no other shares the
-    /// checkpoint's replica. Returns whether they are exchanged. If not, nothing has changed.
+    /// Exchanges the replica with that of a session, if the session can go on from the checkpoint's (`offers`), and no
+    /// other session shares that. Returns whether they are exchanged. If not, nothing has changed.
     pub(crate) fn exchange(&mut self, log: &RingLog, member: &mut Member) -> bool
         requires mine { spare_log_of self.old.spare ≡ identity_of log.now }
         requires belongs { log_of member.old.pass ≡ identity_of log.now }
@@ -102,7 +102,7 @@ impl Checkpoint {
         true
     }
 
-    /// Replays here what a session has seen, unless the replica is shared.
+    /// Replays on the checkpoint's replica what the session has seen, unless the replica is shared.
     ///
     /// A shared replica stays as it is: `Old` if it misses at least half as many entries as the ring has rows (rounded
     /// down), else `NotNow`, even if it misses none. Otherwise returns `Done` if the replica has then replayed all that
@@ -118,8 +118,8 @@ impl Checkpoint {
         // The spare has then seen all that the replica may replay here.
         log.tell(&mut member.pass, &mut self.spare);
         let count = log.length(&member.pass);
-        // The replica misses so many entries that its next one may be lost before those who copy it are done. The sum
-        // saturates as in `offers`.
+        // Whether the replica misses at least half a ring, so that its next entry may be lost before those who copy it
+        // are done. The sum saturates as in `offers`.
         let is_old = self.replica.replayed.saturating_add(log.rows() / 2) <= count;
         let Some(replica) = Arc::get_mut(&mut self.replica) else {
             return if is_old { Upkeep::Old } else { Upkeep::NotNow };
@@ -152,7 +152,7 @@ impl Checkpoint {
         ensures belongs { log_of member.new.pass ≡ log_of member.old.pass }
         ensures tends { Tends member.old member.new }
     {
-        // Another session has come further, and was here before.
+        // Another session has come as far or further, and was here before.
         if copy.replayed <= self.replica.replayed {
             return copy;
         }

@@ -16,7 +16,8 @@ pub enum EndlessFault {
         /// How many entries the session has seen now.
         front: u64,
     },
-    /// No memory is left. The session may have seen and replayed more.
+    /// No memory is left, or the statement would be logged and the history has as many entries as it can, more than
+    /// 2^59. The session may have seen and replayed more.
     #[error("out of memory")]
     NoMemory,
     /// Entries that the session hasn't replayed were overwritten. It found no checkpoint to go on from, or others were

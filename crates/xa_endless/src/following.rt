@@ -12,10 +12,10 @@ use xa_words::Entry;
 pub enum Next {
     /// The next entry.
     Entry(Entry),
-    /// So many entries are counted as lost. The first of them may be overwritten; the others, if any, would be the next
-    /// to be.
+    /// So many entries are counted as lost. The first of them may be overwritten. If there are others, the last three
+    /// quarters of the ring's rows come after them.
     Lost(u64),
-    /// All that the history has was handed out.
+    /// All that the history has was handed out, or counted as lost.
     End,
 }
 
@@ -36,7 +36,7 @@ impl EndlessSession {
     {
         let log = &self.store.log;
         let told = self.member.told;
-        // A look is made only if all that was seen is handed out.
+        // If all that was seen is handed out, a look tells whether the history has more.
         if told == log.length(&self.member.pass) && log.look(&mut self.member.pass) == told {
             return Next::End;
         }
@@ -44,10 +44,11 @@ impl EndlessSession {
             self.member.told = told + 1;
             return Next::Entry(entry);
         }
-        // The entry is lost. Those that came since may not be seen yet.
+        // The ring may have overwritten the entry, so it is counted as lost. A look tells how long the history is now.
         let count = log.look(&mut self.member.pass);
-        // Entries of the oldest quarter of the ring may be lost before they are handed out, so they are given up with
-        // the one that is lost. At least that one is, also in a ring of fewer than 4 rows, which has no such quarter.
+        // Entries of the oldest quarter of the ring may be overwritten before they are handed out, so they are given
+        // up, too. At least the entry at `told` is given up, also in a ring of fewer than 4 rows, which has no such
+        // quarter.
         let kept = log.rows() - log.rows() / 4;
         let lost = (count - told).saturating_sub(kept).max(1);
         self.member.told = told + lost;

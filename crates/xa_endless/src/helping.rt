@@ -6,8 +6,9 @@ ghost use Rattle.xa_endless.specs.Members.{Keeps};
 use crate::{EndlessStore, Member};
 use xa_xid::NoMemory;
 
-/// How many entries a session replays rather than that it looks for a checkpoint: looking takes each checkpoint out
-/// of its place for a moment, where no other session finds it.
+/// How many entries ahead of a session a checkpoint must at least be for a jump. To find the best one, the session
+/// takes each checkpoint out of its place for a moment, so that others can't have it. So a jump has to save some
+/// replays.
 const LEAST_JUMP: u64 = 512;
 
 impl EndlessStore {
@@ -26,8 +27,8 @@ impl EndlessStore {
         offered
     }
 
-    /// The place of the checkpoint whose replica has replayed most, of those from which the session can go on, or None
-    /// if there is none.
+    /// The place of the checkpoint whose replica has replayed most, of those from which the session can go on. None if
+    /// there is none, or if other sessions have them just now.
     fn best(&self, member: &Member) -> Option<usize>
         requires { log_of member.now.pass ≡ identity_of self.now.log }
         ensures { IfSome result (λ index. index < length self.now.checkpoints.items) }
@@ -71,8 +72,9 @@ impl EndlessStore {
         self.copy(index, member)
     }
 
-    /// Exchanges a session's replica for that of the checkpoint at `index`, if that has many rows, the session can go
-    /// on from it, and nobody else has or copies it. Returns whether they are exchanged; if not, nothing has changed.
+    /// Exchanges a session's replica for that of the checkpoint at `index`, if the checkpoint's has many rows, the
+    /// session can go on from it, and nobody else has the checkpoint or copies its replica. Returns whether they are
+    /// exchanged; if not, nothing has changed.
     fn swap(&self, index: usize, member: &mut Member) -> bool
         requires index { index < length self.now.checkpoints.items }
         requires belongs { log_of member.old.pass ≡ identity_of self.now.log }
@@ -83,6 +85,7 @@ impl EndlessStore {
         let Some(mut checkpoint) = self.take_checkpoint(index) else {
             return false;
         };
+        // With few rows `copy` is quick, and leaves the checkpoint as it is.
         let swaps = !self.copies_fast(&checkpoint.replica)
             && checkpoint.exchange(&self.log, member);
         self.put_checkpoint(index, checkpoint);
@@ -118,28 +121,30 @@ impl EndlessStore {
         };
         // The copy takes time for all rows. Meanwhile the checkpoint is in its place, and others can share it, too.
         member.replica = shared.copy()?;
-        // It is as far as the checkpoint, so it looks after one only after a pace more.
+        // The session is as far as the checkpoint, so it sees to the checkpoints only after a pace more.
         member.tended = member.replica.replayed;
         self.progress
             .tell(self.log.number(&member.pass).get(), member.tended);
         Ok(true)
     }
 
-    /// Has a session go on from a checkpoint, if that takes less time than to replay the entries up to there.
+    /// Has a session go on from a checkpoint, if that should take less time than to replay the entries up to there: if
+    /// the newest one is ahead by at least `LEAST_JUMP` entries, and by at least as many as the session's replica has
+    /// rows. The session stays as it is if no checkpoint can be had; without memory for a copy it may have seen more.
     pub(crate) fn jump(&self, member: &mut Member)
         requires { log_of member.old.pass ≡ identity_of self.now.log }
         ensures belongs { log_of member.new.pass ≡ log_of member.old.pass }
         ensures keeps { Keeps member.old member.new }
     {
         let checkpoint = self.progress.checkpoint();
-        // How many entries the newest checkpoint is ahead: 0 if the session has replayed as many.
+        // How many entries the newest checkpoint is ahead: 0 if the session has replayed as many or more.
         let ahead = checkpoint - member.replica.replayed.min(checkpoint);
         // A copy takes time for each row, so it has to save the replay of as many entries. The session's own rows are
         // counted, since the checkpoint isn't at hand.
         if ahead < LEAST_JUMP || ahead < member.replica.row_count() {
             return;
         }
-        // If no checkpoint can be had, or without memory for the copy, it replays the entries.
+        // If no checkpoint can be had, or there is no memory for the copy, the session replays the entries itself.
         let _jumped = self.help(member);
     }
 }

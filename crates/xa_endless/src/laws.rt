@@ -6,7 +6,7 @@ ghost use Rattle.xa_endless.specs.Course.{Course, AgreesThroughout};
 
 /// States that whatever a coordinator adds in a store agrees with its decisions, over any number of its calls.
 ///
-/// This holds for every session that a coordinator can use. If the store has no end, so does the course.
+/// This holds for every session that a coordinator can use. If the store has no end, the calls may go on without end.
 /// Own rule: docs/COORDINATOR.md#stores-without-an-end.
 pub fn calls_keep_agreement()
     // Proved (coordinator, agrees-throughout): Whatever a coordinator adds in a store, in any number of calls, agrees

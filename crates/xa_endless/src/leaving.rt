@@ -24,7 +24,7 @@ impl EndlessSession {
         if self.store.checkpoints.is_empty() {
             return true;
         }
-        // Any checkpoint will do, so the search begins with the first. It makes as many looks as one for a copy does.
+        // Any checkpoint will do, so the search begins with the first. It takes as many steps as one for a copy does.
         self.store.tend(&mut self.member, 0, MOST_LOOKS)
     }
 }

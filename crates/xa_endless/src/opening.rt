@@ -15,7 +15,7 @@ use chain_log::{RingFault, RingLog, RingPass, RingSpare};
 use std::alloc::{AllocError, Global};
 use std::sync::Arc;
 
-/// How many checkpoints a store has: none if nobody can be behind, and at most four.
+/// How many checkpoints a store of so many sessions has: as many, but at most four, and none for a single session.
 fn count_checkpoints(sessions: u64) -> u64
     ensures value { result ≡ checkpoints_of sessions }
     ensures most { result ≤ 4 }
@@ -72,7 +72,7 @@ fn place_checkpoints(
 impl EndlessStore {
     /// Opens a store with no branch and no row, for 1 to 16 sessions. Its ring has `rows` rows, in `[1, 65536]`.
     ///
-    /// A session may sleep while fewer entries than `rows` are added, and then replays them. After more than that it
+    /// A session may sleep while fewer entries than `rows` are added, and then replays them. After as many or more it
     /// goes on from a checkpoint, a replica that no session owns: from a copy of it, or if the store's table has many
     /// rows, from that replica itself. A row of the ring takes 184 bytes for each session and each checkpoint; there
     /// are up to 4 checkpoints. Errors, in the order of test: `RowsOutOfRange`, `SessionsOutOfRange`, `NoMemory`.

@@ -5,16 +5,16 @@ use std::alloc::{AllocError, Global};
 use std::sync::atomic::AtomicU64;
 use std::sync::atomic::Ordering::SeqCst;
 
-/// How many entries the sessions and the checkpoints had replayed when they told so last.
+/// How many entries the sessions and the newest checkpoint had replayed, by what sessions told last.
 ///
-/// It tells when a checkpoint is worth its time. No answer depends on it.
+/// By these numbers sessions see when a checkpoint is worth its time. No answer depends on them.
 #[derive(Drop)]
 pub(crate) struct Progress {
     /// What each session's replica had replayed.
     sessions: Vec<AtomicU64>,
-    /// What the checkpoint had replayed that has replayed most.
+    /// What the checkpoint that had replayed most had replayed; 0 again when a session takes one's replica for its own.
     checkpoint: AtomicU64,
-    /// What the session had replayed that began last to bring a checkpoint up to date.
+    /// What the session that was the last to begin to bring a checkpoint up to date had replayed by then.
     begun: AtomicU64,
 }
 
@@ -45,7 +45,7 @@ impl Progress {
         }
     }
 
-    /// How many entries each session's replica has replayed at least, by what they told last.
+    /// The least of the numbers of entries that the sessions' replicas have replayed, by what each told last.
     pub(crate) fn least(&self) -> u64 {
         // Only to begin with: a store has at least one session.
         let mut least = u64::MAX;
@@ -63,14 +63,14 @@ impl Progress {
         }
     }
 
-    /// Tells that a session took the replica of a checkpoint for its own: the newest checkpoint then counts as one that
-    /// has replayed nothing, until another one tells more.
+    /// Tells that a session took the replica of a checkpoint for its own: `checkpoint` then returns 0, until
+    /// `tell_checkpoint` tells more.
     pub(crate) fn forget_checkpoint(&self) {
         self.checkpoint.store(0, SeqCst);
     }
 
-    /// How many entries the checkpoint that has replayed most has replayed, by what was told; 0 after a session took
-    /// one for its own.
+    /// How many entries the checkpoint that has replayed most has replayed, by what was told. After a session took the
+    /// replica of one for its own it is 0, until more is told.
     pub(crate) fn checkpoint(&self) -> u64 {
         self.checkpoint.load(SeqCst)
     }

@@ -1,4 +1,4 @@
-//! A session's own server, in a store that began with no branch and no row.
+//! The server of a session or of a checkpoint, in a store that began with no branch and no row.
 ghost use Rattle.std.specs.Prelude.{◌≡◌, ◌<◌, ◌+◌, ◌^◌, false, true, List, slice_get, Some, IfOk, OnOk, OnErr};
 ghost use Rattle.xa_words.specs.Entry.{Entry as EntryValue};
 ghost use Rattle.xa_server.specs.Replies.{reply_to};
@@ -11,7 +11,7 @@ use xa_server::Server;
 use xa_words::Entry;
 use xa_xid::{NoMemory, SessionNo, Statement};
 
-/// A session's own server: the state after a prefix of the history.
+/// The server that a session or a checkpoint has for itself: the state after a prefix of the history.
 #[derive(Drop)]
 pub struct Replica {
     /// The state after the entries that were replayed.

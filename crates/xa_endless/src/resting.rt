@@ -22,7 +22,8 @@ pub struct RestingMember {
     pub(crate) replica: Replica,
     /// As in `Member`: how many entries `next_entry` has handed out.
     pub(crate) told: u64,
-    /// As in `Member`: once its replica has replayed a pace more than that, the session looks after a checkpoint.
+    /// As in `Member`: once its replica has replayed a pace more than that, the session sees whether a checkpoint is to
+    /// be tended.
     pub(crate) tended: u64,
     // The replica is no farther than what the pass has seen,
     ghost within: { replica.replayed ≤ length (resting_known_of pass).seen },
@@ -38,7 +39,7 @@ impl Fits for RestingMember {
     ghost fits = { λ log member. resting_log_of member.pass ≡ identity_of log };
 }
 
-/// A checkpoint that nobody looks after just now.
+/// A checkpoint that no session has taken out of its place.
 #[derive(Drop)]
 pub(crate) struct RestingCheckpoint {
     /// The spare, which has seen at least what the replica has replayed.

@@ -7,7 +7,7 @@ use crate::checkpoint::Checkpoint;
 use crate::resting::{RestingCheckpoint, RestingMember};
 
 impl Member {
-    /// Lets a session rest between two calls, as threads may share it then.
+    /// Lets a session rest while nobody has it, as threads may share it then.
     pub(crate) fn rest(self) -> RestingMember
         ensures { IsAtRest self result }
     {
@@ -27,7 +27,7 @@ impl Member {
 }
 
 impl RestingMember {
-    /// Wakes a session for a call. None if its pass isn't there, which can't be: `rest` left it.
+    /// Wakes a session for the caller that takes it. None if its pass isn't there, which can't be: `rest` left it.
     pub(crate) fn wake(self) -> Option<Member>
         ensures { IfSome result (λ member. IsAtRest member self) }
     {

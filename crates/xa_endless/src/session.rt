@@ -12,8 +12,8 @@ use xa_xid::SessionNo;
 /// A session of an endless store, which it owns together with the store's other sessions. It may be sent to another
 /// thread.
 ///
-/// Its history is the store's, from the first entry on. If it is dropped, its branch stays open, with its locks, and
-/// nobody can take its number again: end it by `leave`.
+/// Its history is the store's, from the first entry on. If a session is dropped, its branch stays open, with its locks,
+/// and nobody can take its number again: end it by `leave`.
 #[derive(Drop)]
 pub struct EndlessSession {
     /// The store, which lives as long as anybody has it.
@@ -95,7 +95,7 @@ impl EndlessSession {
     /// Own rule: docs/RATTLE.md#a-store-without-an-end.
     pub fn leave(self) {
         let EndlessSession { store, member } = self;
-        // Session 1 has place 0.
+        // Session 1 has place 0. Numbers are at least 1, so the difference isn't below 0.
         let place = store.log.number(&member.pass).get() - 1;
         store.put_member(place as usize, member);
     }

@@ -27,8 +27,8 @@ impl Speak for EndlessSession {
 
     /// Answers a statement as the session's own `attempt` does.
     ///
-    /// The session's `Behind` becomes `NoMemory`: nothing was appended, and another try may be answered. `execute`
-    /// tries again after it by itself.
+    /// The session's `Behind` becomes `NoMemory`, as `Fault` has no such variant: after both nothing was appended, and
+    /// another try may be answered. `execute` tries again after `Behind` by itself.
     fn attempt(&mut self, statement: &Statement) -> Result<Answer, Fault> {
         match EndlessSession::attempt(self, statement) {
             Ok(answer) => Ok(answer),

@@ -13,10 +13,10 @@ pub enum TakeFault {
     /// The store has no session of this number.
     #[error("the store has no session of this number")]
     OutOfRange,
-    /// No memory is left.
+    /// The store can't be shared once more.
     #[error("out of memory")]
     NoMemory,
-    /// Somebody has the session.
+    /// Somebody has the session, or is just giving it back.
     #[error("the session is taken")]
     Taken,
 }
@@ -26,9 +26,9 @@ impl EndlessStore {
     pub(crate) fn put_member(&self, index: usize, member: Member)
         requires { log_of member.pass ≡ identity_of self.now.log }
     {
-        // Each session of the store has a place. That isn't known here.
+        // Each session of the store has a place. That isn't known here; a session without one would be dropped.
         if index < self.places.len() {
-            // Nobody else fills a place whose session this call has.
+            // Nobody else fills a place whose session this call has, so it is free.
             let _put = self.places[index].put(member.rest());
         }
     }
@@ -79,7 +79,7 @@ impl EndlessStore {
         let Some(member) = owned.take_member(index) else {
             return Err(TakeFault::Taken);
         };
-        // Each place has the session of its number. That isn't known here.
+        // Each place has the session of its number. That isn't known here; another session would be put back.
         if owned.log.number(&member.pass).get() != number {
             owned.put_member(index, member);
             return Err(TakeFault::Taken);

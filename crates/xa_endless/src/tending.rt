@@ -7,12 +7,13 @@ use crate::upkeep::Upkeep;
 use crate::{EndlessStore, Member, Replica};
 use std::sync::Arc;
 
-/// How often a session looks at most for a checkpoint that no other session has. Most have one for a few steps only, so
-/// one of them is in its place soon.
+/// In how many steps at most a session goes round the places of the checkpoints, to find one that no other session has.
+/// Most sessions have one for a short time only, so a checkpoint is in its place soon.
 pub(crate) const MOST_LOOKS: usize = 256;
 
-/// How many rows are copied in any case, however small the ring is. A session that copies has a checkpoint for a few
-/// steps; one that replays has it for as long as that takes, and in a small ring others can't wait for it.
+/// A replica of at most so many rows is copied, however small the ring is. A session that leaves a copy has a
+/// checkpoint for a few steps; one that replays has it for as long as that takes, and in a small ring others can't wait
+/// for it.
 const FEW_ROWS: u64 = 256;
 
 /// How many entries are replayed at least before the next copy, unless an eighth of the ring's rows is less (`pace`):
@@ -20,20 +21,22 @@ const FEW_ROWS: u64 = 256;
 const FEW_ENTRIES: u64 = 1_024;
 
 impl EndlessStore {
-    /// How many entries the newest checkpoint may miss at most while the sessions tend it: an eighth of the ring's
+    /// How many entries the newest checkpoint should miss at most while the sessions tend it: an eighth of the ring's
     /// rows, and at least 1. So most of a larger ring is left for a session that goes on from there.
     fn most_behind(&self) -> u64 {
         (self.log.rows() / 8).max(1)
     }
 
-    /// Whether a replica has few rows: at most `FEW_ROWS`, or so few that a copy takes no longer than to replay the
-    /// entries that a checkpoint may miss. To copy a row takes about as long as to replay an entry.
+    /// Whether a replica has few rows: at most `FEW_ROWS`, or at most `most_behind`. To copy a row takes about as long
+    /// as to replay an entry, so with `most_behind` rows a copy takes no longer than to replay what a checkpoint should
+    /// miss at most.
     pub(crate) fn copies_fast(&self, replica: &Replica) -> bool {
         replica.row_count() <= self.most_behind().max(FEW_ROWS)
     }
 
-    /// How many entries a session replays before it sees to the checkpoints again: an eighth of the ring's rows, and at
-    /// least 1. With a replica of few rows it is twice as many as those, but at least `FEW_ENTRIES`, if that is less.
+    /// How many entries a session replays before it sees to the checkpoints again: `most_behind`, which is an eighth of
+    /// the ring's rows and at least 1. If the replica has few rows, it may be less: twice as many as these rows, but at
+    /// least `FEW_ENTRIES`, and never more than `most_behind`.
     fn pace(&self, replica: &Replica) -> u64 {
         let most = self.most_behind();
         // The next copy waits for twice as many entries as there are rows, so copies take only a part of the time.
@@ -64,9 +67,9 @@ impl EndlessStore {
         upkeep
     }
 
-    /// Leaves a copy of the session's replica in a checkpoint: the first from `first` on, round and round, that no
-    /// other session has now, at `MOST_LOOKS` looks. One that has replayed as much stays as it is, and will do. Returns
-    /// false if there was none, or no memory for the copy.
+    /// Leaves a copy of the session's replica in a checkpoint: the first from the place `first` on, round and round,
+    /// that no other session has now, in at most `MOST_LOOKS` steps. If that one has replayed as much or more, it
+    /// stays as it is, and will do. Returns false if none was found, or if there was no memory for the copy.
     fn leave_copy(&self, member: &mut Member, first: usize) -> bool
         requires { log_of member.old.pass ≡ identity_of self.now.log }
         ensures belongs { log_of member.new.pass ≡ log_of member.old.pass }
@@ -97,10 +100,10 @@ impl EndlessStore {
         false
     }
 
-    /// Has a checkpoint replay what this session has seen: the first from `first` on, round and round, at `most` looks,
-    /// that no other session has or copies now. If none could replay all, and one was `Old`, a copy of the session's
-    /// replica is left, as `leave_copy` does, from the first old one on. Returns whether a checkpoint has then replayed
-    /// as much as this session, or more.
+    /// Has a checkpoint replay what this session has seen: the first from the place `first` on, round and round, in at
+    /// most `most` steps, that can replay all of it (`Checkpoint::follow`). If none could, and one was `Old`, a copy of
+    /// the session's replica is left, as `leave_copy` does, from the first old one on. Returns whether a checkpoint has
+    /// then replayed as much as this session, or more.
     fn bring_forward(&self, member: &mut Member, first: usize, most: usize) -> bool
         requires { log_of member.old.pass ≡ identity_of self.now.log }
         ensures belongs { log_of member.new.pass ≡ log_of member.old.pass }
@@ -119,6 +122,7 @@ impl EndlessStore {
                 Upkeep::Done => return true,
                 // The first one that is old is kept in mind, in case none can replay.
                 Upkeep::Old => old = old.or(Some(index)),
+                // Another session uses it, or memory runs out: the next one may do.
                 Upkeep::NotNow => {}
             }
         }
@@ -129,8 +133,9 @@ impl EndlessStore {
     }
 
     /// Brings a checkpoint up to date in the cheaper way: by a copy of the session's replica if that has few rows, else
-    /// by replaying. The search begins with the checkpoint `first`. To replay it takes at most `most` looks, for a copy
-    /// always up to `MOST_LOOKS`. Returns whether one has then replayed as much as this session, or more.
+    /// by replaying, or by a copy after all if none can replay and one is `Old`. The search begins at the place
+    /// `first`. To find a checkpoint that can replay it takes at most `most` steps, to find one for a copy at most
+    /// `MOST_LOOKS`. Returns whether one has then replayed as much as this session, or more.
     pub(crate) fn tend(&self, member: &mut Member, first: usize, most: usize) -> bool
         requires { log_of member.old.pass ≡ identity_of self.now.log }
         ensures belongs { log_of member.new.pass ≡ log_of member.old.pass }
@@ -143,7 +148,7 @@ impl EndlessStore {
         } else {
             self.bring_forward(member, first, most)
         };
-        // The checkpoint has then replayed at least that.
+        // The checkpoint has then replayed at least as much as the session.
         if is_tended {
             self.progress.tell_checkpoint(replayed);
         }
@@ -158,7 +163,8 @@ impl EndlessStore {
         ensures tends { Tends member.old member.new }
     {
         let replayed = member.replica.replayed;
-        // 0 if `tended` is more: it may have been taken from a checkpoint that was ahead.
+        // How many entries beyond `tended` the session has replayed; 0 if `tended` is more: it may have been taken from
+        // a checkpoint that was ahead.
         let since = replayed - member.tended.min(replayed);
         let pace = self.pace(&member.replica);
         if since < pace {
@@ -175,9 +181,10 @@ impl EndlessStore {
             member.tended = replayed;
             return;
         }
-        // Another session has just brought one up to date.
+        // If the newest checkpoint misses fewer entries than a pace, another session has just brought it up to date.
         let checkpoint = self.progress.checkpoint();
         if replayed < checkpoint.saturating_add(pace) {
+            // So this session asks again once it has replayed a pace more than that checkpoint.
             member.tended = checkpoint;
             return;
         }
@@ -193,6 +200,7 @@ impl EndlessStore {
         // The pace is at least 1, but that isn't known here.
         let first = (replayed / pace.max(1) % 2) as usize;
         let most = if since < half { 1 } else { MOST_LOOKS };
+        // If that fails, `tended` stays, so the session tries again: after a pace, and after half a ring at any answer.
         if self.tend(member, first, most) {
             member.tended = replayed;
         }

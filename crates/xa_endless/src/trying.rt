@@ -1,4 +1,4 @@
-//! A single try by a replica and a pass.
+//! A single attempt to answer a statement, by a replica and a pass.
 //!
 //! Of the contracts' clauses, `belongs` says that the pass is still of its ring, `stands` that the replica is the
 //! state after the prefix that it has replayed, and `folds` that this prefix gets no shorter.
@@ -40,8 +40,8 @@ impl Replica {
         Ok(())
     }
 
-    /// Replays all entries that are seen and weren't replayed. `count` is how many are seen. Errors: `Behind` if the
-    /// ring may have no copy of the next one any more, `NoMemory`. Some are then still left.
+    /// Replays all entries that the pass has seen and that weren't replayed. `count` is how many it has seen. Errors:
+    /// `Behind` if the ring may have no copy of the next one any more, `NoMemory`. Some are then still left.
     pub(crate) fn catch_up(
         &mut self,
         log: &RingLog,
@@ -87,7 +87,7 @@ impl Replica {
     }
 
     /// Carries out the next entry that the pass has seen: this statement of this session, which is logged in the
-    /// replica's state.
+    /// replica's state. After `NoMemory` the replica is unchanged.
     fn keep(
         &mut self,
         log: &RingLog,
@@ -141,10 +141,12 @@ impl Replica {
         Ok(())
     }
 
-    /// Tries once to answer a statement: looks, replays, finds the reply, and appends the statement if it is logged.
+    /// Makes one attempt to answer a statement: looks, replays, finds the reply, and appends the statement if it is
+    /// logged.
     ///
     /// Errors: `Behind` if entries to replay may be overwritten; `NoMemory` if an entry couldn't be replayed, or a list
-    /// couldn't be made, or the ring is full; and `Overtaken` if another session appended after the look.
+    /// couldn't be made, or the statement would be logged and the ring is full; and `Overtaken` if another session
+    /// appended after the look.
     pub(crate) fn attempt(
         &mut self,
         log: &RingLog,
@@ -163,7 +165,7 @@ impl Replica {
         let session = log.number(pass);
         let (reply, enters) = self.server.reply(session, statement)?;
         let answer = Answer { place, reply };
-        // The answer stands already: nothing is to be appended.
+        // The statement isn't logged, so nothing is to be appended, and the reply is the answer.
         if !enters {
             return Ok(answer);
         }

@@ -1,6 +1,7 @@
 -- What an act does: a request is carried out, and its session isn't open any more.
 --     ActsAs, acts_as              the request, and what becomes of the client
 --     asked_closed, asked_acts     what is open was called for, also once one client is no more;  and after an act
+--     answered_called, answered_gone  an answered client has no open call;  nor is it gone with one
 use Rattle.std.proofs.Common.{◌≡◌, ◌⊎◌, ℕ, Option, Some, None, List, set, refl, ap, sym, ◌∙◌, subst, inl, inr}
 use Rattle.std.specs.Prelude.{slice_get}
 use Rattle.std.proofs.lemmas.Option.{none-some, same_Some}
@@ -21,7 +22,8 @@ use Rattle.xa_judge.proofs.Places.{same_number, get_written, get_apart}
 -- ---- acts
 
 -- an act carries out a request, which the session has called for or which is its DISCONNECT. After it no call of the
--- session is open (`closed`, `gone`). It does the same wherever that client stands so (`again`)
+-- session is open (`closed`, `gone`). It does the same in each configuration in which the session's client is the
+-- same (`again`)
 pub record ActsAs (old : Config) (session : ℕ) (act : Act) (new : Config) : Type 0 where
   pub request : Request
   pub client : Answer → ClientState
@@ -45,7 +47,7 @@ pub record ActsAs (old : Config) (session : ℕ) (act : Act) (new : Config) : Ty
 same_call : (one two : Request) → Some (Called one) ≡ Some (Called two) → one ≡ two
 same_call one two e = cc
 
--- each act that takes effect does that (`ActsAs`)
+-- each act that takes effect carries out a request in this way (`ActsAs`)
 pub acts_as : (old new : Config) (session : ℕ) (act : Act) → effect_of old session act ≡ Some new
     → ActsAs old session act new
 unfolding effect_of carried_out disconnected

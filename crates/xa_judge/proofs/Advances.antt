@@ -2,7 +2,7 @@
 --     advance_now                an event before which acts can wait
 --     AreAnswersIn, reached_of   the answers of a session in a list;  what a list has is reached
 --     AreLate, advance_return    a return, before which acts come as late as they can
---     advance_closed             another event, before which the list is closed
+--     counts_closed, advance_closed   another event, before which the list is closed
 --     widens_call, NoneUnheard   an open call that nobody hears may come before a call;  there is none
 --     advance_call               a call where there is none
 use Rattle.std.proofs.Common.{◌≡◌, ℕ, false, Some, None, List, [], ◌∷◌, ◌++◌, length, slice_get, refl, ap, sym, ◌∙◌}

@@ -43,7 +43,7 @@ OwnsNone state session = (xid : Xid) → owns state session xid ≡ true → ⊥
 
 -- ---- other sessions' requests
 
--- what a session owns after a request of another one, it owned before
+-- a session that owns no branch owns none after a request of another session
 pub others_none : (state : State) (session other : ℕ) (request : Request) → session ≢ other → OwnsNone state other
     → OwnsNone (next_state state session request) other
 unfolding is_owned

@@ -1,13 +1,19 @@
 -- Statements of two sessions that don't touch the same branch nor the same row commute.
---     untouched                    a branch that a statement of another session doesn't name is as it was
+--     untouched                    a branch that a statement doesn't name, and its session hasn't open, stays as it was
+--     beside_unowned               a session hasn't a branch open that it doesn't own
 --     held_alike, locked_alike     whether a row is held against a session, in two states;  exclusively
 --     IsAsked, reply_same          a statement has the same reply in both states
 --     written, effect-row          what a statement's effect leaves of a row's committed value
+--     HoldAlike                    the branches hold a row alike in two states
+--     IsAbout, WriteAlike          a statement is about one branch alone;  values after both orders
 --     commutes                     both orders of two statements lead to the same state
 --     by_row, by_ending            the statements that name a row;  those that end a branch
 --     is_about                     a step of a session's own branch is about that alone, and is accepted
+--     not_theirs                   no other session owns the branch of a step
 --     unheld_after, hold_after     who holds a row after a statement that doesn't name it;  after a step on other rows
+--     held_none, unwritten         no other branch holds the row;  a statement leaves a value
 --     step_row, step_prepared      what a step leaves of committed values;  of the list of PREPARED branches
+--     listed_same, away_key        the lists of PREPARED branches are the same;  keys differ in either order
 --     Commutes, step_commutes      a step and a statement that is clear of it come to the same in any order
 use Rattle.std.proofs.Common.{◌≡◌, ◌≢◌, ◌⊎◌, ℕ, Bool, true, false, cond, not, ◌&&◌, ◌||◌, [], ◌∷◌, Option, Some, None}
 use Rattle.std.proofs.Common.{List, refl, ap, sym}
@@ -86,7 +92,7 @@ branch_kept session Free Disconnect xid found avoids beside = refl
 branch_kept session (Active own) Disconnect xid found avoids beside = apart_same _ _ found beside
 branch_kept session (Idle own) Disconnect xid found avoids beside = apart_same _ _ found beside
 
--- a branch that a statement doesn't touch is as it was
+-- a branch that a statement doesn't name, and that its session hasn't open, is as it was after the statement
 pub untouched : (state : State) (session : ℕ) (statement : Statement) (xid : Xid) → Avoids statement xid
     → IsBeside (association_of state session) xid
     → map.get (after state session statement).branches xid ≡ map.get state.branches xid
@@ -694,7 +700,7 @@ held_none state own at key unheld apart = by (lock_at state at key) refl
 
 -- ---- the step and a statement that is clear of it
 
--- the locks of the step's own branch on other rows are as they were
+-- after a step, the locks of its own branch on rows that aren't the step's are as they were
 own_locks : (state : State) (session : ℕ) (statement : Statement) (xid : Xid) (rows : List (List ℕ)) (key : List ℕ)
     → IsOwnStep state session statement xid rows
     → ((row : List ℕ) → IsAmong row rows → eq_by_cmp bytes_cmp key row ≡ false)
@@ -932,7 +938,8 @@ listed_same old new same =
 
 -- ---- both orders
 
--- the step's branch is prepared or not as it was, if the step leaves the list
+-- a step that leaves the list of PREPARED branches as it is (`IsUnlisted`) leaves its own branch PREPARED or not, as
+-- it was
 pub step_prepared : (state : State) (session : ℕ) (statement : Statement) (xid : Xid) (rows : List (List ℕ))
     → IsOwnStep state session statement xid rows → IsUnlisted statement
     → is_prepared (after state session statement) xid ≡ is_prepared state xid
@@ -1095,7 +1102,8 @@ theirs state session statement xid rows (finishes ending may accepted held) = re
     names : named_by statement ≡ Some xid
     names = by_ending (λ s. named_by s ≡ Some xid) statement xid ending (λ one_phase. refl) refl
 
--- the row that a step names is one of its rows, and held by no other branch
+-- the session of a step that names a row has the branch open and ACTIVE; no other branch holds the row, which is one of
+-- the step's rows
 row_of : (state : State) (session : ℕ) (statement : Statement) (xid : Xid) (rows : List (List ℕ)) (key : List ℕ)
     → IsOwnStep state session statement xid rows → key_of statement ≡ Some key
     → HasRow state session key xid × IsAmong key rows
@@ -1123,7 +1131,7 @@ step_held state session other one two xid rows key step clear beside e = λ at.
           unheld_after state other two at key (λ row f. away_key row key (clear.apart key row its.1 f)) none ∙ sym none
     ]
 
--- the row that the step reads has the same value after a clear statement of another session
+-- the row that the step names has the same value after a clear statement of another session
 step_value : (state : State) (session other : ℕ) (one two : Statement) (xid : Xid) (rows : List (List ℕ))
     (key : List ℕ) → LockLaw state → IsOwnStep state session one xid rows → IsClearOf one two xid rows
     → key_of one ≡ Some key → committed_value (after state other two) key ≡ committed_value state key
@@ -1245,8 +1253,8 @@ written_same old new (Active own) (Del row) key found same = refl
 written_same old new (Idle own) (Del row) key found same = refl
 written_same old new a Disconnect key found same = refl
 
--- whether what the step's branch wrote to a row is committed before or after the other statement, the row gets the
--- same value
+-- if the other statement doesn't name the step's branch, nor this row if the branch holds it, the row gets the same
+-- value whether what the branch wrote to it is committed before that statement or after it
 either_order : (state : State) (other : ℕ) (two : Statement) (xid : Xid) (key : List ℕ) (found : Option Text)
     → LockLaw state → Avoids two xid
     → ((mode : LockMode) (row : List ℕ) → lock_at state xid key ≡ Some mode → key_of two ≡ Some row

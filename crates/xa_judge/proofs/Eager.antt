@@ -192,7 +192,7 @@ seen_later run mid next session act event apart sees leads =
 apart_test : (m n : ℕ) → m ≢ n → (m == n) ≡ false
 apart_test m n apart = grind (arith, nat_tests)
 
--- what a call returns after another session's event, it returned before it
+-- what a session's call returns is the same with or without an event of another session in front of the events
 pub returns_past : (event : Event) (more : List Event) (other : ℕ) → session_of event ≢ other
     → returns_in other (event ∷ more) ≡ returns_in other more
 unfolding returns_in
@@ -205,7 +205,7 @@ unfolding returns_in
 returns_here event more =
     ap (λ b. cond b (seen_in (Some event)) (returns_in (session_of event) more)) (same_test (session_of event))
 
--- a request that is aside (`IsAside`) has nothing to do with the step, if it isn't known to return
+-- a request that is aside (`IsAside`) has nothing to do with the step, if no return of its call is known
 clear_of : (one : Statement) (request : Request) (xid : Xid) (rows : List (List ℕ)) (returns : Option Seen)
     → returns ≡ None → IsAside one request xid rows returns → IsClearRequest one request xid rows
 clear_of one request xid rows returns none (unrelated clear) = clear
@@ -708,12 +708,14 @@ goes_past hints more old mid new first second end goes =
     let past = second there.0 there.2 in
     (past.0, (λ session answer at. past.1 session answer (there.1 session answer at)), past.2)
 
--- in a loop over a list: each configuration is still to come, or its step is there
+-- in a loop over a list: each configuration is still to come, or the list has the one after its step, or itself if it
+-- takes none (`IsSteppedFor`)
 abbrev pub StepsBoth : List Hint → List Event → List Configuration → List Configuration → List Configuration → Type 0
 StepsBoth hints more first rest list = (kept : Config) → Has first kept
     → Has rest kept ⊎ ((other : Config) × Has list other × IsSteppedFor hints more kept other)
 
--- one round of that loop: the last configuration is taken off, and the one after its step is added unless it is there
+-- one round of a loop in which each of a list takes its step (`StepsBoth`): the last configuration is taken off, and
+-- what it becomes (`IsSteppedFor`) is added unless it is there
 pub steps_more : (hints : List Hint) (more : List Event) (first known rest list new : List Configuration)
     (one added : Configuration) → known ≡ rest ++ one ∷ [] → AddsUnlessThere list added new
     → IsSteppedFor hints more (config_of one) (config_of added)
@@ -730,7 +732,8 @@ steps_more hints more first known rest list new one added parts adds here has = 
   | inr done ↦ inr (done.0, still_has list new done.0 (adds_one list new added adds) done.1, done.2)
 ]
 
--- at the end of that loop no configuration is still to come, so the list has what each one becomes by its step
+-- at the end of a loop in which each of a list takes its step (`StepsBoth`), no configuration is still to come, so
+-- the new list has what each one becomes (`IsSteppedFor`)
 pub steps_end : (hints : List Hint) (more : List Event) (first rest list : List Configuration) → rest ≡ []
     → StepsBoth hints more first rest list → (kept : Config) → Has first kept
     → (other : Config) × Has list other × IsSteppedFor hints more kept other

@@ -2,7 +2,7 @@
 --     advance_closed               past an event, from a list that acts have closed for it
 --     advance_open, needs_none     past a call or a loss before which no act is needed;  which calls these are
 --     answers_end, all_after       each answer that a session can have after all events is kept
---     goes_never                   a place is noted at which a call ends of which none was
+--     goes_never                   a place is noted at which a call ends, where none was
 --     goes_first, goes_last        before all events;  after all events
 --     goes_shortened               common first moves are taken out
 use Rattle.std.proofs.Common.{◌≡◌, ℕ, false, Option, Some, None, List, [], ◌∷◌, ◌++◌, set, length, take}
@@ -121,7 +121,8 @@ needs_none known session (Return other seen) call none = absurd call
 needs_none known session (Lost other) call none = absurd call
 needs_none known session (Unknown other) call none = absurd call
 
--- in a closed list each answer that a session can have at the end is kept, if no return is known of any open call
+-- in a closed list each answer that a session can have at the end is kept, if no return is known of any open call,
+-- and the session's own isn't noted as one that isn't heard of any more
 pub answers_end : (hints : List Hint) (known closed : List Configuration) (session : ℕ)
     → ExtendsBy known closed → AreClosedFor hints (Some session) (length closed) closed
     → ((other : ℕ) → hint_of hints other ≡ None) → (fact_of hints session).never ≡ false
@@ -150,8 +151,8 @@ all_after base events session hints known (Some front) goes all = λ answer afte
     let like = goes after.reached.moves after.config after.reached.runs in
     all like.0 answer like.2 (like.1 session answer after.answered)
 
--- what is kept of a configuration is still kept of it once anything is noted of how a call ends, of which nothing was
--- known: as a return, or that it isn't heard of any more
+-- if nothing was known of how a session's call ends, what is kept of a configuration is still kept of it once that is
+-- noted: what the call returns, or that it isn't heard of any more. What the call is for stays noted
 alike_never : (hints : List Hint) (number : ℕ) (hint : Hint) (run kept : Config) → AreAlike hints run kept
     → (fact_of hints number).seen ≡ None → (fact_of hints number).never ≡ false
     → hint.asked ≡ (fact_of hints number).asked → (was : Hint) → slice_get hints number ≡ Some was
@@ -206,7 +207,8 @@ dead_never hints number hint run unseen dead = record {
   hidden = dead.hidden;
 }
 
--- where orders went on from a list, they still do once a place is noted at which a call ends of which none was
+-- where orders go on from a list, they still do once it is noted at which place a session's call ends, if no such
+-- place was noted before
 pub goes_never : (events : List Event) (places : List OpenCall) (number : ℕ) (old entry : OpenCall)
     → slice_get places number ≡ Some old → old.returns ≡ None → entry.call ≡ old.call
     → (known : List Configuration) (more : List Event) (end : Config)

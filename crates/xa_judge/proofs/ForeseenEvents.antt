@@ -31,7 +31,7 @@ use Rattle.xa_judge.proofs.Places.{same_number, get_written, get_apart, get_with
 use Rattle.xa_judge.proofs.Waits.{acted, Saw, saw_call, saw_return, saw_lost}
 use Rattle.xa_judge.specs.Keys.{session_of}
 
--- what an unknown answer changes: its own client alone
+-- an unknown answer that is seen changes its session's client alone (`Saw`); `o` is where that client stood
 saw_unknown : (o : Option ClientState) (old new : Config) (session : ℕ) → slice_get old.clients session ≡ o
     → answered_unknown o old session ≡ Some new → Saw old (Unknown session) new
 unfolding observed answered_unknown
@@ -54,7 +54,7 @@ saw_unknown (Some (Answered answer)) old new session found is = record {
 saw_unknown (Some (Gone request)) old new session found is = absurd (none-some new is)
 saw_unknown (Some Left) old new session found is = absurd (none-some new is)
 
--- what an event changes: its own client alone
+-- an event that is seen changes its session's client alone (`Saw`)
 pub saw : (old new : Config) (event : Event) → observed old event ≡ Some new → Saw old event new
 unfolding observed
 saw old new (Call session request) is = saw_call (slice_get old.clients session) old new session request refl is
@@ -252,7 +252,7 @@ noted_event hints hint run next event c asked notes sees is was here = by event 
     by (Lost it) noted e f at = unheard it (slice_get run.clients it) refl e f noted
     by (Unknown it) noted e f at = over it (slice_get run.clients it) refl e f
 
--- an idle client has nothing open
+-- an idle client has no open call; if it had one, the hint would name its request
 pub idle_shut : (hint : Hint) (request : Request) → (Idle ≡ Called request) ⊎ (Idle ≡ Gone (Some request))
     → hint.asked ≡ Some request
 idle_shut hint request (inl e) = absurd (no request e)
@@ -264,8 +264,8 @@ idle_shut hint request (inr e) = absurd (no request e)
     no : (r : Request) → Idle ≡ Gone (Some r) → ⊥
     no r f = cc
 
--- what is kept sees the event as well, and what that leads to is kept of `next`, once the hint of the event's session
--- is replaced
+-- what is kept sees the event as well, and what that leads to stands for `next` (`AreAlike`), once the hint of the
+-- event's session is replaced
 abbrev pub SeesAlike : List Hint → Hint → Config → Event → Config → Type 0
 SeesAlike hints hint kept event next = (new : Config) × (observed kept event ≡ Some new)
     × AreAlike (set hints (session_of event) hint) next new

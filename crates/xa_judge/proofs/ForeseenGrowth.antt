@@ -171,7 +171,8 @@ abbrev pub SeesBothFor : List Hint → Event → List Configuration → List Con
 SeesBothFor hints event first rest list = (one next : Config) → Has first one → observed one event ≡ Some next
     → Has rest one ⊎ ((other : Config) × Has list other × ReplacesFor hints next other)
 
--- one round of that loop: the last configuration is taken off, and what the event leads to from it is there
+-- one round of a loop in which each of a list sees an event: if the list has grown, and has what the event leads to
+-- from the last configuration, that one may be taken off (`SeesBothFor`)
 pub sees_more : (hints : List Hint) (event : Event) (first known rest list new : List Configuration)
     (one : Configuration) → known ≡ rest ++ one ∷ [] → ExtendsBy list new
     → ((next : Config) → observed (config_of one) event ≡ Some next
@@ -185,8 +186,8 @@ sees_more hints event first known rest list new one parts grows here has = λ c 
   | inr done ↦ inr (done.0, still_has list new done.0 grows done.1, done.2)
 ]
 
--- at the end of that loop no configuration is still to come, so the list has what the event leads to from each
--- (`HasSeenFor`)
+-- at the end of a loop in which each of a list sees an event (`SeesBothFor`), no configuration is still to come, so
+-- the new list has what the event leads to from each (`HasSeenFor`)
 pub sees_end : (hints : List Hint) (event : Event) (first rest list : List Configuration) → rest ≡ []
     → SeesBothFor hints event first rest list → HasSeenFor hints event (Has first) (Has list)
 sees_end hints event first rest list none has = λ kept next there sees. elim (has kept next there sees) [

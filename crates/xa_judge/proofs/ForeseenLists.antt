@@ -29,7 +29,7 @@ use Rattle.xa_judge.specs.Keys.{session_of}
 use Rattle.xa_judge.proofs.ForeseenSteps.{alike_acts}
 use Rattle.xa_judge.proofs.ForeseenEvents.{alike_sees, dead_acts, dead_sees}
 
--- an order that can't go on past a return can't after an event either
+-- an order that can't go on past a return (`IsDead`) still can't after an event that fits what is known (`IsLeft`)
 pub left_past : (hints : List Hint) (hint : Hint) (event : Event) (run end : Config) (more : List Event)
     (moves : List Move) → IsDead hints run → FitsHints hints event → LeadsThrough run (event ∷ more) moves end
     → IsLeft (set hints (session_of event) hint) more end
@@ -85,7 +85,8 @@ goes_closed hints hint event old new kept run end more (Seeing ∷ moves) closed
     inl (seen_from hints hint event old new kept run runs.0 end more moves there alike fits notes seen runs.1 runs.2)
 goes_closed hints hint event old new kept run end more [] closed there alike fits notes seen runs = absurd runs
 
--- if in what is kept the session's client isn't gone with an open call, it isn't in the order's configuration
+-- if in what is kept the session's client isn't gone with an open call, it isn't so in the order's configuration
+-- either
 pub unheard_alike : (hint : Hint) (run kept : Config) (session : ℕ)
     → IsAlikeAt hint run.state session (slice_get run.clients session) (slice_get kept.clients session)
     → has_unheard kept session ≡ false → has_unheard run session ≡ false
@@ -96,7 +97,8 @@ unheard_alike hint run kept session (inr (inl ahead)) is = elim ahead.way [
   | inr given ↦ ap unheard_so given.1
 ]
 
--- past a call or a loss, before which no act has to come, an order is followed from any list
+-- where acts can wait until the event (`CanWait`), an order of which something is kept in the old list goes on past
+-- that event from the new one, which has what the event leads to. The old list needn't be closed
 pub goes_called : (hints : List Hint) (hint : Hint) (event : Event) (old new : Config → Type 0)
     (kept run end : Config) (more : List Event) (moves : List Move) → old kept
     → AreAlike hints run kept → FitsHints hints event → NotesCall hints hint event

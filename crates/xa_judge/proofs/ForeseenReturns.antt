@@ -35,8 +35,8 @@ use Rattle.xa_judge.proofs.ForeseenSteps.{answered_rests, alike_acts, quiet_keep
 use Rattle.xa_judge.proofs.ForeseenEvents.{idle_shut, same_client, dead_acts}
 use Rattle.xa_judge.proofs.ForeseenLists.{left_past, seen_from, answer_kept}
 
--- an act of another session leads on as well once one session's client is replaced, to the same with that client
--- replaced
+-- if an act of another session leads on, it also does once one session's client is replaced, to the same
+-- configuration with that client replaced
 apart_acts : (run next : Config) (session other : ℕ) (act : Act) (c : ClientState) → session ≢ other
     → effect_of run other act ≡ Some next
     → effect_of (with_client run session c) other act ≡ Some (with_client next session c)
@@ -54,7 +54,7 @@ record Shown (config : Config) (session : ℕ) (seen : Seen) (answer : Answer) (
   pub shown : shows_answer seen answer ≡ true
   pub idle : next ≡ with_client config session Idle
 
--- `Shown` holds of each return that is seen of a session that was answered
+-- a return that is seen of a session that was answered shows its answer, and leaves it idle (`Shown`)
 shown_at : (config next : Config) (session : ℕ) (seen : Seen) (answer : Answer)
     → slice_get config.clients session ≡ Some (Answered answer)
     → observed config (Return session seen) ≡ Some next → Shown config session seen answer next
@@ -70,7 +70,7 @@ record Quietly (run next : Config) (session : ℕ) (request : Request) : Type 0 
   pub is : next ≡ with_client (record run { state = next_state run.state session request }) session
       (Answered (answer_to run.state session request))
 
--- each act of a session whose call is open does that (`Quietly`)
+-- each act of a session whose call is open makes that call take effect (`Quietly`)
 quietly : (run next : Config) (session : ℕ) (act : Act) (request : Request)
     → slice_get run.clients session ≡ Some (Called request) → effect_of run session act ≡ Some next
     → Quietly run next session request
@@ -272,7 +272,8 @@ run_answered hints run kept session answer alike none heard at = by (alike.clien
     by (inr (inl ahead)) = absurd (none-some ahead.seen (sym none ∙ ahead.hinted))
     by (inr (inr behind)) = absurd (false≢true (sym heard ∙ behind.never))
 
--- in a closed list each answer that a session has where acts end is kept, if no return is known of any open call
+-- in a closed list each answer that a session has where acts end is kept, if no return is known of any open call, and
+-- the session's own isn't noted as one that isn't heard of any more
 pub ends_answered : (hints : List Hint) (has : Config → Type 0) (kept run end : Config) (session : ℕ) (answer : Answer)
     (moves : List Move) → ((other : ℕ) → hint_of hints other ≡ None) → (fact_of hints session).never ≡ false
     → IsClosedFor hints (Some session) has → has kept → AreAlike hints run kept → LeadsThrough run [] moves end

@@ -55,7 +55,7 @@ use Rattle.xa_judge.proofs.KeyStates.{free_get}
 
 -- ---- quiet requests
 
--- a return that shows an error shows a refusal
+-- if a return of an error shows the reply to a statement, that reply is a refusal
 error_refuses : (state : State) (session : ℕ) (statement : Statement) (numbers : _)
     → shows_answer (SeenError numbers) (Replied (reply_to state session statement)) ≡ true
     → is_refused (reply_to state session statement) ≡ true
@@ -135,7 +135,7 @@ still_quiet_for old new session request (SeenRows rows) leaves quiet = still_qui
 leaves_same : (state : State) (session : ℕ) → LeavesSession state state session
 leaves_same state session = record { own = refl; association = refl; phase = λ xid e. refl; branch = λ xid e. refl }
 
--- the lock law is kept, and what other sessions have open stays
+-- in the new state the lock law holds, and other sessions have open what they had in the old one
 pub record Keeps (old new : State) (session : ℕ) : Type 0 where
   pub law : LockLaw new
   pub others : (other : ℕ) → session ≢ other → LeavesSession old new other
@@ -685,7 +685,8 @@ all_idle zero session c is = absurd (none-some c is)
 all_idle (suc n) zero c is = sym (same_Some Idle c is)
 all_idle (suc n) (suc session) c is = all_idle n session c is
 
--- before all events the opening configuration is kept of itself, where the lock law holds
+-- before all events the opening configuration stands for itself (`AreAlike`), if the lock law holds and there are 17
+-- hints
 pub alike_first : (base : State) (hints : List Hint) → LockLaw base → length hints ≡ 17
     → AreAlike hints (opening_config base) (opening_config base)
 unfolding opening_config

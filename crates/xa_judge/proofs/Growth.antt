@@ -89,7 +89,8 @@ reaches_event base events trunk old new event reach at path =
     subst (λ l. LeadsThrough (opening_config base) (events ++ event ∷ []) l (config_of new))
     (append_assoc trunk old.path (Seeing ∷ []) ∙ ap (λ l. trunk ++ l) (sym path)) more
 
--- what holds of each configuration and of the added one holds of each afterwards
+-- what holds of each configuration of a list, and of one more, holds of each of the list once that one is added
+-- unless it is there
 pub all_added : (P : Configuration → Type 0) (old new : List Configuration) (one : Configuration)
     → AddsUnlessThere old one new → All P old → P one → All P new
 all_added P old new one (inl was) all p = subst (λ l. All P l) (sym was.1) all

@@ -35,7 +35,7 @@ use Rattle.xa_judge.specs.Clear.{IsOwnStep, starts, ends, prepares, works, finis
 use Rattle.xa_judge.specs.Clear.{IsListedAfter, EndsPrepared, IsHeldBack}
 use Rattle.xa_judge.proofs.Commuting.{not_theirs, beside_unowned}
 
--- both tests hold
+-- if two tests joined by `&&` hold, each of them does
 both : (a b : Bool) → (a && b) ≡ true → (a ≡ true) × (b ≡ true)
 both true b e = (refl, e)
 both false b e = absurd (false≢true e)

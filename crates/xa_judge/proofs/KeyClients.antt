@@ -1,15 +1,20 @@
 -- What a move of one part of a record does in the whole, and the other way round.
 --     Together, forth, back        two results are missing, or both are there and belong together
+--     Deed, placed, done_in        a state and a client;  a configuration with a new client;  with both new
 --     client_after, deed_of        what an event makes of its session's client;  what an act makes of the state and
 --                                  the client
 --     observed_is, effect_is       that is all that they do
+--     IsFreeClient, IsOtherClient  a client may be one of the chosen part;  of the other one
+--     IsCallOf, IsRested           a turn suits what was called for;  a session is idle in the chosen part
 --     AreClients, AreParts         the clients of the whole, by those of its parts;  the configurations
 --     is_rest                      by its turn, a session's call is in the other part, or it may have a branch
 --     AreEnded                     a session whose call to end its branch was accepted owns none
+--     ChosenTogether, RestTogether  the whole and one part belong together, beside the other one
 --     chosen_acts, rest_acts       an act of a session whose call belongs to one part is one of the whole
 --     chosen_seen, rest_seen       so is an event of one part
 --     absent_rests, idle_rests     a session that isn't there, or is idle, has no act
 --     same_chosen, same_rest       where an event may stand in one part, the whole has the client of that part
+--     other_turn, IsIdleIf         the turn of an event of the other part;  the client is idle if the turn is Nobody
 use Rattle.std.proofs.Common.{◌≡◌, ◌≢◌, ◌⊎◌, ℕ, Bool, true, false, cond, Option, Some, None, List, set, refl}
 use Rattle.std.proofs.Common.{ap, sym, ◌∙◌, subst, inl, inr}
 use Rattle.std.specs.Prelude.{slice_get}
@@ -87,7 +92,7 @@ client_after (Unknown session) (Some (Called request)) = Some Idle
 client_after (Unknown session) (Some (Answered answer)) = Some Idle
 client_after event client = None
 
--- the configuration with another client of a session
+-- the configuration in which the session has this client instead
 abbrev pub placed : Config → ℕ → ClientState → Config
 placed config session client = with_client config session client
 
@@ -158,7 +163,7 @@ deed_of session Disconnect state (Some (Gone request)) =
     Some (record { state = after state session DisconnectGiven; client = Left })
 deed_of session act state client = None
 
--- the configuration after a deed of the session
+-- the configuration with the state and the session's client that the deed made
 abbrev pub done_in : Config → ℕ → Deed → Config
 done_in config session deed = record { state = deed.state; clients = set config.clients session deed.client }
 
@@ -191,7 +196,7 @@ effect_is config session Disconnect = by (slice_get config.clients session)
 
 -- ---- the whole, by its parts
 
--- a client with an open call of the chosen part
+-- the client has an open call, of the chosen part: it has called for a statement on a chosen row, or has its answer
 abbrev pub IsFreeClient : (List ℕ → Bool) → ClientState → Type 0
 IsFreeClient named (Called request) = IsOnRows named request
 IsFreeClient named (Answered answer) = Unit {0}
@@ -209,13 +214,16 @@ IsOtherClient named turn (Called request) = IsOffRows named request × IsCallOf 
 IsOtherClient named turn (Gone (Some request)) = (has_none turn ≡ false) × IsOffRows named request
 IsOtherClient named turn client = Unit {0}
 
--- the session's client in the whole, the chosen part and the other one, if it is idle in the chosen part
+-- the session is idle in the chosen part, and has one client in the whole and in the other part, which may be one of
+-- the other part (`IsOtherClient`)
 abbrev pub IsRested : (List ℕ → Bool) → Turn → Option ClientState → Option ClientState → Option ClientState → Type 0
 IsRested named turn whole chosen rest =
     (client : ClientState) × IsOtherClient named turn client × (whole ≡ Some client) × (chosen ≡ Some Idle)
     × (rest ≡ Some client)
 
--- the session's client in the three, by its turn
+-- the session's clients in the whole, the chosen part and the other part belong together, by its turn. None: no such
+-- session is there. Nobody: it is idle in all three. Chosen: the whole and the chosen part have the same client, with
+-- an open call of that part, and the other part an idle one. Else `IsRested`
 abbrev pub AreClients : (List ℕ → Bool) → Option Turn → Option ClientState → Option ClientState → Option ClientState
     → Type 0
 AreClients named None whole chosen rest = (whole ≡ None) × (chosen ≡ None) × (rest ≡ None)
@@ -261,7 +269,9 @@ abbrev pub AreEnded : List Turn → Config → Type 0
 AreEnded turns whole = (session : ℕ) → slice_get turns session ≡ Some Ending
     → slice_get whole.clients session ≡ Some (Answered (Replied Accepted)) → OwnsNone whole.state session
 
--- the configurations of the whole, the chosen part and the other one
+-- the configurations of the whole, the chosen part and the other part belong together: their states are joined
+-- (`AreJoined`), each session's clients belong together by its turn (`AreClients`), and in the whole the lock law
+-- holds and a session whose call to end its branch was accepted owns none (`AreEnded`)
 pub record AreParts (named : List ℕ → Bool) (turns : List Turn) (whole chosen rest : Config) : Type 0 where
   pub states : AreJoined named (free_in turns) whole.state chosen.state rest.state
   pub clients : (session : ℕ) → AreClients named (slice_get turns session) (slice_get whole.clients session)
@@ -305,11 +315,11 @@ aside : {A : Type 0} (xs : List A) (session : ℕ) (x : A) (other : ℕ) → ses
     → slice_get xs other ≡ slice_get (set xs session x) other
 aside xs session x other apart = sym (get_apart xs session other x apart)
 
--- the whole and the chosen part, beside the other part, which stays
+-- the whole and the chosen part belong together (`AreParts`), beside the other part, which stays
 abbrev pub ChosenTogether : (List ℕ → Bool) → List Turn → Config → Config → Config → Type 0
 ChosenTogether named turns rest whole chosen = AreParts named turns whole chosen rest
 
--- the whole and the other part, beside the chosen part, which stays
+-- the whole and the other part belong together (`AreParts`), beside the chosen part, which stays
 abbrev pub RestTogether : (List ℕ → Bool) → List Turn → Config → Config → Config → Type 0
 RestTogether named turns chosen whole rest = AreParts named turns whole chosen rest
 
@@ -338,7 +348,8 @@ off_rows named free session (Given (Del key)) starts is = is
 off_rows named free session (Given (Start xid)) starts is = starts refl
 off_rows named free session request starts is = tt
 
--- a start is of a session that may have a branch
+-- a session whose request is XA START may have a branch by its turn, if with a turn by which it has none (`has_none`)
+-- the request would be no XA START
 starts_within : (turns : List Turn) (session : ℕ) (turn : Turn) (request : Request)
     → slice_get turns session ≡ Some turn → (has_none turn ≡ true → is_start request ≡ false)
     → is_start request ≡ true → free_in turns session ≡ false
@@ -634,7 +645,7 @@ other_turn named turn (Return session seen) fits = fits
 other_turn named turn (Lost session) fits = fits
 other_turn named turn (Unknown session) fits = fits
 
--- a session that has no open call and no branch is idle
+-- if the turn is Nobody, which is that of a session with no open call and no branch, the client is idle
 abbrev pub IsIdleIf : Turn → ClientState → Type 0
 IsIdleIf turn client = turn ≡ Nobody → client ≡ Idle
 
@@ -685,7 +696,8 @@ unknown_idle session (Answered answer) next is = sym (same_Some Idle next is)
 unknown_idle session (Gone request) next is = absurd (none-some next is)
 unknown_idle session Left next is = absurd (none-some next is)
 
--- after a call that names no chosen row and suits the new turn, its session's client is one of the other part
+-- after a call that names no chosen row and suits the new turn, its session's client is one of the other part, if it
+-- was idle or the session may have a branch by that turn
 call_other : (named : List ℕ → Bool) (new : Turn) (session : ℕ) (request : Request) (client next : ClientState)
     → IsOffRows named request → IsCallOf new request → ((client ≡ Idle) ⊎ (has_none new ≡ false))
     → client_after (Call session request) (Some client) ≡ Some next
@@ -977,14 +989,14 @@ open_by_call turn (Unknown session) side client next answer is ending answered =
 module _ (named : List ℕ → Bool) (turns : List Turn) (whole chosen rest : Config) (event : Event)
     (turn : Turn) (parts : AreParts named turns whole chosen rest)
     (at : slice_get turns (session_of event) ≡ Some turn) where
-  -- the clients of the event's session, by its turn
+  -- the clients of the event's session belong together, by its turn (`AreClients`)
   here : AreClients named (Some turn) (slice_get whole.clients (session_of event))
       (slice_get chosen.clients (session_of event)) (slice_get rest.clients (session_of event))
   here = subst (λ t. AreClients named t (slice_get whole.clients (session_of event))
       (slice_get chosen.clients (session_of event)) (slice_get rest.clients (session_of event))) at
       (parts.clients (session_of event))
 
-  -- the turn of its session after the event
+  -- after the event, its session's turn is the one that `turn_after` gives
   written : (side : Bool) → slice_get (turns_past turns side event) (session_of event)
       ≡ Some (turn_after turn event side)
   written side = get_written turns (session_of event) turn _ at
@@ -1024,7 +1036,7 @@ module _ (named : List ℕ → Bool) (turns : List Turn) (whole chosen rest : Co
         (aside whole.clients (session_of event) next other apart ∙ answered)
   ]
 
-  -- an event of the chosen part is seen in the whole where it is seen in that part
+  -- an event of the chosen part can be seen in the whole and in that part, or in neither, and leads to parts again
   pub chosen_seen : FitsTurn named turn event true
       → Together (ChosenTogether named (turns_past turns true event) rest) (observed whole event)
       (observed chosen event)
@@ -1067,7 +1079,7 @@ module _ (named : List ℕ → Bool) (turns : List Turn) (whole chosen rest : Co
             ended = ended_past true same.0 next is same.1;
           }
 
-  -- an event of the other part is seen in the whole where it is seen in that part
+  -- an event of the other part can be seen in the whole and in that part, or in neither, and leads to parts again
   pub rest_seen : FitsTurn named turn event false
       → Together (RestTogether named (turns_past turns false event) chosen) (observed whole event)
       (observed rest event)

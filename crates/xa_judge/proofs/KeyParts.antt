@@ -1,7 +1,10 @@
 -- Lists that are cut, event by event.
 --     CutSoFar, cut_more, cut_all              the parts of events, while they are found one after another
+--     same_side, other_side                    two truth values are the same by a test;  or differ
+--     picked_in, picked_out                    an event is picked;  or isn't
 --     picked_next, picked_past, picked_end     the events of one part, while they are picked
 --     count_next                               how many there are, while they are counted
+--     at_least_one                             the least of two numbers is no more than a third
 use Rattle.std.proofs.Common.{◌≡◌, ◌≢◌, ◌⊎◌, ℕ, ◌+◌, ◌<◌, ◌≤◌, zero, suc, Bool, true, false, Some, List, [], ◌∷◌, ◌++◌}
 use Rattle.std.proofs.Common.{length, take, drop, get_or, refl, ap, sym, ◌∙◌, subst, inl, inr, arith}
 use Rattle.std.proofs.Common.{append_assoc, append-nil, min}

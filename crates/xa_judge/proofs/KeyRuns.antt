@@ -30,7 +30,8 @@ first_then old mid new events (Effect session act ∷ acts) moves runs on =
 first_then old mid new events (Seeing ∷ acts) moves runs on = absurd runs
 first_then old mid new events [] moves runs on = subst (λ c. LeadsThrough c events moves new) runs on
 
--- the acts before the next event, and the moves from there on
+-- moves lead from `old` through the event and more to `new`, in three: acts before the event, the event, and the
+-- moves from there on
 pub record IsSplit (old : Config) (event : Event) (events : List Event) (new : Config) : Type 0 where
   pub acts : List Move
   pub mid : Config
@@ -197,7 +198,8 @@ acts_in named turns whole chosen rest new [] parts runs = record {
   parts = subst (λ c. AreParts named turns c chosen rest) (sym runs) parts;
 }
 
--- moves through the whole lead through each part as well
+-- if events are cut in two (`IsCut`), moves that lead through them in the whole lead through each part's events in
+-- that part as well, and to parts again (`IsInParts`)
 pub in_parts : (named : List ℕ → Bool) (turns : List Turn) (whole chosen rest new : Config)
     (sides : List Bool) (events : List Event) (moves : List Move) → IsCut named turns sides events
     → AreParts named turns whole chosen rest
@@ -307,7 +309,8 @@ rest_first named turns whole chosen rest new [] parts runs = record {
   parts = subst (λ c. AreParts named turns whole chosen c) (sym runs) parts;
 }
 
--- moves through both parts lead through the whole
+-- if events are cut in two (`IsCut`), and moves lead through each part's events in that part, some lead through all
+-- events in the whole, to an end of which the two ends are the parts (`IsWhole`)
 pub whole_of : (named : List ℕ → Bool) (turns : List Turn)
     (whole chosen rest chosen_end rest_end : Config) (sides : List Bool) (events : List Event)
     (chosen_moves rest_moves : List Move) → IsCut named turns sides events

@@ -64,7 +64,8 @@ either_apart : (named : List ℕ → Bool) (free : ℕ → Bool) (b : Bool) (one
 either_apart named free true one other is was = is
 either_apart named free false one other is was = was
 
--- if a change leaves a branch apart, what is there is still apart once it was changed
+-- if a change keeps each branch apart, a branch that is there and apart (`IsApartAt`) is still apart once it was
+-- changed
 changed_apart : (named : List ℕ → Bool) (free : ℕ → Bool) (change : Branch → Branch) (found : Option Branch)
     → ((branch : Branch) → IsApartBranch named free branch → IsApartBranch named free (change branch))
     → IsApartAt named free found → IsApartAt named free (option_map change found)
@@ -323,7 +324,7 @@ effect_rows named free state session Free Disconnect key other are is = refl
 effect_rows named free state session (Active own) Disconnect key other are is = refl
 effect_rows named free state session (Idle own) Disconnect key other are is = refl
 
--- a request of the other part leaves the values of the chosen rows
+-- a request of the other part leaves the values of the chosen rows, if every branch is apart (`IsApart`)
 pub rows_after : (named : List ℕ → Bool) (free : ℕ → Bool) (state : State) (session : ℕ) (request : Request)
     (key : List ℕ) → IsOtherRequest named free session request
     → IsApart named free state → named key ≡ true
@@ -378,15 +379,15 @@ free_del state session key free nobody = (
 abbrev pub unnamed : (List ℕ → Bool) → List ℕ → Bool
 unnamed named key = not (named key)
 
--- the whole has the branches and the other rows of the other part, and the chosen rows of the chosen part, which has no
--- branch
+-- the whole has the branches and the other rows of the other part, and the chosen rows of the chosen part, which has
+-- no branch. Every branch of the whole is apart (`IsApart`)
 pub record AreJoined (named : List ℕ → Bool) (free : ℕ → Bool) (whole chosen rest : State) : Type 0 where
   pub near : AreNear (unnamed named) whole rest
   pub rows : (key : List ℕ) → named key ≡ true → committed_value whole key ≡ committed_value chosen key
   pub apart : IsApart named free whole
   pub none : HasNoBranch chosen
 
--- one write of two lists of rows that agree at the chosen keys
+-- two tables of rows that agree at the chosen keys still do after the same write to both
 same_write : (named : List ℕ → Bool) (key : List ℕ) (write : Write) (left right : map.FinMap bytes_cmp Text)
     → ((other : List ℕ) → named other ≡ true → map.get left other ≡ map.get right other)
     → (other : List ℕ) → named other ≡ true

@@ -1,10 +1,13 @@
 -- Verdicts on a record, by those on its parts.
 --     parts_first                         before all events
+--     within_of                           what stands somewhere stands within the list
 --     cut_take, cut_at                    the first events are cut likewise;  and each event fits where it stands
 --     picked_take, picked_at              the events of a part among the first ones;  and the event at a place
+--     count_more                          how many events a part has up to a place
 --     whole_explained, part_explained     what is explained in both parts is explained;  and the other way round
---     refuted_part                        what is refuted in a part is, if the other part is explained up to there
+--     refuted_part                        what is refuted in a part is in the whole, if the other is explained so far
 --     answers_part                        and the answers are the same
+--     part_of                             the configuration of one part
 --     explained_take                      what is explained is explained up to each of its events
 --     illegal_part, legal_before          the verdict on a record by one part's;  what is explained in a legal part
 use Rattle.std.proofs.Common.{◌≡◌, ℕ, ◌+◌, ◌<◌, ◌≤◌, zero, suc, Bool, true, false, Some}
@@ -38,7 +41,7 @@ use Rattle.xa_judge.proofs.KeyRuns.{clients_at, in_parts, whole_of}
 
 -- ---- before all events
 
--- if all turns are Nobody, and all clients idle, the clients are those of parts
+-- if all turns are Nobody, and all clients idle, the clients belong together (`AreClients`)
 clients_first : (named : List ℕ → Bool) (count at : ℕ)
     → AreClients named (slice_get (replicate count Nobody) at) (slice_get (replicate count Idle) at)
     (slice_get (replicate count Idle) at) (slice_get (replicate count Idle) at)
@@ -237,7 +240,7 @@ refuted_part named base sides events wanted place apart cut at is other =
 
 -- ---- answers
 
--- the configuration of one part
+-- the configuration of one part; true stands for the chosen one
 abbrev pub part_of : Bool → Config → Config → Config
 part_of true chosen rest = chosen
 part_of false chosen rest = rest
@@ -431,7 +434,7 @@ illegal_part named base sides events wanted index place explained limit answers 
           (subst (λ i. AreAllAnswers base (picked wanted sides events) i answers.items) (sym count) is.1),
     )
 
--- a part with this verdict is explained up to each of its events
+-- events with the verdict LEGAL are explained up to each of them
 pub legal_before : (base : State) (events : List Event) (limit count : ℕ) (moves : Vec Move Global) (verdict : Verdict)
     → IsVerdict base events limit verdict → verdict ≡ LegalBy moves
     → Explained base (take count events)

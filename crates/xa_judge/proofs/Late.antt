@@ -2,7 +2,9 @@
 --     adds_none, adds_more, adds_effect     what an act adds to a list
 --     reached_more     acts lead to all that is in a list while it grows
 --     unheard_at, heard_more      an open call of a session whose client is gone, in some of a list;  in none
+--     SettledOnly, SeenOnly, settled_none  what is left of a list, and what was made;  before the first step
 --     settled_only, seen_only     what was made of a list comes of it
+--     counted_of_more             what counts by some configurations counts by more
 --     opens_kept, kept_on      what has to be kept before all events;  what has to be after one event more
 use Rattle.std.proofs.Common.{◌≡◌, ◌≢◌, ◌⊎◌, ℕ, ◌+◌, ◌<◌, suc, Option, Some, List, [], ◌∷◌, ◌++◌, length, get_or, true}
 use Rattle.std.proofs.Common.{false, refl, ap, sym, ◌∙◌, subst, inl, inr, arith}
@@ -35,11 +37,11 @@ added_last : (old new : List Configuration) (one : Configuration) (c : Config) �
 added_last old new one c (inl was) has = inl (subst (λ l. Has l c) was.1 has)
 added_last old new one c (inr is) has = has_last old new one c is has
 
--- a list to which nothing was added has only what acts of `one` lead to added
+-- if a list stays as it is, nothing was added but what acts that count lead to from `one` (`AddsOnly`)
 pub adds_none : (returning : Option ℕ) (one : Config) (list : List Configuration) → AddsOnly returning one list list
 adds_none returning one list = λ config has. inl has
 
--- if each of two steps adds only what acts of `one` lead to (`AddsOnly`), so do both together
+-- if each of two steps adds only what acts that count lead to from `one` (`AddsOnly`), so do both together
 pub adds_more : (returning : Option ℕ) (one : Config) (old mid new : List Configuration)
     → AddsOnly returning one old mid
     → AddsOnly returning one mid new → AddsOnly returning one old new
@@ -72,7 +74,8 @@ adds_effect old new place one next found session act at is effect some added oth
       })
     ]
 
--- acts lead to all of the list, also once it has what they lead to from one of it
+-- if acts that count lead from the first list to all of the old one (`IsReachedFrom`), they lead to all of the new
+-- one, to which only what such acts lead to from the configuration at a place was added (`AddsOnly`)
 pub reached_more : (first old new : List Configuration) (place : ℕ) (returning : Option ℕ) → place < length old
     → ((config : Config) → Has old config → IsReachedFrom (Has first) returning config)
     → ((one : Configuration) → slice_get old place ≡ Some one → AddsOnly returning (config_of one) old new)
@@ -85,13 +88,14 @@ reached_more first old new place returning within before adds config has =
           (before (config_of at.0) (place_mapped config_of old place at.0 at.1)) next
     ]
 
--- what is left of a list is of it, and what was made of the rest comes of it
+-- in a loop over a list: what is left is of the list, and what was made is what one of it becomes once what the
+-- session called for takes effect
 abbrev pub SettledOnly : ℕ → List Configuration → List Configuration → List Configuration → Type 0
 SettledOnly session first rest list =
     ((config : Config) → Has rest config → Has first config)
     × ((config : Config) → Has list config → IsSettledIn first session config)
 
--- what is left of a list is of it, and what was made of the rest is what the event leads to from one of it
+-- in a loop over a list: what is left is of the list, and what was made is what the event leads to from one of it
 abbrev pub SeenOnly : Event → List Configuration → List Configuration → List Configuration → Type 0
 SeenOnly event first rest list =
     ((config : Config) → Has rest config → Has first config)
@@ -108,7 +112,8 @@ rest_of : (first known rest : List Configuration) (one : Configuration) → know
 rest_of first known rest one parts of config has =
     of config (subst (λ l. Has l config) (sym parts) (has_more rest (one ∷ []) config has))
 
--- the step of the loop that settles configurations: the last one was settled
+-- one round of the loop that settles configurations: `SettledOnly` still holds once the last one was taken off, and
+-- what it settles to put behind the list
 pub settled_only : (session : ℕ) (first known rest list new : List Configuration) (one next : Configuration)
     → known ≡ rest ++ one ∷ [] → new ≡ list ++ next ∷ []
     → config_of next ≡ after_settling (config_of one) session
@@ -121,7 +126,8 @@ settled_only session first known rest list new one next parts pushed is only = (
   ],
 )
 
--- one round of the loop in which configurations see an event: the last one was taken off, and saw it if it can
+-- one round of the loop in which configurations see an event: `SeenOnly` still holds once the last one was taken off,
+-- and what the event leads to from it, if it can be seen there, was added unless it was there
 pub seen_only : (event : Event) (first known rest list new : List Configuration) (one : Configuration)
     → known ≡ rest ++ one ∷ [] → IsSeenAdded event one list new
     → SeenOnly event first known list → SeenOnly event first rest new
@@ -202,7 +208,7 @@ ready_of_more P Q (Return session seen) config wider is =
 ready_of_more P Q (Lost session) config wider is = wider config is
 ready_of_more P Q (Unknown session) config wider is = counted_of_more P Q (Unknown session) config wider is
 
--- the first configuration is one that has to be kept before all events
+-- the opening configuration, which alone is in the list, is the one that is kept before all events
 pub opens_kept : (base : State) (events : List Event) (list : List Configuration) → IsOpening base list
     → (config : Config) → Has list config → IsKept base events 0 config
 opens_kept base events list is config has = elim (has_last [] list is.0 config is.1 has) [
@@ -210,7 +216,9 @@ opens_kept base events list is config has = elim (has_last [] list is.0 config i
   | inr same ↦ sym same ∙ is.2
 ]
 
--- each configuration after one event more is one that has to be kept, also if common first moves were taken out
+-- if each of the old list may be kept before the event at a place (`IsKept`), and each of the next list after that
+-- event (`IsKeptAfter`), each of the new list may be kept before the next place. The new list is the next one with
+-- common first moves taken out (`IsShortened`)
 pub kept_on : (base : State) (events : List Event) (place : ℕ) (event : Event) (trunk longer : List _)
     (old next new : List Configuration)
     → slice_get events place ≡ Some event

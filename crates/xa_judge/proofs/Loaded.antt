@@ -1,10 +1,11 @@
 -- A state that events lead to, with all sessions idle: one call more, and what is refuted behind the events.
 --     leads_append                      moves through some events, and then moves through more
---     alone_leads, alone_only           a call that returns at once, where all are idle, leads to the state after it,
---                                       and nowhere else
+--     alone_leads, alone_only           a call that returns its answer at once, where all are idle, leads to the
+--                                       state after it, and nowhere else
 --     loaded_more                       from a state to which events lead one such call goes on
 --     refuted_behind, answers_behind    what is refuted from the state is refuted behind the events, with the same
 --                                       answers
+--     none_left                         a list of no length has nothing
 use Rattle.std.proofs.Common.{◌≡◌, ◌≢◌, ◌==◌, ℕ, ◌+◌, ◌<◌, zero, suc, true, cond, Some, None, List, [], ◌∷◌, ◌++◌}
 use Rattle.std.proofs.Common.{length, set, take, get_or, refl, ap, sym, ◌∙◌, subst, inl, inr, arith, append_assoc}
 use Rattle.std.proofs.Common.{length-append}
@@ -209,7 +210,8 @@ effect_then old end session request seen rest (Seeing ∷ moves) alone runs =
     absurd (called_open old runs.0 session request seen alone.here runs.1)
 effect_then old end session request seen rest [] alone runs = absurd runs
 
--- if the only open call has its answer, the return of it comes next
+-- if the only open call has its answer, and its return is the next event, orders go on from the configuration in
+-- which its session is idle again
 return_last : (old end : Config) (session : ℕ) (answer : Answer) (seen : Seen) (rest : List Event) (all : List Move)
     → IsAlone old.clients session (Answered answer)
     → LeadsThrough old (Return session seen ∷ rest) all end
@@ -225,7 +227,8 @@ return_last old end session answer seen rest (Seeing ∷ moves) alone runs = (
 )
 return_last old end session answer seen rest [] alone runs = absurd runs
 
--- what the call, its effect and its return leave is idle again
+-- once one session's client was replaced three times, at last by an idle one, all clients are idle as before all
+-- events
 idle_again : (state next : State) (session : ℕ) (one two : ClientState) → IsSession session
     → opening_config next
     ≡ record {
@@ -241,7 +244,7 @@ idle_again state next session one two is =
     ∙ set_same idle session Idle (idle_at 17 session (omega (arith, is.1))) in
     ap (λ l. record { state = next; clients = l }) (sym back)
 
--- a call that returns at once, where all are idle, leads to the state after it
+-- a call that returns its answer at once, where all are idle, leads to the state after it
 pub alone_leads : (state : State) (session : ℕ) (request : Request) (seen : Seen) → IsSession session
     → shows_answer seen (answer_to state session request) ≡ true
     → LeadsThrough (opening_config state) (Call session request ∷ Return session seen ∷ [])
@@ -289,8 +292,8 @@ alone_only state session request seen more all end is runs =
           (sym (idle_again state second.state session (Called request) (Answered answer) is)) after_return.1,
     )
 
--- if events lead to a state with all sessions idle (`IsLoadedTo`), then with one call more that returns at once they
--- lead to the state after its request
+-- if events lead to a state with all sessions idle (`IsLoadedTo`), then with one call more that returns its answer at
+-- once they lead to the state after its request
 pub loaded_more : (base full : State) (events : List Event) (session : ℕ) (request : Request) (seen : Seen)
     → IsSession session → IsLoadedTo base events full
     → shows_answer seen (answer_to full session request) ≡ true
@@ -344,7 +347,7 @@ refuted_behind base full first later place loaded refuted = record {
   whole = λ explained. refuted.whole (explained_from base full first later loaded explained);
 }
 
--- an answer that could be from a state could be behind the events that lead to it
+-- an answer that a call could have from a state, it could have behind the events that lead to the state
 could_behind : (base full : State) (first later : List Event) (place : ℕ) (answer : Answer) → IsLoadedTo base first full
     → CouldBe full later place answer
     → CouldBe base (first ++ later) (length first + place) answer
@@ -366,7 +369,7 @@ could_behind base full first later place answer loaded could =
       };
     }
 
--- an answer that could be behind events could be from the state that they lead to
+-- an answer that a call could have behind events, it could have from the state that they lead to
 could_from : (base full : State) (first later : List Event) (place : ℕ) (answer : Answer) → IsLoadedTo base first full
     → CouldBe base (first ++ later) (length first + place) answer → CouldBe full later place answer
 could_from base full first later place answer loaded could =

@@ -1,8 +1,10 @@
 -- Loops over configurations.
 --     KeepsReachBoth, ReachesPastBoth   events lead to what is left of a list, and to what was made of the rest
 --     SettlesBoth, SeesBoth             each configuration is still to come, or what is made of it is there
+--     has_pushed, has_last              a list with one more at its end
 --     settles_step, settles_reach       in each, what a session called for takes effect;  so all are reached
 --     sees_step, sees_reach             each sees an event;  so all are reached, with one event more
+--     HasAnswersBefore                  a list has each answer that a session has before a place
 --     answers_step, answers_more        the answers that a session has in them;  no other ones, and all of them
 --     effect_added, effects_added       what one act leads to is added;  what both acts of a session lead to
 --     others_more, closed_more          what acts of sessions up to one lead to is there;  from each place up to one
@@ -74,7 +76,9 @@ has_last rest known one c parts has =
     Contains-push_cases (configs rest) (config_of one) c (subst (λ l. Contains l c)
     (ap configs parts ∙ map_append config_of rest (one ∷ [])) has)
 
--- the step of the loop that settles: each configuration that is gone has its settled one in the new list
+-- one round of the loop that settles: the last of `known` is taken off, and what it settles to is put behind the
+-- list. Each of the first list is still to come, or has what it settles to in the list (`SettlesBoth`), also after
+-- the round
 pub settles_step : (session : ℕ) (first known rest list new : List Configuration) (one next : Configuration)
     → known ≡ rest ++ one ∷ []
     → new ≡ list ++ next ∷ [] → config_of next ≡ after_settling (config_of one) session
@@ -88,7 +92,7 @@ settles_step session first known rest list new one next parts pushed is has = λ
   | inr done ↦ inr (has_kept list new next (after_settling c session) (inr pushed) done)
 ]
 
--- if the events lead to a configuration, they lead to the settled one
+-- if the events lead to a configuration, they lead to the one that it settles to (`IsSettledFrom`)
 reaches_settled : (base : State) (events : List Event) (trunk : List Move) (session : ℕ) (one next : Configuration)
     → IsSettledFrom session one next
     → Reaches base events trunk one → Reaches base events trunk next
@@ -96,7 +100,8 @@ reaches_settled base events trunk session one next (inl same) reach = subst (Rea
 reaches_settled base events trunk session one next (inr effect) reach =
     reaches_effect base events trunk one next session Statement reach effect.0 effect.1 effect.2
 
--- the loop that settles: the events lead to each of the settled configurations, too
+-- one round of the loop that settles: if the events lead to what is left and to what was made (`KeepsReachBoth`),
+-- they still do once the last one was taken off and its settled one put behind the list
 pub settles_reach : (session : ℕ) (first known rest list new : List Configuration) (one next : Configuration)
     → known ≡ rest ++ one ∷ []
     → new ≡ list ++ next ∷ [] → IsSettledFrom session one next
@@ -109,7 +114,9 @@ settles_reach session first known rest list new one next parts pushed from reach
           (reaches_settled base events trunk session one next from cut.1),
     )
 
--- the step of the loop in which configurations see an event: each that is gone has seen it, if it can
+-- one round of the loop in which configurations see an event: the last of `known` is taken off, and what the event
+-- leads to from it is added unless it is there. Each of the first list is still to come, or the list has what the
+-- event leads to from it (`SeesBoth`), also after the round
 pub sees_step : (event : Event) (first known rest list new : List Configuration) (one : Configuration)
     → known ≡ rest ++ one ∷ []
     → IsSeenAdded event one list new → SeesBoth event first known list → SeesBoth event first rest new
@@ -130,7 +137,8 @@ sees_step event first known rest list new one parts (inr some) has = λ c next w
   | inr done ↦ inr (has_kept list new some.0 next some.3 done)
 ]
 
--- the loop in which configurations see an event: the events lead, with this one more, to each new one
+-- one round of the loop in which configurations see an event: if the events lead to what is left, and with this one
+-- more to what was made (`ReachesPastBoth`), they still do after the round
 pub sees_reach : (event : Event) (first known rest list new : List Configuration) (one : Configuration)
     → known ≡ rest ++ one ∷ []
     → IsSeenAdded event one list new → ReachesPastBoth event first known list → ReachesPastBoth event first rest new
@@ -222,7 +230,8 @@ closed_more place returning old new within before grows here k one below found =
     before_or_at : (k place : ℕ) → k < place + 1 → (k < place) ⊎ (k ≡ place)
     before_or_at k place below = elim (cases_lt k place) [ inl less ↦ inl less | inr more ↦ inr (omega arith) ]
 
--- the list has grown, and has what one act leads to, once that was added unless it was there
+-- once what an act leads to from the configuration at a place was added unless it was there, the list has grown, and
+-- has what the act leads to from there
 pub effect_added : (old new : List Configuration) (place : ℕ) (one next : Configuration) (found : Option Configuration)
     (session : ℕ) (act : Act)
     → slice_get old place ≡ Some one → IsSession session
@@ -260,7 +269,8 @@ effects_added old mid new place session first second has then one Statement conf
 effects_added old mid new place session first second has then one Disconnect config at leads =
     then one config (still_there old mid place one first at) leads
 
--- the loop over sessions: what acts of those up to this one lead to is in the list
+-- one round of the loop over sessions: a list that has what acts of sessions below a number lead to from a
+-- configuration (`IsExpandedBelow`) has it of sessions up to that number, once it has what acts of this one lead to
 pub others_more : (old now new : List Configuration) (place number : ℕ) (returning : Option ℕ) (one : Configuration)
     → Grows old now → Grows now new
     → slice_get old place ≡ Some one → IsExpandedBelow number one returning now

@@ -1,6 +1,6 @@
 -- Moves that lead on from a configuration lead on from one on a near state, and to near ones.
 --     WaitsNamed                  a client waits for no request but one that reads named rows
---     AreNearConfigs              configurations whose sessions are about the same, on near states
+--     AreNearConfigs              configurations with the same clients, on near states
 --     near_effect, near_event     where an effect, an event can be in one it can be in the other
 --     near_run                    where moves lead on from one they lead on from the other
 --     near_opening                before all events, configurations on near states are near
@@ -37,7 +37,8 @@ WaitsNamed named (Called request) = ReadsNamed named request
 WaitsNamed named (Gone (Some request)) = ReadsNamed named request
 WaitsNamed named client = Unit {0}
 
--- configurations whose sessions are about the same, on near states
+-- configurations on near states whose sessions have the same clients; no client waits for a request but one that
+-- reads only named rows
 pub record AreNearConfigs (named : List ℕ → Bool) (left right : Config) : Type 0 where
   pub clients : left.clients ≡ right.clients
   pub states : AreNear named left.state right.state
@@ -74,7 +75,8 @@ waits_set named clients session before next found reads waits other client at = 
   | inr apart ↦ waits other client (sym (get_apart clients session other next apart) ∙ at)
 ]
 
--- near configurations after the same change of what a session is about
+-- two near configurations stay near once one session's client is replaced by the same one in both, and the states by
+-- near ones
 changed : (named : List ℕ → Bool) (left right : Config) (session : ℕ) (before next same : ClientState)
     (state beside : State)
     → AreNearConfigs named left right
@@ -242,7 +244,7 @@ near_lost named (Some (Answered answer)) left right mid session near found is =
 near_lost named (Some (Gone request)) left right mid session near found is = absurd (none-some mid is)
 near_lost named (Some Left) left right mid session near found is = absurd (none-some mid is)
 
--- a return of which only the fact is known can be seen from a near configuration, too; `o` is where its client stands
+-- an unknown answer can be seen from a near configuration, too; `o` is where its client stands
 near_unknown : (named : List ℕ → Bool) (o : Option ClientState) (left right mid : Config) (session : ℕ)
     → AreNearConfigs named left right
     → slice_get left.clients session ≡ o
@@ -306,7 +308,7 @@ pub near_run : (named : List ℕ → Bool) (events : List Event) (moves : List M
 near_run named events moves left right end near all runs =
     run_too named events moves left right end near (recursion_from_All (CallsNamed named) events all) runs
 
--- all places of a list of one thing hold it
+-- in a list that repeats one client, each place has that client
 of_one : (n place : ℕ) (one client : ClientState) → slice_get (replicate n one) place ≡ Some client → one ≡ client
 of_one zero place one client at = absurd (none-some client at)
 of_one (suc n) zero one client at = same_Some one client at

@@ -39,7 +39,7 @@ use Rattle.xa_judge.specs.declared.answer.Answer.TheVariants.{Reply as Replied}
 use Rattle.xa_judge.specs.Explained.{answer_to, next_state}
 use Rattle.xa_judge.specs.Near.{AreNear, ReadsNamed}
 
--- the committed values of rows
+-- the committed values of rows, by their keys
 abbrev Rows : Type 0
 Rows = map.FinMap bytes_cmp Text
 
@@ -76,7 +76,7 @@ writes_agree named (write ∷ writes) left right agree =
     write_agrees named write.0 write.1 (with_writes writes left) (with_writes writes right)
     (writes_agree named writes left right agree)
 
--- a write of a row that isn't named changes nothing about what agrees on the named rows
+-- committed values that agree on the named rows still do once a row that isn't named is written on the left alone
 unnamed_agrees : (named : List ℕ → Bool) (key : List ℕ) (write : Write) (left right : Rows) → Agree named left right
     → named key ≡ false
     → Agree named (with_write key write left) right
@@ -324,7 +324,7 @@ after_at named branches left right agree session statement =
 
 -- ---- near states
 
--- the left one's branches with the right one's rows are the right one
+-- of two near states, the left one's branches with the right one's rows make the right one
 right_is : (named : List ℕ → Bool) (left right : State) → AreNear named left right
     → state_at left.branches right.rows ≡ right
 right_is named left right near = same_state (state_at left.branches right.rows) right near.branches refl
@@ -354,7 +354,8 @@ pub near_next : (named : List ℕ → Bool) (left right : State) (session : ℕ)
 near_next named left right session Unread near = near
 near_next named left right session (Given statement) near = near_after named left right session statement near
 
--- whether a write is refused or done, the state after it is near the other, if both states are
+-- if the state before a write and the one after it are near another state, so is the one that is left, whether the
+-- write is refused or done
 near_refusable : (named : List ℕ → Bool) (refused : Bool) (old new other : State) → AreNear named old other
     → AreNear named new other
     → AreNear named (unless_refused (refused_if refused RowLocked Accepted) old new) other

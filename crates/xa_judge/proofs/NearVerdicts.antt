@@ -44,7 +44,8 @@ refuted_near named left right events place near calls is = record {
       (near_sym named left right near) calls explained);
 }
 
--- an answer that could be from one of two near states could be from the other
+-- an answer that a call could have from one of two near states, it could have from the other, if all calls read only
+-- named rows
 could_near : (named : List ℕ → Bool) (left right : State) (events : List Event) (place : ℕ) (answer : Answer)
     → AreNear named left right
     → All (CallsNamed named) events → CouldBe left events place answer → CouldBe right events place answer
@@ -64,7 +65,8 @@ could_near named left right events place answer near calls could =
       };
     }
 
--- the answers that a session could have had are the same from near states
+-- the answers that the call returning at a place could have had are the same from near states, if all calls read only
+-- named rows
 pub answers_near : (named : List ℕ → Bool) (left right : State) (events : List Event) (place : ℕ)
     (answers : List Answer) → AreNear named left right
     → All (CallsNamed named) events → AreAllAnswers left events place answers → AreAllAnswers right events place answers

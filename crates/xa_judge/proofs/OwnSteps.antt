@@ -1,8 +1,9 @@
 -- Which statements are steps of the session's own branch, by their replies.
+--     replied, accepted                           an answer of OK is a reply of OK
 --     started_step, ended_step, prepared_step     XA START, XA END and XA PREPARE
 --     row_step, finished_step                     a statement on a row;  one that ends a branch
 --     has_active, has_row                         what is so of the session's branch, by the replies to XA END and DEL
---     among_at                                    a row that is one of these stands at a place
+--     among_at                                    a row that is among some rows stands at a place of them
 --     asked_is, asked_not                         what a call is for, by the event at its noted place
 use Rattle.std.proofs.Common.{◌≡◌, ◌||◌, Bool, true, false, not, Option, Some, None, List, [], ◌∷◌, ℕ}
 use Rattle.std.proofs.Common.{refl, ap, sym, ◌∙◌, subst, inl, inr, zero, suc}
@@ -125,7 +126,7 @@ pub row_step : (state : State) (session : ℕ) (statement : Statement) (xid : Xi
 row_step state session statement xid rows key is about has =
     works key is has (subst (IsAmong key) (sym (about ∙ named_row state session statement key is)) (one_row key))
 
--- a row that is one of these stands at a place
+-- a row that is among some rows (`IsAmong`) stands at a place of their list
 pub among_at : (key : List ℕ) (rows : List (List ℕ)) → IsAmong key rows
     → (at : ℕ) × (slice_get rows at ≡ Some key)
 among_at key [] e = absurd (false≢true e)
@@ -144,7 +145,7 @@ keys_same : (branch : Branch) (locks : List (List ℕ × LockMode))
 keys_same branch [] = refl
 keys_same branch (lock ∷ locks) = ap (λ l. lock.0 ∷ l) (keys_same branch locks)
 
--- the rows that a branch holds are those that its end is about
+-- a row that a branch holds is among the keys of the rows that are listed for the branch (`rows_of`)
 held_among : (state : State) (xid : Xid) (key : List ℕ) → holds state xid key ≡ true
     → IsAmong key (keys_of (rows_of state xid))
 unfolding rows_of
@@ -215,7 +216,7 @@ finished_step state session statement xid rows ending about e =
 
 -- ---- what is noted of an open call
 
--- what was called for is what the event at the noted place calls for
+-- if the event at the noted place is a call, the request that is noted is the one of that call
 pub asked_is : (events : List Event) (call : Option ℕ) (place session : ℕ) (one request : Request)
     → call ≡ Some place → slice_get events place ≡ Some (Call session one) → asked_by events call ≡ Some request
     → one ≡ request

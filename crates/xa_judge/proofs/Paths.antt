@@ -18,11 +18,11 @@ moves_push blocks tail code =
     ap (map move_of) (sym (append_assoc (concat blocks) tail (code ∷ [])))
     ∙ map-append move_of (concat blocks ++ tail) (code ∷ [])
 
--- the codes behind the blocks are a block themselves
+-- if the codes behind the blocks become a block themselves, the moves stay the same
 pub moves_folded : (blocks : List (List ℕ)) (tail : List ℕ) → moves_of (blocks ++ tail ∷ []) [] ≡ moves_of blocks tail
 moves_folded blocks tail = ap (map move_of) (append-nil (concat (blocks ++ tail ∷ [])) ∙ concat_more blocks tail)
 
--- the moves of full blocks come first, and then those of the last one
+-- the moves of the blocks come first, and then those of the codes behind them
 pub moves_split : (blocks : List (List ℕ)) (tail : List ℕ)
     → moves_of blocks tail ≡ moves_of blocks [] ++ map move_of tail
 moves_split blocks tail =

@@ -29,7 +29,7 @@ module _ {A : Type 0} where
   get_written (y ∷ ys) zero x a found = refl
   get_written (y ∷ ys) (suc i) x a found = get_written ys i x a found
 
-  -- a write leaves what stands at another place
+  -- a write leaves what stands at another place as it is
   pub get_apart : (xs : List A) (i j : ℕ) (a : A) → i ≢ j → slice_get (set xs i a) j ≡ slice_get xs j
   get_apart [] i j a apart = refl
   get_apart (y ∷ ys) zero zero a apart = absurd (apart refl)
@@ -37,7 +37,7 @@ module _ {A : Type 0} where
   get_apart (y ∷ ys) (suc i) zero a apart = refl
   get_apart (y ∷ ys) (suc i) (suc j) a apart = get_apart ys i j a (λ e. apart (ap suc e))
 
-  -- two places are written in any order
+  -- two writes at different places leave the same list in either order
   pub set_apart : (xs : List A) (i j : ℕ) (a b : A) → i ≢ j → set (set xs i a) j b ≡ set (set xs j b) i a
   set_apart [] i j a b apart = refl
   set_apart (y ∷ ys) zero zero a b apart = absurd (apart refl)

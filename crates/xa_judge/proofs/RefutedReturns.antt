@@ -79,7 +79,8 @@ shown mid next session seen sees = by (slice_get mid.clients session) refl sees
     by (Some (Gone request)) at e = absurd (none-some next e)
     by (Some Left) at e = absurd (none-some next e)
 
--- before the last event, a return, its session had an answer that it shows
+-- if some order explains events that end with a return, some moves lead through those before it to a configuration in
+-- which its session has an answer that the return shows
 pub last_answered : (base : State) (events : List Event) (session : ℕ) (seen : Seen)
     → Explained base (events ++ Return session seen ∷ [])
     → (answer : Answer) × IsAnswerAfter base events session answer × (shows_answer seen answer ≡ true)

@@ -27,7 +27,7 @@ use Rattle.xa_judge.specs.Found.{config_of, Has, IsClosedBelow}
 use Rattle.xa_judge.proofs.Places.{same_number, get_written, get_apart, mapped_place}
 use Rattle.xa_judge.proofs.Waits.{acted, may_answer, answered_apart, First, later, return_answered}
 
--- a session that has an answer may still give one
+-- if a session has an answer, its call was or may be answered (`may_answer`)
 answered_may : (o : Option ClientState) → answered_so o ≡ true → may_answer o ≡ true
 answered_may None e = absurd (false≢true e)
 answered_may (Some Idle) e = absurd (false≢true e)
@@ -84,7 +84,8 @@ settled_answered old session answered = ap (λ r. settled_by r old session) (by 
     by (Some (Gone request)) e = absurd (false≢true e)
     by (Some Left) e = absurd (false≢true e)
 
--- a return to a session that has its answer is seen at once, or after acts of others that can wait
+-- if a session has its answer in a configuration of the list, an order from there past its return may see the return
+-- first: acts of others before that can wait (`Settled`)
 settles_answered : (list : List Configuration) (session : ℕ) (seen : Seen) (more : List Event) (old new : Config)
     (moves : List Move) → Has list old
     → call_is_answered old session ≡ true → LeadsThrough old (Return session seen ∷ more) moves new
@@ -162,11 +163,12 @@ settles_own list session act seen more old mid new moves has at runs = elim (own
   | inr none ↦ absurd (dead mid new session seen more moves none runs)
 ]
 
--- two numbers that differ differ as found values, too
+-- two numbers that differ still do under `Some`
 apart_some : (m n : ℕ) → m ≢ n → Some n ≢ Some m
 apart_some m n apart e = apart (sym (same_Some n m e))
 
--- the act of another session leads to one of a closed list
+-- while the session that is to return isn't answered, an act of another session leads from a configuration of a
+-- closed list to one of that list
 other_act : (list : List Configuration) (returning session : ℕ) (act : Act) (old mid : Config)
     → IsClosedBelow (length list) (Some returning) list → Has list old
     → IsSession session → session ≢ returning → call_is_answered old returning ≡ false
@@ -198,7 +200,8 @@ settles_effect list session other act seen more old new moves closed has runs go
       | inr apart ↦ go_on (other_act list session other act old runs.0 closed has runs.1 apart unanswered runs.2)
     ]
 
--- in a closed list, each order up to a return goes on from a configuration with the session settled
+-- if an order leads from a configuration of a closed list to a return, the return can be seen first from one of the
+-- list, once what its session called for has taken effect (`Settled`)
 pub settles : (list : List Configuration) (session : ℕ) (seen : Seen) (more : List Event) (old new : Config)
     (moves : List Move)
     → IsClosedBelow (length list) (Some session) list → Has list old
@@ -241,7 +244,8 @@ pub record AnsweredSo (list : List Configuration) (session : ℕ) (answer : Answ
   pub has : Has list one
   pub stands : slice_get (after_settling one session).clients session ≡ Some (Answered answer)
 
--- a session that is answered in a configuration of the list keeps that answer through acts
+-- if a session is answered in a configuration of the list, the answer that it has after acts from there is the one of
+-- that configuration (`AnsweredSo`)
 answers_here : (list : List Configuration) (session : ℕ) (answer : Answer) (old new : Config) (moves : List Move)
     → Has list old
     → call_is_answered old session ≡ true → LeadsThrough old [] moves new
@@ -254,7 +258,8 @@ answers_here list session answer old new moves has answered runs stands = record
       ∙ sym (stays_answered old new session moves answered runs) ∙ stands;
 }
 
--- the answer behind the session's own act is the one after settling
+-- if the session's own act leads from a configuration of the list, the answer that it has after that and more acts is
+-- the one that it has there once what it called for has taken effect (`AnsweredSo`)
 answers_own : (list : List Configuration) (session : ℕ) (answer : Answer) (act : Act) (old mid new : Config)
     (moves : List Move) → Has list old
     → effect_of old session act ≡ Some mid → LeadsThrough mid [] moves new

@@ -1,5 +1,6 @@
 -- One move more, on the way through events.
 --     effect_leads, event_leads     moves that lead on by an effect, an event lead on from the configuration after it
+--     drop_got                      what stands at a place, and then the rest
 --     none_leads                    with no move left, an event that is left is never seen
 --     some_leads, leads_some        walking the moves finds a configuration if and only if they lead to one
 use Rattle.std.proofs.Common.{◌≡◌, ℕ, ◌+◌, ◌↔◌, zero, suc, true, Option, Some, None, IfSome, List, [], ◌∷◌, drop}
@@ -26,7 +27,8 @@ drop_got {A} xs i x found = subst (λ n. drop i xs ≡ x ∷ drop n xs) (sym (ad
     by (y ∷ ys) zero found = ap (λ a. a ∷ ys) (same_Some y x found)
     by (y ∷ ys) (suc i) found = by ys i found
 
--- moves that lead on from a configuration by an effect lead on from the one after it
+-- moves that begin with an effect lead on from a configuration if and only if the later ones lead on from the one
+-- after the effect
 pub effect_leads : (old new : Config) (session : ℕ) (act : Act) (events : List Event) (later : List Move) (end : Config)
     → IsSession session
     → effect_of old session act ≡ Some new
@@ -36,7 +38,8 @@ effect_leads old new session act events later end is leads = (
   λ runs. (new, is, leads, runs),
 )
 
--- moves that lead on from a configuration by an event lead on from the one after it
+-- moves that begin with an event lead on from a configuration if and only if the later ones lead on from the one that
+-- has seen it
 pub event_leads : (old new : Config) (event : Event) (events more : List Event) (later : List Move) (end : Config)
     → events ≡ event ∷ more
     → observed old event ≡ Some new
@@ -58,14 +61,14 @@ pub none_leads : (config : Config) (events : List Event) (seen : ℕ) (event : E
 none_leads config events seen event end found runs =
     subst (λ l. LeadsThrough config l [] end) (drop_got events seen event found) runs
 
--- a configuration that the search finds is one to which the moves lead
+-- if a configuration is found, and the moves lead to the one that is found, they lead through the events (`Leads`)
 pub some_leads : (base : State) (events : List Event) (moves : List Move) (found : Option Configuration)
     → is_some found ≡ true
     → IfSome found (λ one. LeadsThrough (opening_config base) events moves (config_of one)) → Leads base events moves
 some_leads base events moves None is leads = absurd (false≢true is)
 some_leads base events moves (Some one) is leads = (config_of one, leads)
 
--- if the moves lead somewhere, walking them finds a configuration
+-- if the moves lead through the events, and lead nowhere if none is found, a configuration is found
 pub leads_some : (base : State) (events : List Event) (moves : List Move) (found : Option Configuration)
     → (found ≡ None → (end : Config) → LeadsThrough (opening_config base) events moves end → ⊥)
     → Leads base events moves → is_some found ≡ true

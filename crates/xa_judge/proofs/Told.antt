@@ -1,6 +1,8 @@
 -- What is told of how far a judge is.
 --     report_more                 one report more
+--     less_fits, sizes_of         reports of sizes that fit one condition fit a weaker one
 --     pass_of, told_of            one pass alone
+--     passes_of                   what is told up to an event is told in passes
 --     passes_on, told_on          passes after others
 --     told_found, found_on        a verdict that was found, or none;  after passes
 --     whole_told, verdict_on      a pass that begins with the first event;  after passes
@@ -64,7 +66,8 @@ module _ {S : Type 0} {gives : S → SoFar → S → Type 0} where
     up_to = told.up_to;
   }
 
-  -- one report more, of a list that has this length
+  -- after reports before `count` events, one report more, before the next event and of a size that fits, makes
+  -- reports before `count + 1` events
   pub report_more : {fits : ℕ → ℕ → Type 0} {first all count : ℕ} {old mid : S} {size : ℕ} {new : S}
       → AreReports gives fits first all old count mid → fits count size
       → IsReport gives (first + count) all size mid new → AreReports gives fits first all old (count + 1) new

@@ -31,7 +31,8 @@ use Rattle.xa_judge.proofs.Growth.{all_at}
 use Rattle.xa_judge.proofs.Advances.{reached_of}
 use Rattle.xa_judge.proofs.Late.{counted_of_more}
 
--- one event more: the list still has a configuration for each order that explains the events
+-- if a list is complete for the events before a place (`IsComplete`), and whatever goes on from it past the event
+-- there goes on from a new list, the new one is complete for the events up to and including that one
 pub complete_more : (base : State) (events : List Event) (place : ℕ) (event : Event) (old new : List Configuration)
     → place < length events
     → event ≡ get_or events place event → IsComplete base (take place events) old
@@ -44,7 +45,8 @@ complete_more base events place event old new within at complete leads = λ more
     leads more end (complete (event ∷ more) moves end (subst
     (λ l. LeadsThrough (opening_config base) l moves end) parts runs))
 
--- the events seen so far lead to each configuration of the list, with one event more
+-- if the events before a place lead to each of the old list, the events up to and including the one there lead to
+-- each of the new list, which is what that event makes of the old one (`ReachesPast`)
 pub reach_more : (base : State) (events : List Event) (place : ℕ) (event : Event) (trunk : List Move)
     (old new : List Configuration) → place < length events
     → event ≡ get_or events place event
@@ -79,7 +81,8 @@ legal base events trunk moves list all path =
           (sym path.2) reach),
     )
 
--- ILLEGAL is right: some order explains the events before this one, and none explains it, since none is left
+-- ILLEGAL is right: some order explains the events before this one, and none explains it, if no order goes on past it
+-- from a complete list, not empty, to which the events before it lead
 pub refuted : (base : State) (events : List Event) (place : ℕ) (event : Event) (trunk : List Move)
     (list : List Configuration) → place < length events
     → event ≡ get_or events place event → 0 < length list
@@ -104,7 +107,8 @@ refuted base events place event trunk list within at some all complete none = re
         sym (take-append-drop (place + 1) events) ∙ ap (λ l. l ++ drop (place + 1) events) upto
         ∙ append_assoc (take place events) (event ∷ []) (drop (place + 1) events)
 
--- the answers that the list has are all that some order gives
+-- if the events before a place lead to each configuration of a complete list, the answers that the session returning
+-- there can have from the list are all that some order gives
 pub answers_given : (base : State) (events : List Event) (place : ℕ) (event : Event) (trunk : List Move)
     (list : List Configuration) (answers : List Answer)
     → slice_get events place ≡ Some event → All (Reaches base (take place events) trunk) list
@@ -140,7 +144,8 @@ answers_given base events place (Unknown session) trunk list answers at all comp
       ∙ could.returns in cc);
 }
 
--- UNDECIDED is right: so many different configurations would have had to be kept
+-- UNDECIDED is right if acts that may have to take effect before the event lead from what is kept to more different
+-- configurations than allowed
 pub wide : (base : State) (events : List Event) (limit place : ℕ) (event : Event) (trunk : List Move)
     (list many : List Configuration)
     → place < length events → slice_get events place ≡ Some event

@@ -1,9 +1,11 @@
 -- LeadsThrough: one more move at the end, and acts that can wait until an event is seen.
 --     runs_effect, runs_event                   one more move at the end
 --     may_answer                                a session's call was or may be answered
---     Acted, Saw                                what an act, an event did to what one session is about
---     acted, saw_call, saw_return, saw_lost     what each of them changes
+--     Acted, Saw                                an act changes only the state and its client;  an event only its client
+--     acted, saw_call, saw_return, saw_lost     each act does so;  a call, a return and a loss do
+--     effect_called                             the statement of a session that has called takes effect
 --     CanWait, First, later                     where acts can wait, the event is seen first
+--     answered_apart, return_answered           who has an answer doesn't act;  who returns had one
 use Rattle.std.proofs.Common.{◌≡◌, ◌≢◌, ℕ, Bool, true, false, cond, Option, Some, None, List, [], ◌∷◌, ◌++◌, set, refl}
 use Rattle.std.proofs.Common.{ap, sym, ◌∙◌, subst, inl, inr}
 use Rattle.std.specs.Prelude.{slice_get}
@@ -59,7 +61,7 @@ runs_event old mid new [] [] event runs at = let P : Config → Type 0 = λ c. o
     (new, subst P runs at, refl)
 runs_event old mid new (first ∷ events) [] event runs at = absurd runs
 
--- a configuration of a state and of how far the clients are
+-- the configuration of a state and of how far the clients are, as one that was found (`Some`)
 abbrev pub some_config : State → List ClientState → Option Config
 some_config state clients = Some (record { state = state; clients = clients })
 
@@ -72,7 +74,10 @@ may_answer (Some (Answered answer)) = true
 may_answer (Some (Gone request)) = false
 may_answer (Some Left) = false
 
--- what an act did to what its session is about; it does the same wherever the session and the server stand so
+-- the session's act leads from `old` to `new`: it changes the state, and of the clients the session's own alone, from
+-- `before` to `next`. It does the same in each configuration with the same state and this client (`again`). That
+-- client wasn't answered before (`unanswered`), isn't gone with an open call afterwards (`heard`), and can't be
+-- answered afterwards if it couldn't before (`dead`)
 pub record Acted (old : Config) (session : ℕ) (act : Act) (new : Config) : Type 0 where
   pub before : ClientState
   pub next : ClientState
@@ -85,7 +90,8 @@ pub record Acted (old : Config) (session : ℕ) (act : Act) (new : Config) : Typ
   pub unanswered : answered_so (Some before) ≡ false
   pub dead : may_answer (Some before) ≡ false → may_answer (Some next) ≡ false
 
--- what a statement's effect changes: the state, and its own client; `o` is where that client stood
+-- if what a session called for takes effect, that changes the state and the session's own client alone (`Acted`); `o`
+-- is where that client stood
 acted_statement : (o : Option ClientState) (old new : Config) (session : ℕ) → slice_get old.clients session ≡ o
     → carried_out o old session ≡ Some new
     → Acted old session Statement new
@@ -123,7 +129,8 @@ acted_statement (Some (Gone (Some request))) old new session found is = record {
 }
 acted_statement (Some Left) old new session found is = absurd (none-some new is)
 
--- what the effect of a lost client's `DISCONNECT` changes: the state, and that client
+-- if the DISCONNECT of a lost client takes effect, that changes the state and that client alone (`Acted`); `o` is
+-- where it stood
 acted_disconnect : (o : Option ClientState) (old new : Config) (session : ℕ) → slice_get old.clients session ≡ o
     → disconnected o old session ≡ Some new
     → Acted old session Disconnect new
@@ -147,7 +154,7 @@ acted_disconnect (Some (Gone request)) old new session found is = record {
 }
 acted_disconnect (Some Left) old new session found is = absurd (none-some new is)
 
--- what any effect changes: the state, and the client whose act it is
+-- an act that takes effect changes the state, and the client whose act it is, alone (`Acted`)
 pub acted : (old new : Config) (session : ℕ) (act : Act) → effect_of old session act ≡ Some new
     → Acted old session act new
 unfolding effect_of
@@ -178,7 +185,8 @@ effect_called config session request = by (slice_get config.clients session)
     by (Some (Gone other)) is = absurd (none-some request is)
     by (Some Left) is = absurd (none-some request is)
 
--- what an event did to what its session is about; it does the same wherever the session stands so
+-- the event leads from `old` to `new`: it changes its session's client alone, from `before` to `next`. It does the
+-- same in each configuration with this client (`again`)
 pub record Saw (old : Config) (event : Event) (new : Config) : Type 0 where
   pub before : ClientState
   pub next : ClientState
@@ -187,7 +195,7 @@ pub record Saw (old : Config) (event : Event) (new : Config) : Type 0 where
   pub again : (other : Config) → slice_get other.clients (session_of event) ≡ Some before
       → observed other event ≡ Some (with_client other (session_of event) next)
 
--- what a call changes: its own client alone
+-- a call that is seen changes its own client alone (`Saw`); `o` is where that client stood
 pub saw_call : (o : Option ClientState) (old new : Config) (session : ℕ) (request : Request)
     → slice_get old.clients session ≡ o
     → called o old session request ≡ Some new → Saw old (Call session request) new
@@ -221,7 +229,7 @@ saw_call (Some Left) old new session request found is =
       again = λ other at. ap (λ o. called o other session request) at;
     }
 
--- what a return changes: its own client alone, which had an answer
+-- a return that is seen changes its own client alone (`Saw`), and that client had an answer; `o` is where it stood
 pub saw_return : (o : Option ClientState) (old new : Config) (session : ℕ) (seen : Seen)
     → slice_get old.clients session ≡ o → returned o old session seen ≡ Some new
     → Saw old (Return session seen) new × (answered_so o ≡ true)
@@ -244,7 +252,7 @@ saw_return (Some (Answered answer)) old new session seen found is =
 saw_return (Some (Gone request)) old new session seen found is = absurd (none-some new is)
 saw_return (Some Left) old new session seen found is = absurd (none-some new is)
 
--- what a loss changes: the lost client alone
+-- a loss that is seen changes the lost client alone (`Saw`); `o` is where that client stood
 pub saw_lost : (o : Option ClientState) (old new : Config) (session : ℕ) → slice_get old.clients session ≡ o
     → lost o old session ≡ Some new
     → Saw old (Lost session) new
@@ -376,7 +384,7 @@ called_alone (Some (Gone None)) old mid new session request found heard is at = 
 called_alone (Some (Gone (Some other))) old mid new session request found heard is at = false≢true (sym heard)
 called_alone (Some Left) old mid new session request found heard is at = none-some mid is
 
--- the DISCONNECT of a session whose client is gone can wait until the session has called
+-- the DISCONNECT of a session whose client is gone without an open call can wait until the session has called
 gone_alone : (o : Option ClientState) (old mid new : Config) (session : ℕ) (request : Request)
     → slice_get old.clients session ≡ o → unheard_so o ≡ false
     → disconnected o old session ≡ Some mid → called (slice_get mid.clients session) mid session request ≡ Some new
@@ -426,7 +434,7 @@ CanWait config (Return session seen) = call_is_answered config session ≡ true
 CanWait config (Lost session) = Unit {0}
 CanWait config (Unknown session) = ⊥
 
--- an act is of another session than one that has its answer
+-- an act that takes effect is never one of a session that has its answer
 pub answered_apart : (old mid : Config) (session other : ℕ) (act : Act) → Acted old session act mid
     → call_is_answered old other ≡ true → session ≢ other
 answered_apart old mid session other act a answered = λ e.

@@ -50,8 +50,8 @@ IsNoReturn (Lost session) = Unit {0}
 IsNoReturn (Unknown session) = Unit {0}
 
 -- what the event leaves of the old list, if no act comes before it. Known: a list with each configuration to which
--- the event leads, at least one, and no other. Impossible: the event can be seen in none, and `answers` are given
--- back. Never TooMany
+-- the event leads, at least one, and no other. Impossible: the event can be seen in none of the old list, and
+-- `answers` are given back. Never TooMany
 abbrev pub IsSeenFrom : List Configuration → List Answer → Event → Advance → Type 0
 IsSeenFrom old answers event (Known list) =
     (0 < vec_len list) × ((one new : Config) → Has old one → observed one event ≡ Some new → Has list.items new)
@@ -75,9 +75,10 @@ AreAnswers list (Return session seen) answers = AreAnswersTo list session answer
 AreAnswers list event answers = answers ≡ []
 
 -- what the event leads to. Known: a list with at least one configuration. Whatever goes on past the event from the
--- old list goes on from this one, which has only what may be kept after the event (`IsKeptAfter`). Impossible:
--- nothing goes on past the event, and these are the answers of a return's session. TooMany: acts may have to come
--- before the event, and lead to more than `limit` different configurations (`IsCounted`)
+-- old list goes on from this one, which has only what is reached if the old list is (`ReachesPast`) and what may be
+-- kept after the event (`IsKeptAfter`). Impossible: nothing goes on past the event, and the answers are those that a
+-- return's session can have (`AreAnswers`). TooMany: acts may have to come before the event, and lead to more than
+-- `limit` different configurations (`IsCounted`), which are reached if the old list is
 abbrev pub IsAdvance : List Configuration → Event → ℕ → Advance → Type 0
 IsAdvance old event limit (Known list) =
     (0 < vec_len list) × ((more : List Event) (new : Config) → Continues old (event ∷ more) new

@@ -1,13 +1,13 @@
 -- Statements that have nothing to do with a step of another session's branch.
 --     named_by, key_of                the branch and the row that a statement names
 --     Avoids, IsBeside                a statement doesn't name a branch;  a session hasn't it open
---     IsEnding, IsUnlisted            it ends the branch;  it leaves the list of PREPARED branches as it is
+--     IsEnding, IsUnlisted            it is to end the branch;  it leaves the list of PREPARED branches as it is
 --     IsAmong, HasRow, MayEnd         a row is one of some;  a session has a row in its branch;  may end a branch
 --     IsOwnStep                       an accepted statement changes only its branch, and values only of rows
 --     IsClearOf, IsClearRequest       another statement has nothing to do with it;  another request
 --     IsHeldBack                      another request isn't answered before it what a return shows
---     IsListedAfter, EndsPrepared     a list shows that it was taken;  another statement ends what it prepares
---     returns_in, ComesAfter          what a session's call returns;  that isn't answered before the step
+--     IsListedAfter, EndsPrepared     a list shows that the step was taken;  another statement ends what it prepares
+--     returns_in, ComesAfter          what a session's call returns;  it isn't so answered before the step
 --     IsAside                         a request is clear of it, or held back, by what the request's call returns
 --     AreOpenAside, AreCallsAside     what is open is aside;  what is called for until the step's call returns
 --     AreNotedAside                   what is noted of open calls is aside
@@ -66,13 +66,14 @@ Avoids (Commit other one_phase) xid = same_xid xid other ≡ false
 Avoids (Rollback other) xid = same_xid xid other ≡ false
 Avoids other xid = Unit {0}
 
--- the statement ends the branch
+-- the statement is XA COMMIT, in one phase or two, or XA ROLLBACK of the branch
 abbrev pub IsEnding : Statement → Xid → Type 0
 IsEnding (Commit other one_phase) xid = other ≡ xid
 IsEnding (Rollback other) xid = other ≡ xid
 IsEnding other xid = ⊥
 
--- the statement leaves the list of PREPARED branches as it is
+-- the statement leaves the list of PREPARED branches as it is: it is no XA PREPARE, no XA COMMIT in two phases, and
+-- no XA ROLLBACK
 abbrev pub IsUnlisted : Statement → Type 0
 IsUnlisted (Prepare xid) = ⊥
 IsUnlisted (Commit xid one_phase) = one_phase ≡ true
@@ -89,7 +90,7 @@ IsBeside (Idle own) xid = same_xid xid own ≡ false
 abbrev pub IsAmong : List ℕ → List (List ℕ) → Type 0
 IsAmong key rows = list_any (eq_by_cmp bytes_cmp key) rows ≡ true
 
--- the session has the branch open and ACTIVE, and no other branch holds the row
+-- the session has the branch open and ACTIVE, and no other branch holds the row, shared or alone
 abbrev pub HasRow : State → ℕ → List ℕ → Xid → Type 0
 HasRow state session key xid =
     (association_of state session ≡ Active xid) × (is_held_against state (Active xid) key ≡ false)
@@ -101,7 +102,7 @@ MayEnd state session xid =
     ⊎ (association_of state session ≡ Idle xid)
 
 -- an accepted statement of the session that changes only this branch, and values only of these rows: it starts, ends,
--- prepares or finishes the branch, or is on a row in it
+-- prepares, commits or rolls back the branch, or is on a row in it
 pub data IsOwnStep (state : State) (session : ℕ) (statement : Statement) (xid : Xid) (rows : List
     (List ℕ)) : Type 0 where
   starts : statement ≡ Start xid → association_of state session ≡ Free → map.get state.branches xid ≡ None
@@ -122,7 +123,7 @@ pub record IsClearOf (one two : Statement) (xid : Xid) (rows : List (List ℕ)) 
   pub apart : (key other : List ℕ) → IsAmong key rows → key_of two ≡ Some other → eq_by_cmp bytes_cmp other key ≡ false
   pub lists : (convert : Bool) → two ≡ Recover convert → IsUnlisted one
 
--- the request has nothing to do with the step
+-- the request has nothing to do with the step (`IsClearOf`); a text that isn't a statement never has
 abbrev pub IsClearRequest : Statement → Request → Xid → List (List ℕ) → Type 0
 IsClearRequest one (Given two) xid rows = IsClearOf one two xid rows
 IsClearRequest one Unread xid rows = Unit {0}
@@ -187,7 +188,7 @@ AreNotedAside hints session one xid rows more = (other : ℕ) (request : Request
     → (fact_of hints other).asked ≡ Some request → IsAside one request xid rows (returns_in other more)
 
 -- where moves lead on from a configuration for which the old one stands, some lead on from one for which the new one
--- does, to the same answers
+-- does, to an end with the same answers
 abbrev pub IsSteppedFor : List Hint → List Event → Config → Config → Type 0
 IsSteppedFor hints more old new = (run end : Config) (moves : List Move) → AreAlike hints run old
     → LeadsThrough run more moves end

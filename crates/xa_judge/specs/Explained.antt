@@ -107,7 +107,8 @@ same_rows left right = false
 abbrev pub stands_for : ErrorNumbers → ℕ → Bool
 stands_for numbers number = numbers.seen == number || list_any (λ other. other == number) numbers.others.items
 
--- a return shows this answer; of a refusal only the number counts. A text that isn't a statement is refused with 1064
+-- a return shows this answer; of a refusal only the number is compared. A text that isn't a statement is refused with
+-- 1064
 abbrev pub shows_answer : Seen → Answer → Bool
 shows_answer SeenOk (Replied Accepted) = true
 shows_answer (SeenValue seen) (Replied (Value value)) = same_values seen value
@@ -116,8 +117,8 @@ shows_answer (SeenError numbers) (Replied (Refused error)) = stands_for numbers 
 shows_answer (SeenError numbers) NotRead = stands_for numbers 1064
 shows_answer seen answer = false
 
--- an idle session calls. One whose client is gone may call too: nobody hears the answer, and after its
--- DISCONNECT the call does nothing. None if the session has an open call
+-- an idle session calls. One whose client is gone may call too: nobody hears the answer, and after its DISCONNECT the
+-- call does nothing. None if the session has an open call, or there is no such session
 unfoldable pub called : Option ClientState → Config → ℕ → Request → Option Config
 called (Some Idle) config session request = Some (with_client config session (Called request))
 called (Some (Gone None)) config session request = Some (with_client config session (Gone (Some request)))
@@ -130,8 +131,8 @@ returned (Some (Answered answer)) config session seen =
     cond (shows_answer seen answer) (Some (with_client config session Idle)) None
 returned other config session seen = None
 
--- the client of a session is gone; an open call may still take effect, and nobody hears its answer. None if it was
--- gone before
+-- the client of a session is gone; an open call may still take effect, and nobody hears its answer. None if the
+-- client was gone before, or there is no such session
 unfoldable pub lost : Option ClientState → Config → ℕ → Option Config
 lost (Some Idle) config session = Some (with_client config session (Gone None))
 lost (Some (Called request)) config session = Some (with_client config session (Gone (Some request)))
@@ -165,6 +166,6 @@ LeadsThrough old (event ∷ events) (Seeing ∷ moves) new =
 LeadsThrough old [] [] new = new ≡ old
 LeadsThrough old events moves new = ⊥
 
--- some order explains the events
+-- some order explains the events: moves lead through all of them, from the opening configuration
 abbrev pub Explained : State → List Event → Type 0
 Explained base events = (moves : List Move) × (new : Config) × LeadsThrough (opening_config base) events moves new

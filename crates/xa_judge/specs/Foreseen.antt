@@ -63,7 +63,7 @@ pub record Hint : Type 0 where
 abbrev pub no_hint : Hint
 no_hint = record { seen = None; never = false; asked = None }
 
--- a session that isn't answered has called for this
+-- a session that isn't answered has called for this; its client may be gone
 abbrev pub IsOpenFor : Config → ℕ → Request → Type 0
 IsOpenFor config session request =
     (slice_get config.clients session ≡ Some (Called request))
@@ -83,7 +83,7 @@ fact_of hints session = unwrap_or (slice_get hints session) no_hint
 abbrev pub hint_of : List Hint → ℕ → Option Seen
 hint_of hints session = (fact_of hints session).seen
 
--- the request changes nothing: it lists branches, or reads or leaves outside of a branch
+-- the request changes nothing: it is XA RECOVER, or a GET or DISCONNECT of a session that has no branch open
 abbrev pub IsQuiet : State → ℕ → Request → Type 0
 IsQuiet state session (Given (Recover convert)) = Unit {0}
 IsQuiet state session (Given (Get key)) = association_of state session ≡ Free
@@ -126,7 +126,7 @@ abbrev pub is_free : Association → Bool
 is_free Free = true
 is_free other = false
 
--- the request lists branches, or reads or leaves outside of one
+-- whether the request is XA RECOVER, or a GET or DISCONNECT of a session that has no branch open
 abbrev pub is_reading : State → ℕ → Request → Bool
 is_reading state session (Given (Recover convert)) = true
 is_reading state session (Given (Get key)) = is_free (association_of state session)
@@ -160,7 +160,8 @@ pub record IsDead (hints : List Hint) (run : Config) : Type 0 where
   pub at : slice_get run.clients session ≡ Some (Answered answer)
   pub hidden : shows_answer seen answer ≡ false
 
--- the session's call can take effect at once: it is quiet, and its answer is what it returns
+-- the session's call can take effect at once: it changes nothing whenever the return shows its answer (`IsQuietFor`),
+-- and the return shows the answer that it would have now
 pub record CanSettle (config : Config) (session : ℕ) (seen : Seen) : Type 0 where
   pub request : Request
   pub at : slice_get config.clients session ≡ Some (Called request)
@@ -213,12 +214,12 @@ pub record IsLeft (hints : List Hint) (events : List Event) (end : Config) : Typ
 abbrev pub GoesOn : List Hint → (Config → Type 0) → List Event → Config → Type 0
 GoesOn hints has events end = IsFollowed hints has events end ⊎ IsLeft hints events end
 
--- each session that is answered at the end has the same answer at the last one
+-- each session that is answered in `end` has the same answer in `last`
 abbrev pub IsLike : Config → Config → Type 0
 IsLike end last = (session : ℕ) (answer : Answer) → slice_get end.clients session ≡ Some (Answered answer)
     → slice_get last.clients session ≡ Some (Answered answer)
 
--- moves lead on (`GoesOn`) to an end in which the sessions that are answered at this end have the same answers
+-- moves lead on (`GoesOn`) to some `last` in which each session that is answered in `end` has the same answer
 abbrev pub GoesOnLike : List Hint → (Config → Type 0) → List Event → Config → Type 0
 GoesOnLike hints has events end = (last : Config) × IsLike end last × GoesOn hints has events last
 
@@ -227,8 +228,8 @@ abbrev pub KeepsEnds : List Hint → List Event → List Configuration → List 
 KeepsEnds hints events old new =
     (end : Config) → GoesOn hints (Has old) events end → GoesOnLike hints (Has new) events end
 
--- a list has what each allowed act leads to, or what is as good; no act counts once the session that is to return is
--- answered
+-- a list has what each allowed act leads to, or what is as good, from each of its configurations in which the session
+-- that is to return isn't answered
 abbrev pub IsClosedFor : List Hint → Option ℕ → (Config → Type 0) → Type 0
 IsClosedFor hints returning has = (kept new : Config) (session : ℕ) (act : Act) → has kept
     → is_over returning kept ≡ false → IsSession session → effect_of kept session act ≡ Some new

@@ -12,7 +12,7 @@
 --     IsOpening        a list has only the configuration before all events
 --     IsPathOf, IsShortened      the moves to the first of a list;  a longer trunk leads to the same ones
 --     Grows            a list has more at its end, which is reached if the list is
---     AddsOnly         nothing is added but what acts that count lead to from a configuration
+--     AddsOnly         nothing is added but what acts that count (Late.antt) lead to from a configuration
 --     IsSettledIn, IsSeenIn    it comes of one of a list, by what a session called for;  by an event
 --     IsExpandedBelow, IsClosedBelow      the list has what acts that count lead to
 use Rattle.std.specs.Prelude.{◌≡◌, ◌≢◌, ◌⊎◌, ℕ, ◌<◌, false, Option, Some, None, List, [], ◌∷◌, ◌++◌, length}
@@ -129,7 +129,7 @@ pub record Grows (old new : List Configuration) : Type 0 where
   pub parts : new ≡ old ++ more
   pub reach : KeepsReach old new
 
--- what the new list has was in the old one, or an act that counts leads to it from this configuration
+-- what the new list has was in the old one, or an act that counts (`IsNextTo`) leads to it from this configuration
 abbrev pub AddsOnly : Option ℕ → Config → List Configuration → List Configuration → Type 0
 AddsOnly returning one old new = (config : Config) → Has new config → Has old config ⊎ IsNextTo returning one config
 
@@ -141,16 +141,16 @@ IsSettledIn list session config = (one : Config) × Has list one × (config ≡ 
 abbrev pub IsSeenIn : List Configuration → Event → Config → Type 0
 IsSeenIn list event config = (one : Config) × Has list one × (observed one event ≡ Some config)
 
--- the list has what acts of sessions below a number lead to from this configuration. Acts of the session that
--- is to return don't count, nor any acts after it was answered
+-- the list has what acts of sessions below a number lead to from this configuration. Left out are acts of the session
+-- that is to return, and all acts if that session is answered
 abbrev pub IsExpandedBelow : ℕ → Configuration → Option ℕ → List Configuration → Type 0
 IsExpandedBelow count one returning list =
     (session : ℕ) (act : Act) (new : Config) → session < count → IsSession session → returning ≢ Some session
     → is_over returning (config_of one) ≡ false
     → effect_of (config_of one) session act ≡ Some new → Has list new
 
--- the list has what acts that count, of any session, lead to from each configuration before this place
--- (`IsExpandedBelow`)
+-- the list has what acts of any session lead to from each configuration before this place, but for those that
+-- `IsExpandedBelow` leaves out
 abbrev pub IsClosedBelow : ℕ → Option ℕ → List Configuration → Type 0
 IsClosedBelow count returning list = (place : ℕ) (one : Configuration) → place < count → slice_get list place ≡ Some one
     → IsExpandedBelow 17 one returning list

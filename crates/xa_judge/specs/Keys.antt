@@ -15,7 +15,7 @@
 --     turns_after          all turns after the events
 --     picked               the events of one part, in their order
 --     count_in             how many events stand in one part
---     IsApart              no branch has anything of the chosen rows, or an owner among those that have none
+--     IsApart              no branch has anything of the chosen rows, or is owned by a session that is `free`
 --     HasNoBranch          there is no branch
 use Rattle.std.specs.Prelude.{◌≡◌, ℕ, suc, Bool, true, false, Some, List, [], ◌∷◌, slice_get, slice_set, replicate}
 use Rattle.std.specs.Prelude.{◌≢◌, Option, None, cond}
@@ -96,7 +96,9 @@ is_ending (Given (Rollback xid)) = true
 is_ending (Given Disconnect) = true
 is_ending request = false
 
--- a session's turn after a call in the other part
+-- a session's turn after a call in the other part. From Nobody it is Rest if the request may start a branch, else
+-- Other; from any other turn it is Ending if the request, once accepted, leaves the session without a branch, else
+-- Rest
 abbrev pub turn_called : Turn → Request → Turn
 turn_called Nobody request = cond (is_start request) Rest Other
 turn_called turn request = cond (is_ending request) Ending Rest
@@ -109,13 +111,14 @@ turn_returned Other seen = Nobody
 turn_returned Ending SeenOk = Nobody
 turn_returned turn seen = Within
 
--- a session's turn after its call is over with an answer that isn't known
+-- a session's turn after its call is over with an answer that isn't known: one that had no branch still has none, and
+-- any other may have one
 abbrev pub turn_unknown : Turn → Turn
 turn_unknown Chosen = Nobody
 turn_unknown Other = Nobody
 turn_unknown turn = Within
 
--- a session's turn after its event: true stands for the chosen part
+-- a session's turn after its event: true stands for the chosen part. A session whose client is lost has Within
 abbrev pub turn_after : Turn → Event → Bool → Turn
 turn_after turn (Call session request) true = Chosen
 turn_after turn (Call session request) false = turn_called turn request
@@ -162,7 +165,7 @@ turns_past turns side event =
 unfoldable pub first_turns : List Turn
 first_turns = replicate 17 Nobody
 
--- each event may stand in its part, after those before it; true stands for the chosen one
+-- each event has a part in which it may stand after those before it; true stands for the chosen part
 abbrev pub IsCut : (List ℕ → Bool) → List Turn → List Bool → List Event → Type 0
 IsCut named turns [] [] = Unit {0}
 IsCut named turns (side ∷ sides) (event ∷ events) =
@@ -191,18 +194,18 @@ count_in true (false ∷ sides) = count_in true sides
 count_in false (true ∷ sides) = count_in false sides
 count_in false (false ∷ sides) = suc (count_in false sides)
 
--- the branch writes and locks no chosen row, and no session that has no branch (`free`) owns it
+-- the branch writes and locks no chosen row, and its owner is no session that is `free`, which means without a branch
 pub record IsApartBranch (named : List ℕ → Bool) (free : ℕ → Bool) (branch : Branch) : Type 0 where
   pub owner : (session : ℕ) → free session ≡ true → branch.owner ≢ Some session
   pub writes : (key : List ℕ) → named key ≡ true → map.get branch.writes key ≡ None
   pub locks : (key : List ℕ) → named key ≡ true → map.get branch.locks key ≡ None
 
--- if there is a branch, it has nothing of the chosen rows, and no owner that has no branch
+-- if there is a branch, it has nothing of the chosen rows, and no owner that is `free`
 abbrev pub IsApartAt : (List ℕ → Bool) → (ℕ → Bool) → Option Branch → Type 0
 IsApartAt named free None = Unit {0}
 IsApartAt named free (Some branch) = IsApartBranch named free branch
 
--- every branch has nothing of the chosen rows, and no owner that has no branch
+-- every branch has nothing of the chosen rows, and no owner that is `free`
 abbrev pub IsApart : (List ℕ → Bool) → (ℕ → Bool) → State → Type 0
 IsApart named free state = (xid : Xid) → IsApartAt named free (map.get state.branches xid)
 

@@ -29,7 +29,8 @@ abbrev pub called_for : Option ClientState → Option Request
 called_for (Some (Called request)) = Some request
 called_for other = None
 
--- the configuration after the session's request, if there is one: the state goes on, and the client has its answer
+-- the configuration after the session's request, if there is one: with the state after it, and its answer at the
+-- client
 abbrev pub settled_by : Option Request → Config → ℕ → Config
 settled_by None config session = config
 settled_by (Some request) config session =
@@ -115,7 +116,7 @@ IsReady kept (Return session seen) config =
 IsReady kept (Lost session) config = kept config
 IsReady kept (Unknown session) config = IsCounted kept (Unknown session) config
 
--- the configuration is kept after the event
+-- the configuration is kept after the event, which leads to it from one that stands directly before (`IsReady`)
 abbrev pub IsKeptAfter : (Config → Type 0) → Event → Config → Type 0
 IsKeptAfter kept event config = (one : Config) × IsReady kept event one × (observed one event ≡ Some config)
 

@@ -28,7 +28,8 @@ use Rattle.xa_judge.specs.declared.client_state.ClientState.{ClientState}
 use Rattle.xa_judge.specs.declared.client_state.ClientState.TheVariants.{Idle, Called, Answered, Gone, Left}
 use Rattle.xa_judge.specs.Explained.{Config}
 
--- a number after one more word; 11400714819323198485 is odd, and is 2^64 divided by the golden ratio
+-- a number after one more word: the xor of both, plus 1, times a constant, modulo 2^64; and then the xor of that with
+-- its own upper 35 bits. The constant is odd, and is 2^64 divided by the golden ratio, rounded down
 unfoldable pub with_word : ℕ → ℕ → ℕ
 with_word number word =
     let product = ((bit_xor number word + 1) % 2 ^ 64 * 11400714819323198485) % 2 ^ 64 in
@@ -91,7 +92,7 @@ abbrev pub with_owner : ℕ → Option ℕ → ℕ
 with_owner number None = with_word number 0
 with_owner number (Some session) = with_word number session
 
--- the number so far, followed by how a branch holds a row, as one word, and the value that it puts
+-- the number so far, followed by how a branch holds a row, as one word, and the value, if it puts one
 abbrev pub with_hold : ℕ → Hold → ℕ
 with_hold number Shared = with_word number 0
 with_hold number (Put value) = with_text (with_word number 1) value.items

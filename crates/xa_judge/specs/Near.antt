@@ -41,8 +41,8 @@ abbrev pub CallsNamed : (List ℕ → Bool) → Event → Type 0
 CallsNamed named (Call session request) = ReadsNamed named request
 CallsNamed named event = Unit {0}
 
--- moves lead through the events to this state, with all sessions idle; and if moves lead through these events
--- and more, some moves lead from this state through the others
+-- moves lead through the events to this state, with all sessions idle; and if moves lead through these events and
+-- more to an end, some moves lead from this state through those more to the same end
 pub record IsLoadedTo (base : State) (events : List Event) (full : State) : Type 0 where
   pub moves : List Move
   pub leads : LeadsThrough (opening_config base) events moves (opening_config full)

@@ -2,7 +2,7 @@
 --     IsReport         one report tells these numbers
 --     AreReports       one report before each event that is judged, in turn
 --     IsSize           so many configurations may be kept before an event of a pass
---     ArePasses        such reports on the events once, or several times
+--     ArePasses        passes of such reports, one after another, or none
 --     seen_for         how many events a verdict is about
 --     IsToldUpTo       the last pass went up to this many events
 --     IsToldOf         a verdict is told by passes up to what decides it;  without one there were only passes
@@ -22,7 +22,8 @@ use Rattle.xa_judge.specs.Explained.{Config, opening_config, LeadsThrough}
 use Rattle.xa_judge.specs.Found.{Has, Reaches}
 use Rattle.xa_judge.specs.Late.{IsKept}
 
--- one report makes `new` of the value `old` of a progress, as `gives` says, and tells these numbers
+-- one report makes `new` of the progress `old`, as `gives` says, and tells that `done` events of `all` are judged and
+-- that so many configurations are kept
 pub record IsReport {S : Type 0} (gives : S → SoFar → S → Type 0) (done all configurations : ℕ) (old new : S) : Type 0
   where
     pub so_far : SoFar

@@ -67,7 +67,9 @@ pub record IsWide (base : State) (events : List Event) (limit place : ℕ) : Typ
   pub at : slice_get events place ≡ Some event
   pub counted : All (IsCounted (IsKept base events place) event) many
 
--- the verdict on events is right, for a limit of configurations
+-- the verdict on the events is right: the moves of Legal lead through all of them; at the place of Illegal they are
+-- refuted, and its answers are all that the call there could have; before the place of Undecided there are more than
+-- `limit` configurations (`IsWide`)
 abbrev pub IsVerdict : State → List Event → ℕ → Verdict → Type 0
 IsVerdict base events limit (Legal moves) = (new : Config) × LeadsThrough (opening_config base) events moves.items new
 IsVerdict base events limit (Illegal place answers) =

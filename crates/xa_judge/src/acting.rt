@@ -1,4 +1,4 @@
-//! Effects: what a session has called for is carried out by the server.
+//! Effects: the server carries out what a session has called for, or the `DISCONNECT` of one whose client is gone.
 ghost use Rattle.std.specs.Prelude.{◌≡◌, ◌<◌, ◌∷◌, ◌++◌, [], false, Some, None, slice_get, vec_len, IfOk, IfSome};
 ghost use Rattle.std.specs.Option.{option_map};
 ghost use Rattle.xa_xid.specs.declared.statement.Statement.TheVariants.{Disconnect};
@@ -26,7 +26,8 @@ fn leaving(alloc: Global) -> Result<SharedRequest, NoMemory>
     SharedRequest::of(alloc, Request::Statement(Statement::Disconnect))
 }
 
-/// One more owner of a client's answer that is known to be the same as this one; None if no client's is.
+/// One more owner of an answer that one of the clients has and that is known to be the same as `answer`; None if none
+/// has such an answer.
 fn same_among(clients: &[ClientState], answer: &Answer) -> Result<Option<SharedAnswer>, NoMemory>
     ensures { IfOk result (λ found. IfSome found (λ same. same ≡ answer.now)) }
 {
@@ -40,7 +41,8 @@ fn same_among(clients: &[ClientState], answer: &Answer) -> Result<Option<SharedA
     Ok(None)
 }
 
-/// The answer, to be shared: one that a client has already, or one of the lists, if that is the same; else a new one.
+/// The answer, to be shared: the one that a client has already, if that is known to be the same; else, if the answer is
+/// a list, the one in `lists`, if that is the same; else a new one, which goes into `lists` if it is a list.
 fn shared_among(
     clients: &[ClientState],
     lists: &mut SharedLists,
@@ -71,8 +73,8 @@ impl Configuration {
         }
     }
 
-    /// The configuration after the session's request takes effect. The session then has its answer, whose return
-    /// may come later.
+    /// The configuration after the session's request takes effect: the session is answered, and its call hasn't
+    /// returned yet. The answer is shared as in `shared_among`.
     fn answered(
         self,
         session: SessionNo,
@@ -156,7 +158,7 @@ impl Configuration {
     }
 
     /// Returns the configuration after what the session has called for takes effect; the same one if that took effect
-    /// before, if it has called for nothing, or if its client is gone.
+    /// before, if it has called for nothing, or if its client is gone. The answer is shared as in `effected_among`.
     ///
     /// May return `NoMemory`.
     #[tactic(auto, unfolding(crate::specs::Late::after_settling))]
@@ -178,7 +180,7 @@ impl Configuration {
     }
 
     /// The configuration after what the session called for takes effect; None if it has no request that is still to
-    /// take effect.
+    /// take effect. Then the session is answered; or, if its client is gone, nobody hears the answer.
     #[tactic(auto, unfolding(crate::specs::Explained::effect_of, crate::specs::Explained::carried_out))]
     fn carried_out(
         self,
@@ -208,8 +210,8 @@ impl Configuration {
         }
     }
 
-    /// The configuration after the session's `DISCONNECT` takes effect; None if its client isn't gone, or if it took
-    /// effect before.
+    /// The configuration after the session's `DISCONNECT` takes effect; None if its client isn't gone, or if the
+    /// `DISCONNECT` took effect before.
     #[tactic(auto, unfolding(crate::specs::Explained::effect_of, crate::specs::Explained::disconnected))]
     fn disconnected(self, session: SessionNo) -> Result<Option<Configuration>, NoMemory>
         ensures config { IfOk result (λ found. option_map config_of found
@@ -223,7 +225,7 @@ impl Configuration {
             Some(ClientState::Idle) => Ok(None),
             Some(ClientState::Called(_)) => Ok(None),
             Some(ClientState::Answered(_)) => Ok(None),
-            // A request that hasn't taken effect yet never does then.
+            // If it has a request that hasn't taken effect yet, that never does after the `DISCONNECT`.
             Some(ClientState::Gone(_)) => Ok(Some(self.left(session)?)),
             Some(ClientState::Left) => Ok(None),
         }
@@ -280,7 +282,7 @@ impl Configuration {
             Some(ClientState::Called(_)) => matches!(act, Act::Statement),
             Some(ClientState::Answered(_)) => false,
             Some(ClientState::Gone(None)) => matches!(act, Act::Disconnect),
-            // Its request may take effect, or its `DISCONNECT` in place of it.
+            // Its open request may take effect, or its `DISCONNECT` in place of the request.
             Some(ClientState::Gone(Some(_))) => true,
             Some(ClientState::Left) => false,
         }
@@ -302,6 +304,7 @@ impl Configuration {
             ++ Move.Effect session act ∷ [])) }
         ensures session { IsSession session }
     {
+        // Looked up first, since the copy takes time and memory.
         if !self.can_take_effect(session, act) {
             return Ok(None);
         }
@@ -336,7 +339,7 @@ impl Configuration {
     }
 
     /// Returns the same configuration, with its server kept as that of `before` is, with one request more: the
-    /// session's act leads here from `before`.
+    /// session's act leads here from `before`. So no server is copied.
     ///
     /// May return `NoMemory`.
     pub fn over(
@@ -350,7 +353,7 @@ impl Configuration {
         ensures { IfOk result (λ new. new ≡ self) }
     {
         match before.server_after(session, act)? {
-            // Not so: the act can take effect there.
+            // Never None: as `requires` says, the act can take effect in `before`.
             None => Ok(self),
             Some(server) => {
                 let Configuration {

@@ -18,14 +18,15 @@ use xa_xid::{NoMemory, SessionNo};
 pub enum Advance {
     /// These configurations, at least one.
     Known(Vec<Configuration>),
-    /// The event can be seen in no configuration. If it is a return, the call could have been answered with these.
+    /// The event can't be seen, whatever acts come before it. If the event is a return, these are the answers that
+    /// its call could have had; else there are none.
     Impossible(Vec<SharedAnswer>),
-    /// More configurations than are allowed.
+    /// Acts that may have to come before the event lead to more configurations than are allowed.
     TooMany,
 }
 
-/// What is left of these configurations after the event is seen. If nothing is left, `answers` are given back: at a
-/// return those that its session has in these configurations, and else none.
+/// What is left of the configurations `ready` after the event is seen in them. If nothing is left, `answers` are given
+/// back. The caller takes care that these are, at a return, those that its session has in `ready`, and else none.
 fn seen(
     alloc: Global,
     ready: Vec<Configuration>,
@@ -43,8 +44,9 @@ fn seen(
     }
 }
 
-/// What a return leads to. Before it, the request of its session takes effect, unless it has, and before that acts of
-/// others. It is `TooMany` only if those are found to lead to more than `limit` different configurations.
+/// What `event`, a return to the session `returning`, leads to. Before the return, the request of `returning` takes
+/// effect, unless it has already; and before that, any acts of other sessions. The result is `TooMany` only if these
+/// acts are found to lead to more than `limit` different configurations.
 fn return_seen(
     alloc: Global,
     mut known: Vec<Configuration>,
@@ -66,9 +68,9 @@ fn return_seen(
     Ok(next)
 }
 
-/// What an event other than a return leads to, if acts of its session can't take effect after it any more. So all
-/// that acts lead to is kept before the event. It is `TooMany` only if that is found to be more than `limit` different
-/// configurations.
+/// What an event other than a return leads to, if the open request of its session can't take effect after the event any
+/// more. So all that acts lead to is looked at before the event. The result is `TooMany` only if that is found to be
+/// more than `limit` different configurations.
 fn closed_seen(
     alloc: Global,
     mut known: Vec<Configuration>,
@@ -102,8 +104,9 @@ pub fn none_unheard(known: &[Configuration], session: SessionNo) -> bool
     true
 }
 
-/// What a call leads to. Acts have to come before it only if its session's client is gone with an earlier call that
-/// may still take effect. That is rare. `limit` counts only then, as in `closed_seen`.
+/// What `event`, a call of the session `calling`, leads to. Acts have to come before it only if in some configuration
+/// the session's client is gone with an earlier call that may still take effect. That is rare. Only then does `limit`
+/// matter, as in `closed_seen`.
 fn call_seen(
     alloc: Global,
     known: Vec<Configuration>,
@@ -122,8 +125,8 @@ fn call_seen(
     }
 }
 
-/// Returns what one more event leads to from these configurations; `TooMany` only if acts that may have to come before
-/// it are found to lead to more than `limit` different ones.
+/// Returns what one more event leads to from the configurations `known`; `TooMany` only if acts that may have to come
+/// before the event are found to lead to more than `limit` different ones.
 ///
 /// May return `NoMemory`.
 pub fn see_event(
@@ -143,9 +146,9 @@ pub fn see_event(
     match event {
         Event::Call(session, _) => call_seen(alloc, known, index, *session, event, limit),
         Event::Return(session, _) => return_seen(alloc, known, index, *session, event, limit),
-        // What the session has called for may take effect after it too.
+        // No act has to come before this event: what the session has called for may take effect after it too.
         Event::Lost(_) => seen(alloc, known, index, Vec::new(alloc), event),
-        // What the session has called for took effect before it or never will.
+        // What the session has called for took effect before this event, or never will.
         Event::Unknown(_) => closed_seen(alloc, known, index, event, limit),
     }
 }

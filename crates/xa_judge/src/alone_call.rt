@@ -5,20 +5,20 @@ use crate::event::{Event, Seen};
 use crate::request::Request;
 use xa_xid::SessionNo;
 
-/// A call that returns before anything else happens.
+/// A call whose return is the very next event.
 #[derive(Drop)]
 pub struct AloneCall<'a> {
     /// The session that calls.
     pub session: SessionNo,
     /// What is called for.
     pub request: &'a Request,
-    /// What it returns.
+    /// What the call returns.
     pub seen: &'a Seen,
-    /// The events after it.
+    /// The events after its return.
     pub later: &'a [Event],
 }
 
-/// Returns the call with which the events begin, if it returns before anything else happens; else None.
+/// Returns the call with which the events begin, if its return is the very next event; else None.
 pub fn alone(events: &[Event]) -> Option<AloneCall<'_>>
     ensures { IfSome result
         (λ call. events.now ≡ Event.Call call.session call.request.now ∷ Event.Return call.session call.seen.now

@@ -17,32 +17,32 @@ use std::alloc::Global;
 use std::mem;
 use xa_xid::{NoMemory, SessionNo};
 
-/// How many configurations are looked at before an event for each one that is kept: one effect in front of a
-/// call often isn't enough.
+/// How many configurations may be looked at before an event for each one that may be kept. One effect in front of a
+/// call often isn't enough; looking at more takes longer.
 const SIGHT: usize = 8;
 
 /// Some of the configurations before an event. In each of them every call that took effect was answered with
-/// what it returns.
+/// what it returns, if that is known.
 #[derive(Drop)]
 pub struct Beam<'a> {
     /// The events.
     events: &'a [Event],
     /// What later events say of open calls.
     foresight: Foresight<'a>,
-    /// The configurations; those with fewer acts of other sessions in front of the event come first.
+    /// The configurations. Their order matters: of those with equally many stuck calls the earlier ones are kept.
     pub known: Vec<Configuration>,
-    /// At which places they are.
+    /// At which places of `known` the configurations are.
     index: FingerprintIndex,
     /// Every effect that there can be.
     effects: Vec<Effect>,
-    /// The greatest number that is kept.
+    /// The greatest number of configurations that is kept after an event.
     width: usize,
-    /// How many effects may still be tried.
+    /// How many more effects may be tried. `add_effect` and `add_both` say which are counted.
     left: u64,
     alloc: Global,
 }
 
-/// The configuration after the effect; None if it doesn't fit.
+/// The configuration to which the effect leads from `one`; None if the effect doesn't fit there (`Fit::Not`).
 fn after(
     foresight: &Foresight,
     lists: &mut SharedLists,
@@ -82,7 +82,8 @@ impl<'a> Beam<'a> {
     }
 
     /// The configuration after every effect that fits and doesn't change the server (`Fit::Quiet`): such an effect
-    /// never comes too early. None if one can't take effect, which `fit` excludes.
+    /// never comes too early. None if one of them can't take effect; that is never the case, as `fit` says `Quiet`
+    /// only if it can.
     fn quieted(&mut self, one: Configuration) -> Result<Option<Configuration>, NoMemory> {
         let mut here = one;
         for effect in self.effects.iter() {
@@ -97,7 +98,8 @@ impl<'a> Beam<'a> {
         Ok(Some(here))
     }
 
-    /// Adds a configuration, if there is one, after its quiet effects, unless one of the list is known to be the same.
+    /// Adds the configuration `found`, if there is one, after its quiet effects (`quieted`), unless one in `known` is
+    /// then known to be the same.
     fn add(&mut self, found: Option<Configuration>) -> Result<(), NoMemory> {
         let Some(one) = found else {
             return Ok(());
@@ -108,8 +110,8 @@ impl<'a> Beam<'a> {
         }
     }
 
-    /// The configuration after all effects of other sessions that fit, and then the effect `own`; None if that doesn't
-    /// fit then. The others come in the order of `effects`, each if it fits after those before it.
+    /// The configuration to which all effects of other sessions that fit, and then the effect `own`, lead from `one`;
+    /// None if `own` doesn't fit after them. They come in the order of `effects`, each if it fits after those before.
     fn after_all(
         &mut self,
         one: &Configuration,
@@ -117,11 +119,11 @@ impl<'a> Beam<'a> {
     ) -> Result<Option<Configuration>, NoMemory> {
         let mut here = one.copy()?;
         for effect in self.effects.iter() {
-            // An effect doesn't fit if its call returns something else later, so that it would only be refuted then.
+            // An effect that doesn't fit isn't tried: its call returns another answer later, so no order goes on there.
             if effect.session != own.session && self.foresight.fit(&here, effect)? != Fit::Not {
                 let lists = &mut self.index.lists;
                 here = match here.effected_among(effect.session, effect.act, lists)? {
-                    // Not so: an effect that fits can take effect.
+                    // Never None: an effect that fits can take effect.
                     None => return Ok(None),
                     Some(next) => next,
                 };
@@ -133,8 +135,8 @@ impl<'a> Beam<'a> {
         here.effected_among(own.session, own.act, &mut self.index.lists)
     }
 
-    /// Adds what the effect leads to from the configuration: without other effects, and after all others that fit.
-    /// Both count as tried.
+    /// Adds what the effect `own` leads to from the configuration `one`: alone, and after all effects of other sessions
+    /// that fit (`after_all`). Both count as tried, also where `own` doesn't fit.
     fn add_both(&mut self, one: &Configuration, own: &Effect) -> Result<(), NoMemory> {
         self.left = self.left.saturating_sub(2);
         let alone = after(&self.foresight, &mut self.index.lists, one, own)?;
@@ -143,7 +145,7 @@ impl<'a> Beam<'a> {
         self.add(behind)
     }
 
-    /// Adds what the effect leads to from the configuration at this index.
+    /// Adds what the effect leads to from the configuration at this index of `known`, if it fits there.
     fn add_effect(&mut self, index: usize, effect: &Effect) -> Result<(), NoMemory> {
         let found = match self.known.get(index) {
             None => None,
@@ -156,13 +158,13 @@ impl<'a> Beam<'a> {
         self.add(found)
     }
 
-    /// Adds what each effect leads to from the configuration at this index, unless the session is answered
-    /// there.
+    /// Adds what each effect that fits leads to from the configuration at this index of `known`, unless `session`, the
+    /// one of the next event, is answered there.
     fn add_effects(&mut self, index: usize, session: SessionNo) -> Result<(), NoMemory> {
         if let Some(one) = self.known.get(index)
             && one.is_answered(session)
         {
-            // No more has to come before the session's event there.
+            // Nothing more has to take effect there before the event.
             return Ok(());
         }
         for at in 0..self.effects.len() {
@@ -182,7 +184,8 @@ impl<'a> Beam<'a> {
     }
 
     /// Adds what effects that fit lead to from each configuration in the order of the list, also from those that are
-    /// added, as long as `looks_on` allows more. One in which the session is answered leads to no others.
+    /// added, as long as `looks_on` allows more. One in which `session`, that of the next event, is answered leads to
+    /// no others.
     fn look_on(&mut self, session: SessionNo) -> Result<(), NoMemory> {
         for index in 0..self.width.saturating_mul(SIGHT) {
             // The list grows while it is gone through: what an effect leads to may lead on by another.
@@ -194,12 +197,15 @@ impl<'a> Beam<'a> {
         Ok(())
     }
 
-    /// Adds what can come before an event of the session. From each configuration the session's own request
-    /// comes first without other effects, then after all that fit. After that `look_on` adds more.
+    /// Makes `known` the configurations in which an event of the session is to be tried. Each one before gives at
+    /// most two: after the session's own request alone, and after all other effects that fit and then the request; or
+    /// itself, if it has no request to take effect. Then come those that still wait for the request, and what
+    /// `look_on` adds.
     fn prepare(&mut self, session: SessionNo) -> Result<(), NoMemory> {
         let own = Effect::of(session);
         let before = mem::replace(&mut self.known, Vec::new(self.alloc));
         let mut open = Vec::new(self.alloc);
+        // `known` begins anew, so the places in it do too.
         self.index.clear();
         for one in before {
             if one.can_take_effect(own.session, own.act) {
@@ -210,7 +216,7 @@ impl<'a> Beam<'a> {
                 self.known.push(one)?;
             }
         }
-        // Those that wait for the request come last. The event can't be seen in them, but effects lead on from them.
+        // Those that wait for the request come last. A return can't be seen in them, but effects lead on from them.
         for one in open {
             self.known.push(one)?;
         }
@@ -227,20 +233,24 @@ impl<'a> Beam<'a> {
     fn aim(&self, event: &Event) -> Option<SessionNo> {
         match event {
             Event::Return(session, _) => Some(*session),
-            // The call took effect before this event, or never will.
+            // The open call took effect before the event, or never will.
             Event::Unknown(session) => Some(*session),
             Event::Call(session, _) => {
+                // A client that is gone with an open call is seen to call again only after that call, or a
+                // `DISCONNECT` in its place, has taken effect (`is_unheard`).
                 if self.is_unheard(*session) {
                     Some(*session)
                 } else {
                     None
                 }
             }
+            // What the session has called for may take effect after the event too.
             Event::Lost(_) => None,
         }
     }
 
-    /// Keeps the best of these configurations, at most `width`, each after its quiet effects and once.
+    /// Keeps the best of these configurations (`best_of`), at most `width`, each after its quiet effects. Of those
+    /// that are known to be the same then, one is kept.
     fn keep(&mut self, known: Vec<Configuration>) -> Result<(), NoMemory> {
         self.index.clear();
         for one in known {
@@ -251,9 +261,9 @@ impl<'a> Beam<'a> {
         Ok(())
     }
 
-    /// Goes over the event at this place: first lets take effect what must come before it, then drops the
-    /// configurations in which it can't happen, and keeps the best of the others. If none is left, the search has
-    /// failed, which doesn't mean that there is no order. Does nothing if there is no event at this place.
+    /// Goes over the event at this place: first lets take effect what may have to come before the event, then drops the
+    /// configurations in which the event can't be seen, and keeps the best of the others. If none is left, the search
+    /// has failed, which doesn't mean that there is no order. Does nothing if there is no event at this place.
     ///
     /// May return `NoMemory`.
     pub fn see(&mut self, place: usize) -> Result<(), NoMemory> {
@@ -264,10 +274,10 @@ impl<'a> Beam<'a> {
             self.prepare(session)?;
         }
         let mut ready = mem::replace(&mut self.known, Vec::new(self.alloc));
-        // `observe_all` takes them from the last one on, and those with fewer effects are to come first.
+        // `observe_all` takes them from the last one on. Their order is to stay, since `keep` goes by it.
         ready.reverse();
         let seen = observe_all(self.alloc, ready, &mut self.index, event)?;
-        // Before `keep`, which goes by what open calls return: if the event is a call, that counts too.
+        // Before `keep`, which goes by what open calls return: if the event is a call, that call is open too.
         self.foresight.follow(place);
         self.keep(seen)
     }

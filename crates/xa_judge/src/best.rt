@@ -1,14 +1,15 @@
-//! The best of many configurations: those with the fewest stuck calls.
+//! The best of many configurations: those with the fewest stuck calls. A call is stuck if its answer, given now,
+//! wouldn't be what the call returns.
 
 use crate::configuration::Configuration;
 use crate::foresight::Foresight;
 use std::alloc::Global;
 use xa_xid::NoMemory;
 
-/// More than any number of stuck calls: a session has at most one, and there are 16.
+/// More than any number of stuck calls: there are 16 sessions, and each has at most one.
 const COUNTS: usize = 17;
 
-/// How many calls are stuck in each of the configurations.
+/// How many calls are stuck in each of the configurations, in their order.
 fn stuck_counts(
     alloc: Global,
     known: &[Configuration],
@@ -40,7 +41,8 @@ fn greatest_kept(counts: &[usize], width: usize) -> usize {
 }
 
 /// Returns the `width` configurations in which the fewest calls are stuck, of equal ones the earlier ones; all, if
-/// there are no more. If some are dropped, those kept with the most stuck calls come last, else the order stays.
+/// there are no more. If some are dropped, those of the kept ones that have the most stuck calls are put last, in their
+/// order. Apart from that the order stays.
 ///
 /// May return `NoMemory`.
 pub fn best_of(
@@ -68,7 +70,7 @@ pub fn best_of(
         }
     }
     for one in spare {
-        // Of those with the greatest count only as many as there is room for.
+        // Of those with the greatest count that is kept, only as many as there is room for.
         if best.len() < width {
             best.push(one)?;
         }

@@ -31,7 +31,7 @@ impl Clone for Block {
 }
 
 impl Block {
-    /// Returns codes with one owner.
+    /// Returns a block of these codes, with one owner.
     ///
     /// May return `NoMemory`.
     pub fn of(alloc: Global, codes: Vec<u8>) -> Result<Block, NoMemory>

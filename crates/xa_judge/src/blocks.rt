@@ -16,7 +16,7 @@ pub struct Blocks {
     alloc: Global,
 }
 
-/// The block with these codes; None if there is none.
+/// One more owner of the kept block with these codes; None if there is none.
 fn block_of(kept: &[Block], codes: &[u8]) -> Result<Option<Block>, NoMemory>
     ensures { IfOk result (λ found. IfSome found (λ block. block ≡ codes.now)) }
 {
@@ -37,11 +37,11 @@ impl Blocks {
         }
     }
 
-    /// A new block, which can be shared from now on.
+    /// A new block with these codes, which is kept, so that it can be shared from now on.
     fn add(&mut self, codes: Vec<u8>) -> Result<Block, NoMemory>
         ensures { IfOk result (λ block. block ≡ codes.items) }
     {
-        // All are forgotten together: those that are still shared live on in their paths.
+        // There is no room, so all kept blocks are forgotten. Those that paths share live on in the paths.
         if self.kept.len() >= MOST {
             self.kept.clear();
         }

@@ -7,14 +7,14 @@ use std::alloc::Global;
 use std::collections::BTreeMap;
 use xa_xid::{NoMemory, SessionNo, Statement, Xid};
 
-/// One place for each session's number, and place 0, which no session has.
+/// One place for each session's number, from 1 to 16, and place 0, which no session has.
 const SESSIONS: usize = 17;
 
 /// How many records of branches a server has, estimated from the events: one for each branch, and one for
 /// each statement within it, which may be about a row.
 ///
-/// Open calls may add records and lost sessions may remove some; neither is counted. A poor estimate costs
-/// time and memory, and changes no verdict.
+/// Open calls may add records and lost sessions may remove some; neither is counted. A poor estimate costs time and
+/// memory, and makes no verdict wrong.
 #[derive(Drop)]
 pub struct BranchRecords {
     /// How many records each branch has.
@@ -49,8 +49,8 @@ impl BranchRecords {
         self.sum == 0 && self.called.iter().all(|called| called.is_none())
     }
 
-    /// Takes note of an event. A call that returns counts as carried out, unless it lists branches or is refused; one
-    /// with an unknown answer counts too. The loss of a client changes nothing: its call stays open.
+    /// Takes note of an event. A call that returns counts as carried out, unless it lists branches or is refused; so
+    /// does one with an unknown answer. The loss of a client changes nothing: its call stays open.
     ///
     /// May return `NoMemory`.
     pub fn see(&mut self, event: &Event) -> Result<(), NoMemory> {
@@ -66,7 +66,7 @@ impl BranchRecords {
         }
     }
 
-    /// Notes that the session has this open call, or none.
+    /// Notes that the session has this open call; none, if `request` is None.
     fn call(&mut self, session: SessionNo, request: Option<SharedRequest>) -> Result<(), NoMemory> {
         // The places are made at the first call, so that `new` needs no memory.
         for _ in self.called.len()..SESSIONS {
@@ -79,7 +79,7 @@ impl BranchRecords {
         Ok(())
     }
 
-    /// Notes that the session has this branch, or none.
+    /// Notes that the session has this branch; none, if `branch` is None.
     fn own(&mut self, session: SessionNo, branch: Option<Xid>) {
         if let Some(place) = self.owned.get_mut(session.get() as usize) {
             *place = branch;
@@ -88,7 +88,7 @@ impl BranchRecords {
 
     /// Adds a record of a branch.
     fn add(&mut self, xid: &Xid) -> Result<(), NoMemory> {
-        // A branch without an entry has no record yet.
+        // A branch that isn't in `counts` has no record yet.
         let count = self.counts.get(xid).copied().unwrap_or(0);
         self.counts.insert(xid.copy(), count.saturating_add(1))?;
         self.sum = self.sum.saturating_add(1);
@@ -129,11 +129,12 @@ impl BranchRecords {
             Statement::Prepare(_) => self.own(session, None),
             Statement::Commit { xid, one_phase: _ } => self.end(session, Some(xid.copy())),
             Statement::Rollback(xid) => self.end(session, Some(xid.copy())),
+            // The session's branch is rolled back. One that it prepared isn't its own any more.
             Statement::Disconnect => {
                 let branch = self.owned_by(session);
                 self.end(session, branch);
             }
-            // Within a branch the statement may be about a row, which would be one record more.
+            // Within a branch each other statement counts as one about a row, which may be one record more.
             _ => {
                 if let Some(xid) = self.owned_by(session) {
                     self.add(&xid)?;

@@ -24,7 +24,7 @@ use std::collections::BTreeSet;
 use xa_server::Server;
 use xa_xid::{Key, NoMemory};
 
-/// Whether there is no branch.
+/// Whether the base has no branch.
 fn has_no_branch(alloc: Global, base: &Server) -> Result<bool, NoMemory>
     ensures { IfOk result (λ none. none ≡ true → HasNoBranch base.now) }
 {
@@ -41,7 +41,7 @@ fn set_of(alloc: Global, keys: &[Key]) -> Result<BTreeSet<Key>, NoMemory> {
     Ok(set)
 }
 
-/// The verdict LEGAL, if the merged moves of the parts lead through the record; else None.
+/// The verdict LEGAL, if `moves`, those of both parts merged, lead through the record; else None.
 fn legal_together(
     alloc: Global,
     base: &Server,
@@ -60,9 +60,10 @@ fn legal_together(
     }
 }
 
-/// The verdict ILLEGAL at the event that has the place `index` in the part `wanted`, where that part is refuted; `true`
-/// is the chosen part. An order explains the first `explained` events of the other part. None if more events of that
-/// part come before the refuted one, or if there is no event at `index`.
+/// The verdict ILLEGAL at the event at which the part `wanted` is refuted: its place in that part is `index`, and it
+/// could have shown the `answers`. `sides` has the part of each event, and `true` is the chosen one. An order
+/// explains the first `explained` events of the other part. None if more than `explained` events of the other part come
+/// before the refuted event, or if the part `wanted` has no event at `index`.
 fn illegal_in(
     base: &Server,
     keys: &BTreeSet<Key>,
@@ -95,8 +96,8 @@ fn illegal_in(
     }
 }
 
-/// The verdict on a record by the verdicts on its parts: `chosen` is on the events whose side is `true`, `rest` on the
-/// others. None if one of them is UNDECIDED, or if no verdict follows from both.
+/// The verdict on a record by the verdicts on its parts: `chosen` is the verdict on the events whose side is `true`,
+/// `rest` the one on the other events. None if one of the two is UNDECIDED, or if no verdict follows from both.
 fn together(
     alloc: Global,
     base: &Server,
@@ -119,7 +120,7 @@ fn together(
                 let all = merge(alloc, sides, moves.as_slice(), others.as_slice())?;
                 legal_together(alloc, base, events, all, limit)
             }
-            // The chosen part is explained as a whole. It has no more events than there are sides.
+            // The chosen part is explained as a whole: it has no more events than `sides.len()`.
             Verdict::Illegal(index, answers) => Ok(illegal_in(
                 base,
                 keys,
@@ -134,7 +135,7 @@ fn together(
             Verdict::Undecided(_) => Ok(None),
         },
         Verdict::Illegal(index, answers) => match rest {
-            // The rest is explained as a whole, and has no more events than there are sides.
+            // The rest is explained as a whole: it has no more events than `sides.len()`.
             Verdict::Legal(_) => Ok(illegal_in(
                 base,
                 keys,
@@ -147,8 +148,9 @@ fn together(
                 limit,
             )),
             Verdict::Illegal(other, others) => {
-                // Each part is explained before its refuted event. So the refutation that comes first in the record
-                // counts.
+                // Each part is explained up to its refuted event: the first `index` events of the chosen part, and
+                // `other` of the rest. Only the refutation that comes first in the record gives a verdict: for the
+                // later one `illegal_in` returns None.
                 let first = illegal_in(
                     base, keys, sides, events, true, index, answers, other, limit,
                 );
@@ -165,8 +167,9 @@ fn together(
     }
 }
 
-/// The verdict on events that are free statements on these rows: with few configurations, or else by halves of the
-/// rows, each judged so, down to single rows (`judge_part`). None if no verdict is found so.
+/// The verdict on `events`, all of them of free statements on the rows `keys`. Fewer than two rows are judged by
+/// `judge_part`. Else few configurations may be enough (`judge_narrow`); if not, each half of the rows is judged as
+/// here, and the two verdicts are put together. None if no verdict is found so.
 fn judge_rows(
     alloc: Global,
     base: &Server,
@@ -233,7 +236,7 @@ pub fn judge_by_keys(
         return Ok(None);
     };
     if keys.len() < 2 && count_before(sides.as_slice(), false, sides.len()) == 0 {
-        // Nothing is cut off: there is only this row.
+        // All events are about this one row, so nothing would be cut off.
         return Ok(None);
     }
     let part = pick(alloc, true, sides.as_slice(), events)?;

@@ -1,4 +1,8 @@
 //! Tells which statements have nothing to do with a step of another session's branch, or are answered only after it.
+//!
+//! A step is an accepted statement that starts, ends, prepares or finishes a branch, or is about a row in it. In these
+//! functions `one` is the step, `xid` its branch, `rows` has the keys of the rows that it is about, and `two` is a
+//! statement of another session.
 ghost use Rattle.std.specs.Prelude.{◌≡◌, ◌≢◌, ◌<◌, ◌+◌, ◌∷◌, true, false, Some, None, List, ℕ, slice_get, length, drop};
 ghost use Rattle.std.specs.List.{list_any};
 ghost use Rattle.std.specs.Ordering.{eq_by_cmp};
@@ -98,13 +102,13 @@ fn avoids_rows(statement: &Statement, rows: &[Key]) -> bool
     true
 }
 
-/// Whether the statement leaves the list of prepared branches as it is.
+/// Whether the statement is known to leave the list of PREPARED branches as it is.
 fn is_unlisted(statement: &Statement) -> bool
     ensures { result ≡ true → IsUnlisted statement.now }
 {
     match statement {
         Statement::Prepare(_) => false,
-        // In one phase a branch ends that was never prepared.
+        // In one phase an IDLE branch is committed, which the list doesn't have.
         Statement::Commit { one_phase, .. } => *one_phase,
         // The branch may be PREPARED.
         Statement::Rollback(_) => false,
@@ -115,6 +119,7 @@ fn is_unlisted(statement: &Statement) -> bool
         Statement::Get(_) => true,
         Statement::Put(_, _) => true,
         Statement::Del(_) => true,
+        // It rolls back only the session's own branch, which isn't PREPARED.
         Statement::Disconnect => true,
     }
 }
@@ -147,7 +152,7 @@ fn is_clear(one: &Statement, two: &Statement, xid: &Xid, rows: &[Key]) -> bool
     avoids(two, xid) && avoids_rows(two, rows) && (lists_none(two) || is_unlisted(one))
 }
 
-/// Whether the branch is one of these.
+/// Whether the branch is one of those in `listed`.
 fn is_listed(xid: &Xid, listed: &[Xid]) -> bool
     ensures { result ≡ list_any (same_xid xid.now) listed.now }
 {
@@ -157,8 +162,8 @@ fn is_listed(xid: &Xid, listed: &[Xid]) -> bool
     }
 }
 
-/// Whether a list of PREPARED branches shows that the step was taken: it has the branch after `XA PREPARE`, and
-/// hasn't it after an `XA COMMIT` in two phases.
+/// Whether `listed`, a list of PREPARED branches, shows that the step `one` was taken: the step is `XA PREPARE` and the
+/// list has the branch, or it is `XA COMMIT` in two phases and the list hasn't the branch.
 fn is_listed_after(one: &Statement, xid: &Xid, listed: &[Xid]) -> bool
     ensures { result ≡ true → IsListedAfter one.now xid.now listed.now }
 {
@@ -166,11 +171,13 @@ fn is_listed_after(one: &Statement, xid: &Xid, listed: &[Xid]) -> bool
         Statement::Prepare(_) => is_listed(xid, listed),
         // In two phases a branch leaves the list.
         Statement::Commit { one_phase, .. } => !*one_phase && !is_listed(xid, listed),
+        // A list doesn't show other steps. Before an `XA ROLLBACK`, too, it may lack the branch.
         _ => false,
     }
 }
 
-/// Whether the step prepares the branch, and the other statement ends it while it is PREPARED.
+/// Whether the step `one` prepares the branch, and `two` finishes that branch: by `XA COMMIT` in two phases or by
+/// `XA ROLLBACK`. Another session can do so only while the branch is PREPARED.
 fn ends_prepared(one: &Statement, two: &Statement, xid: &Xid) -> bool
     ensures { result ≡ true → EndsPrepared one.now two.now xid.now }
 {
@@ -187,8 +194,8 @@ fn ends_prepared(one: &Statement, two: &Statement, xid: &Xid) -> bool
     }
 }
 
-/// Whether the statement `two` of another session is known not to be answered what `seen` shows before the step `one`
-/// of this branch.
+/// Whether `seen` shows an answer that the statement `two` of another session is known not to get until the step `one`
+/// of this branch is taken.
 fn is_held_back(one: &Statement, two: &Statement, xid: &Xid, rows: &[Key], seen: &Seen) -> bool
     ensures { result ≡ true → IsHeldBack one.now (RequestSeen.Statement two.now) xid.now rows.now seen.now }
 {
@@ -205,8 +212,8 @@ fn is_held_back(one: &Statement, two: &Statement, xid: &Xid, rows: &[Key], seen:
     }
 }
 
-/// Whether the event is a return to the session of this number, and shows an answer that its statement `two` is known
-/// not to get before the step `one` of this branch; None if the event is another session's.
+/// Whether the event is a return to the session of this number, and shows an answer that the session's statement `two`
+/// is known not to get until the step `one` of this branch is taken. None if the event is another session's.
 fn returns_after(
     event: &Event,
     number: usize,
@@ -232,8 +239,8 @@ fn returns_after(
     }
 }
 
-/// Whether the next event of the session of this number, at the place `from` or later, is a return that shows an answer
-/// which its statement `two` is known not to get before the step `one` of this branch.
+/// Whether the session of this number has an event at the place `from` or later, and the first one is a return that
+/// shows an answer which its statement `two` is known not to get until the step `one` of this branch is taken.
 fn comes_after(
     events: &[Event],
     from: usize,
@@ -279,9 +286,9 @@ pub fn is_aside(
     }
 }
 
-/// Whether the event at this place is the return of the session's step `one`. None if the next event tells: this one is
-/// another session's, and if it is a call, `is_aside` holds of it. False if that doesn't hold, or if the event is the
-/// session's own, but no return.
+/// Whether the event at this place is the return of the step `one`, the session's open call. None if later events have
+/// to tell: this event is another session's and no call, or another's call of which `is_aside` holds. False if it is
+/// another's call of which `is_aside` doesn't hold, or an event of the session itself, but no return.
 fn is_return(
     events: &[Event],
     place: usize,
@@ -332,8 +339,9 @@ fn is_return(
 }
 
 /// Tells whether each call at the place `from` or later, until the session's step `one` of its branch `xid` returns, is
-/// known to have nothing to do with the step or to be answered only after it (`is_aside`). If the session has no later
-/// event, that is up to the end. False may mean that it isn't known; false also if its next event isn't that return.
+/// known to have nothing to do with the step or to be answered only after it (`is_aside`). If the session has no event
+/// from there on, these are the calls up to the end. False may mean that it isn't known. False also if the session's
+/// next event isn't that return. `rows` has the rows that the step is about.
 pub fn are_calls_aside(
     events: &[Event],
     from: usize,

@@ -1,4 +1,5 @@
-//! All that can have come before an event.
+//! All that can have come before an event: what acts lead to, what the event then leads to, and which answers were
+//! given.
 ghost use Rattle.std.specs.Prelude.{◌≡◌, ◌<◌, ℕ, List, Some, true, false, slice_get, vec_len, length, IfOk, OnOk};
 ghost use Rattle.std.specs.List.{All, Contains};
 ghost use Rattle.xa_judge.specs.Explained.{Config, observed};
@@ -35,9 +36,10 @@ fn is_too_wide(
     index.is_spread(known, limit)
 }
 
-/// Adds all configurations to which acts lead, except acts of the session `returning`, and none after that
-/// session was answered. If `returning` is None, acts of all sessions count. Returns true; or false, before all are
-/// added, if the list is found to have more than `limit` configurations of which no two are the same.
+/// Adds to `known` all configurations to which acts lead from those in it, except acts of the session `returning`,
+/// and any acts where that session is answered; if `returning` is None, no acts are left out. Returns true; or false,
+/// with perhaps not all of them added, if the list is found to have more than `limit` configurations of which no two
+/// are the same.
 ///
 /// May return `NoMemory`.
 pub fn close(
@@ -53,6 +55,7 @@ pub fn close(
     ensures only { OnOk result ((config : Config) → Has known.new.items config
         → IsReachedFrom (Has known.old.items) returning.now config) }
 {
+    // The index begins anew: what a fingerprint reads may have changed since places were taken up (`settle`).
     index.clear();
     // A list that isn't longer than the limit can't have too many.
     let mut uncounted = limit;
@@ -68,8 +71,8 @@ pub fn close(
     Ok(true)
 }
 
-/// Returns the configurations after what the session has called for takes effect. Those stay as they are in which that
-/// took effect before, it has called for nothing, or its client is gone. They are taken from the last one on.
+/// Returns the configurations after what the session has called for takes effect, in reverse order. A configuration
+/// stays as it is if that took effect before, if the session has called for nothing, or if its client is gone.
 ///
 /// May return `NoMemory`.
 pub fn settle_all(
@@ -91,8 +94,8 @@ pub fn settle_all(
     Ok(list)
 }
 
-/// Adds the configuration to which the event leads from this one, if it can be seen there, and unless one of the list
-/// is known to be the same.
+/// Adds to `list` the configuration to which the event leads from `one`. Adds nothing if the event can't be seen in
+/// `one`, or if a configuration of the list is known to be the same as the new one.
 fn add_seen(
     list: &mut Vec<Configuration>,
     index: &mut FingerprintIndex,
@@ -110,8 +113,8 @@ fn add_seen(
     }
 }
 
-/// Returns the configurations after the event, from those in which it can be seen; of those that are known to be the
-/// same one is kept. They are taken from the last one on.
+/// Returns the configurations to which the event leads from those of `known` in which it can be seen, in reverse order.
+/// Of those that are known to be the same only one is kept. After that `index` serves the new list.
 ///
 /// May return `NoMemory`.
 pub fn observe_all(
@@ -139,7 +142,7 @@ pub fn observe_all(
     Ok(list)
 }
 
-/// Adds the answer that the session has in a configuration, if it has one.
+/// Adds the answer that the session has in the configuration `one`, if it has one there.
 fn add_answer(
     answers: &mut Vec<SharedAnswer>,
     one: &Configuration,

@@ -17,7 +17,7 @@ use std::alloc::Global;
 use xa_server::Server;
 use xa_xid::{NoMemory, SessionNo};
 
-/// One place for each session's number, and place 0, which no session has and which stays idle.
+/// One place for each session's number, from 1 to 16, and place 0, which no session has and which stays idle.
 const PLACES: usize = 17;
 
 /// A configuration: a state of the server, how far each session is, and the moves that led here.
@@ -106,7 +106,7 @@ impl Configuration {
         self.server.is_same(&other.server)
     }
 
-    /// Returns the same configuration, with a server that is kept as itself.
+    /// Returns the same configuration, with a server that is kept as itself, without requests to be carried out.
     ///
     /// May return `NoMemory`.
     pub fn whole(self) -> Result<Configuration, NoMemory>
@@ -124,8 +124,8 @@ impl Configuration {
         })
     }
 
-    /// Returns how far the session is: `None` only if `clients` has no place of its number. From `opening` on it has
-    /// one for each session.
+    /// Returns how far the session is: `None` only if `clients` has no place of its number. From `opening` on,
+    /// `clients` has one for each session.
     ///
     /// The clause `session` tells callers that the number of any session is from 1 to 16.
     pub fn client(&self, session: SessionNo) -> Option<&ClientState>
@@ -135,7 +135,8 @@ impl Configuration {
         self.clients.get(session.get() as usize)
     }
 
-    /// Returns the configuration after this move, in which the session is in this state. Its server is left as it is.
+    /// Returns the configuration after the move `by`, with the session in the state `client`. The server is left as it
+    /// is: a caller whose move changes it does that first.
     ///
     /// May return `NoMemory`.
     pub fn moved(

@@ -33,7 +33,7 @@ impl Clone for DoneBlock {
 }
 
 impl DoneBlock {
-    /// Returns requests with one owner.
+    /// Returns a block of these requests, with one owner.
     ///
     /// May return `NoMemory`.
     pub fn of(alloc: Global, requests: Vec<Done>) -> Result<DoneBlock, NoMemory>

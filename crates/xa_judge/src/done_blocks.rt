@@ -30,7 +30,7 @@ fn is_same_work(left: &[Done], right: &[Done]) -> bool
     }
 }
 
-/// The block that is known to have these requests; None if there is none.
+/// One more owner of the kept block that is known to have these requests; None if there is none.
 fn block_of(kept: &[DoneBlock], requests: &[Done]) -> Result<Option<DoneBlock>, NoMemory>
     ensures { IfOk result (λ found. IfSome found (λ block. block ≡ requests.now)) }
 {
@@ -51,11 +51,11 @@ impl DoneBlocks {
         }
     }
 
-    /// A new block, which can be shared from now on.
+    /// A new block with these requests, which is kept, so that it can be shared from now on.
     fn add(&mut self, requests: Vec<Done>) -> Result<DoneBlock, NoMemory>
         ensures { IfOk result (λ block. block ≡ requests.items) }
     {
-        // All are forgotten together: those that are still shared live on in their servers.
+        // There is no room, so all kept blocks are forgotten. Those that servers share live on in the servers.
         if self.kept.len() >= MOST {
             self.kept.clear();
         }

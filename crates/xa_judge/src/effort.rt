@@ -13,7 +13,8 @@ const LOOKS_EACH: u64 = 3_000;
 /// What looking up a configuration takes besides: as much as looking at this many records does.
 const LOOKUP: u64 = 8;
 
-/// Of a configuration no more records than these are counted: large tables mustn't use up what may be done.
+/// Of a configuration no more records than these are counted: large tables mustn't use up what may be done. So
+/// configurations may be looked up 500,000 times at least: `LOOKS` divided by the sum of `LOOKUP` and this number.
 const COUNTED: u64 = 36;
 
 /// How many configurations may be kept at a time, and how many more may be looked up. A configuration with more records
@@ -26,14 +27,15 @@ pub struct Effort {
     left: u64,
 }
 
-/// How much was looked at since lookups were counted anew.
+/// How many records were looked at since the index began to count lookups: for each lookup as many as a server has now,
+/// but at most `COUNTED`, and `LOOKUP` more.
 fn looked_at(index: &FingerprintIndex) -> u64 {
     let each = LOOKUP + COUNTED.min(index.records() as u64);
     each.saturating_mul(index.lookups())
 }
 
 impl Effort {
-    /// Returns what may be done for a record of so many events, of which no more than `limit` configurations are kept.
+    /// Returns what may be done for a record of `events` events, if at most `limit` configurations are kept at a time.
     pub fn new(limit: usize, events: usize) -> Effort {
         Effort {
             limit,
@@ -41,12 +43,14 @@ impl Effort {
         }
     }
 
-    /// Tells whether more may be done where so many configurations are kept, each with a server of its own.
+    /// Tells whether more may be done while `kept` configurations are kept, each with a server of its own: these are no
+    /// more than the limit, what was looked at since `spend` is no more than is left, and memory holds them.
     pub fn allows(&self, kept: usize, index: &FingerprintIndex) -> bool {
         kept <= self.limit && looked_at(index) <= self.left && holds(kept, index.records())
     }
 
-    /// Takes what was looked up in the index off what may still be done, and has the index count from nought.
+    /// Counts what lookups in the index looked at as done, so that less is left, and has the index count lookups from
+    /// nought.
     pub fn spend(&mut self, index: &mut FingerprintIndex) {
         self.left = self.left.saturating_sub(looked_at(index));
         index.forget_lookups();

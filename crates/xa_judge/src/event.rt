@@ -41,7 +41,7 @@ pub enum Event {
 }
 
 impl Seen {
-    /// Whether this is what a return shows if the server replies so.
+    /// Whether this is what a return shows if `reply` is the server's answer to the call.
     fn shows_reply(&self, reply: &Reply) -> bool
         ensures { result ≡ shows_answer self.now (Answer.Reply reply.now) }
     {

@@ -14,19 +14,20 @@ use std::alloc::Global;
 use std::collections::{BTreeMap, BTreeSet};
 use xa_xid::{Key, NoMemory, Statement};
 
-/// The greatest number of written rows that are listed: every fingerprint reads all of them.
+/// The greatest number of written rows that are listed: every fingerprint reads all of them, so more would take too
+/// long.
 const MOST_WRITTEN: usize = 65_536;
 
 /// At which places of a list the configurations of each fingerprint are, as a chain of places for each
 /// fingerprint.
 ///
-/// Every configuration at such a place is compared before it counts as the same. So a poor fingerprint costs
-/// time, and changes no verdict.
+/// Every configuration at such a place is compared before it counts as the same. So a poor fingerprint costs time,
+/// and makes no verdict wrong.
 #[derive(Drop)]
 pub struct FingerprintIndex {
     /// The last place of each fingerprint.
     last: BTreeMap<u64, usize>,
-    /// For each place the one before it that has its fingerprint, if there is one.
+    /// For each place the last one before it that has the same fingerprint, if there is one.
     before: Vec<Option<usize>>,
     /// The fingerprint of the configuration that was looked up last; None again after `note` or `clear`.
     sought: Option<u64>,
@@ -40,14 +41,14 @@ pub struct FingerprintIndex {
     forgotten: u64,
     /// How often a configuration was looked up.
     lookups: u64,
-    /// What servers have in addition to rows.
+    /// An estimate of the records of branches that servers have in addition to rows.
     branches: BranchRecords,
     /// The lists that configurations share which have seen the same events.
     pub lists: SharedLists,
     alloc: Global,
 }
 
-/// The row that the event calls to write, if it does.
+/// The row that the event calls to write by `PUT` or `DEL`; None if it is no such call.
 fn key_written(event: &Event) -> Option<&Key> {
     match event {
         Event::Call(_, request) => match request.request() {
@@ -76,14 +77,15 @@ impl FingerprintIndex {
         }
     }
 
-    /// Forgets all places, so that it can serve another list.
+    /// Forgets all places, so that the index can serve another list.
     pub fn clear(&mut self) {
         self.last.clear();
         self.before.clear();
         self.sought = None;
     }
 
-    /// Forgets all places, so that it can serve a list of configurations that have also seen this event.
+    /// Forgets all places, so that the index can serve a list of configurations that have also seen this event. Takes
+    /// note of what the event calls to write, and of what it does to branches.
     ///
     /// May return `NoMemory`.
     pub fn go_on(&mut self, event: &Event) -> Result<(), NoMemory> {
@@ -95,8 +97,8 @@ impl FingerprintIndex {
         self.branches.see(event)
     }
 
-    /// Takes note that an event calls to write this row. Once more rows are counted than any server has room for, no
-    /// new one is counted.
+    /// Takes note that an event calls to write this row: counts it in `rows`, once, and lists it in `written`, if it
+    /// isn't known to be there. Once more rows are counted than any server has room for, no new one is counted.
     fn see_written(&mut self, key: &Key) -> Result<(), NoMemory> {
         let fingerprint = mark_of_key(key);
         let is_full = self.rows.len() > MOST_RECORDS && !self.rows.contains_key(&fingerprint);
@@ -111,8 +113,8 @@ impl FingerprintIndex {
         Ok(())
     }
 
-    /// Forgets the written rows if only one configuration is left of the list, which has `count`, and by the events
-    /// no call is open and no branch exists. From there on all configurations begin with the values of that one.
+    /// Forgets the written rows if the list has one configuration (`count` is how many it has), and by the events no
+    /// call is open and no branch exists. From there on all configurations begin with the values of that one.
     pub fn settle(&mut self, count: usize) {
         if count == 1 && self.branches.is_still() {
             self.written.clear();
@@ -154,7 +156,7 @@ impl FingerprintIndex {
         Ok(limit < count)
     }
 
-    /// Takes up the places of the list that it doesn't have yet.
+    /// Takes up the places of the list `known` that the index doesn't have yet.
     ///
     /// May return `NoMemory`.
     pub fn catch_up(&mut self, known: &[Configuration]) -> Result<(), NoMemory> {
@@ -165,7 +167,7 @@ impl FingerprintIndex {
         Ok(())
     }
 
-    /// Takes up the next place, which has this fingerprint.
+    /// Takes up the next place, whose configuration has this fingerprint.
     fn push(&mut self, fingerprint: u64) -> Result<(), NoMemory> {
         let before = self.last.insert(fingerprint, self.before.len())?;
         self.before.push(before)?;
@@ -190,7 +192,8 @@ impl FingerprintIndex {
         }
     }
 
-    /// Returns the last place that has the fingerprint of this configuration, if one has.
+    /// Returns the last place that has the fingerprint of the configuration `one`; None if no place has. The
+    /// configuration counts as looked up.
     ///
     /// May return `NoMemory`.
     pub fn last_of(&mut self, one: &Configuration) -> Result<Option<usize>, NoMemory> {
@@ -211,7 +214,7 @@ impl FingerprintIndex {
         self.lookups = 0;
     }
 
-    /// Returns the place before this one that has the same fingerprint, if one has.
+    /// Returns the last place before this one that has the same fingerprint; None if none has.
     pub fn before(&self, place: usize) -> Option<usize> {
         self.before.get(place).copied().flatten()
     }

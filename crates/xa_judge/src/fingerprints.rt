@@ -1,4 +1,4 @@
-//! Fingerprints: 64-bit numbers by which configurations are told apart.
+//! Fingerprints: 64-bit numbers by which configurations, keys and identifiers are told apart.
 ghost use Rattle.std.specs.Prelude.{◌≡◌, fold, map, IfOk};
 ghost use Rattle.xa_judge.specs.Marks.{with_word, with_text, with_xid, with_value, with_xids, with_state, with_error};
 ghost use Rattle.xa_judge.specs.Marks.{with_answer, with_client};
@@ -41,7 +41,8 @@ impl Fingerprint {
     fn with(self, word: u64) -> Fingerprint
         ensures { result.number ≡ with_word self.number word }
     {
-        // With the 1, the word 0 changes the number 0 too. The shift has the low bits depend on the high ones.
+        // With the 1, the word 0 changes the number 0 too. The shift, by nearly half of the 64 bits, has the low bits
+        // depend on the high ones.
         let product = (self.number ^ word)
             .wrapping_add(1)
             .wrapping_mul(MULTIPLIER);
@@ -114,7 +115,7 @@ impl Fingerprint {
         }
     }
 
-    /// Adds a refusal.
+    /// Adds a refusal: its number, and of `Rmfail`, the only one that has more, the branch's state too.
     fn with_error(self, error: &XaError) -> Fingerprint
         ensures { result.number ≡ with_error self.number error.now }
     {
@@ -128,7 +129,7 @@ impl Fingerprint {
         }
     }
 
-    /// Adds an answer.
+    /// Adds an answer: a word for its kind, and then what it has.
     fn with_answer(self, answer: &Answer) -> Fingerprint
         ensures { result.number ≡ with_answer self.number answer.now }
     {
@@ -141,18 +142,19 @@ impl Fingerprint {
         }
     }
 
-    /// Adds an answer as it is kept.
+    /// Adds an answer as it is kept: what `with_answer` adds for the same answer, however it is kept.
     fn with_kept(self, answer: &KeptAnswer) -> Fingerprint
         ensures { result.number ≡ with_answer self.number (answer_kept answer.now) }
     {
         match answer {
             KeptAnswer::Whole(answer) => self.with_answer(answer),
+            // 3 is the word for a list in `with_answer`.
             KeptAnswer::Listed(xids) => self.with(3).with_listed(xids.as_slice()),
         }
     }
 
-    /// Adds how far a session is. What it has called for is left out: it is the same in all configurations of
-    /// a list.
+    /// Adds how far a session is. The request of an open call is left out: all configurations of a list have seen the
+    /// same call.
     fn with_client(self, client: &ClientState) -> Fingerprint
         ensures { result.number ≡ with_client self.number client.now }
     {
@@ -199,7 +201,7 @@ impl Fingerprint {
         }
     }
 
-    /// Adds a hold on a row.
+    /// Adds a hold on a row: a word for its kind, and the value that the branch puts, if it does.
     fn with_hold(self, hold: &Hold) -> Fingerprint
         ensures { result.number ≡ with_hold self.number hold.now }
     {
@@ -210,7 +212,7 @@ impl Fingerprint {
         }
     }
 
-    /// Adds rows that a branch holds.
+    /// Adds rows that a branch holds: how many they are, and of each its key and how it is held.
     fn with_rows(self, rows: &[HeldRow]) -> Fingerprint
         ensures { result.number ≡ with_rows self.number rows.now }
     {
@@ -285,7 +287,7 @@ pub fn mark_of_key(key: &Key) -> u64
     Fingerprint::new().with_text(key.as_slice()).number
 }
 
-/// Returns a number after one more word.
+/// Returns the number with one more word mixed in.
 pub fn mixed(number: u64, word: u64) -> u64 {
     Fingerprint { number }.with(word).number
 }

@@ -34,8 +34,8 @@ impl Following {
         })
     }
 
-    /// Returns how far the moves have led once the next event is seen; None if there is none, or it can't be seen
-    /// here.
+    /// Returns how far the moves have led once the next of `events` is seen; None if there is no more event, or if
+    /// the next one can't be seen here.
     ///
     /// May return `NoMemory`.
     pub fn after_event(self, events: &[Event]) -> Result<Option<Following>, NoMemory>
@@ -72,7 +72,7 @@ impl Following {
         }
     }
 
-    /// How far the moves have led after one more; None if it can't come about.
+    /// How far the moves have led after one more, `by`; None if that can't come about.
     fn after(self, events: &[Event], by: Move) -> Result<Option<Following>, NoMemory>
         ensures { IfOk result
             (λ found. (later : List Move) (end : Config) → LeadsOn events.now (Some self) (by ∷ later) end
@@ -106,6 +106,7 @@ pub fn followed(
             Some(next) => next,
         };
     }
+    // The moves may end before all events are seen.
     if here.seen < events.len() {
         return Ok(None);
     }

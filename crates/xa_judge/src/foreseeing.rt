@@ -1,4 +1,8 @@
 //! Configurations that are kept where later returns are known.
+//!
+//! In these functions `known` is the list of configurations, and `place` one of its places. `events` are all events of
+//! the record, and `places` has what is known of the open call of each session, at the session's number: where it
+//! returns, or that it isn't heard of any more.
 ghost use Rattle.std.specs.Prelude.{◌≡◌, ◌<◌, true, false, None, Some, slice_get, vec_len, length};
 ghost use Rattle.std.specs.Prelude.{IfOk, OnOk};
 ghost use Rattle.xa_judge.specs.declared.configuration.Configuration.{Configuration as Found};
@@ -23,8 +27,9 @@ use crate::shared_lists::SharedLists;
 use std::alloc::Global;
 use xa_xid::{NoMemory, SessionNo};
 
-/// The configuration after the call of the session of this number has taken effect, if it can at once: it is known what
-/// it returns, it is answered that now, and it changes nothing (`settled_one`). Else the same one.
+/// The configuration `one` after the open call of the session of this number has taken effect, if the call can do so at
+/// once: what it returns is known, it would now be answered that, and it changes nothing (`settled_one`). Else `one`
+/// itself, also if no session has this number.
 fn settled_at(
     one: Configuration,
     events: &[Event],
@@ -47,7 +52,7 @@ fn settled_at(
     }
 }
 
-/// The configuration after all calls have taken effect that can at once (`settled_at`).
+/// The configuration `one` after all calls that can take effect at once have done so (`settled_at`).
 fn settled(
     one: Configuration,
     events: &[Event],
@@ -58,7 +63,8 @@ fn settled(
         (λ new. ReplacesFor (hints_of events.now places.now) (config_of one) (config_of new)) }
 {
     let mut here = one;
-    // The numbers of sessions are those from 1 to 16.
+    // The numbers of sessions are those from 1 to 16. Their order doesn't matter, since none of these calls changes the
+    // state.
     for number in 1..17 {
         here = settled_at(here, events, places, number, lists)?;
     }
@@ -78,8 +84,9 @@ fn fits_now(
     Ok(seen.shows(&answer))
 }
 
-/// Whether acts of the session have to be tried. False only if its open call would be answered otherwise than it is
-/// known to return, or if the call isn't heard of any more and is known to change nothing now.
+/// Whether acts of the session have to be tried in the configuration `one`. False only if the session's open call would
+/// now be answered otherwise than it is known to return, or if no event shows its answer any more and the call is known
+/// to change nothing now.
 fn is_allowed(
     one: &Configuration,
     events: &[Event],
@@ -98,6 +105,7 @@ fn is_allowed(
         Some(ClientState::Called(request)) => match hint_at(events, places, session) {
             Some(seen) => fits_now(one, session, request.request(), seen),
             None => {
+                // Nothing is known of how the call ends, so any answer may be the right one.
                 if !is_never_heard(events, places, session) {
                     return Ok(true);
                 }
@@ -111,8 +119,9 @@ fn is_allowed(
     }
 }
 
-/// Adds what the session's act leads to from the configuration at this place, if it can take effect. Calls that can
-/// take effect at once do so after it (`settled`). Nothing is added if one of the list is then known to be the same.
+/// Adds the configuration to which the session's act leads from the one at this place, if the act can take effect.
+/// Calls that can take effect at once do so after the act (`settled`). Nothing is added if one of the list is known to
+/// be the same as the configuration after that.
 fn add_effect(
     known: &mut Vec<Configuration>,
     index: &mut FingerprintIndex,
@@ -141,7 +150,8 @@ fn add_effect(
     }
 }
 
-/// Adds what acts of the session lead to from the configuration at this place, if `is_allowed` holds of them.
+/// Adds what acts of the session lead to from the configuration at this place, if `is_allowed` says that they have to
+/// be tried there.
 fn add_allowed(
     known: &mut Vec<Configuration>,
     index: &mut FingerprintIndex,
@@ -172,7 +182,7 @@ fn add_allowed(
     Ok(())
 }
 
-/// Adds what allowed acts lead to from the configuration at this place.
+/// Adds what allowed acts (`is_allowed`) of all sessions lead to from the configuration at this place.
 fn add_all(
     known: &mut Vec<Configuration>,
     index: &mut FingerprintIndex,
@@ -192,8 +202,8 @@ fn add_all(
     Ok(())
 }
 
-/// Adds what allowed acts lead to from the configuration at this place, unless the session `returning` is answered
-/// there.
+/// Adds what allowed acts of all sessions lead to from the configuration at this place, unless the session `returning`
+/// is answered there. With `returning` None it adds them in any case.
 fn expand(
     known: &mut Vec<Configuration>,
     index: &mut FingerprintIndex,
@@ -208,6 +218,7 @@ fn expand(
         → is_over returning.now (config_of one) ≡ false
         → IsExpandedFor (hints_of events.now places.now) 17 (config_of one) known.new.items) }
 {
+    // Acts after that answer can as well come after the return.
     if known[place].is_over(returning) {
         return Ok(());
     }
@@ -215,7 +226,8 @@ fn expand(
     Ok(())
 }
 
-/// Adds what allowed acts of the session of this number lead to from the configuration at this place.
+/// Adds what allowed acts of the session of this number lead to from the configuration at this place; nothing if no
+/// session has this number.
 fn add_number(
     known: &mut Vec<Configuration>,
     index: &mut FingerprintIndex,
@@ -238,9 +250,10 @@ fn add_number(
     }
 }
 
-/// Adds all configurations to which acts lead that are allowed by `places`, what is known of open calls (`is_allowed`),
-/// and none after the session `returning`, if there is one, was answered. Returns true; or false, before all are added,
-/// if that is more than `effort` allows.
+/// Adds to `known` all configurations to which allowed acts (`is_allowed`) lead from those in it, each after the calls
+/// that can take effect at once. Where the session `returning` is answered, no act is tried; if `returning` is None,
+/// acts are tried everywhere. Returns true; or false, with perhaps not all of them added, if `effort` doesn't allow
+/// more.
 ///
 /// May return `NoMemory`.
 pub fn close(
@@ -255,6 +268,7 @@ pub fn close(
     ensures closed { IfOk result (λ done. done ≡ true
         → AreClosedFor (hints_of events.now places.now) returning.now (length known.new.items) known.new.items) }
 {
+    // The index begins anew: what a fingerprint reads may have changed since places were taken up (`settle`).
     index.clear();
     let mut place = 0;
     // `expand` adds at the end, so what it adds is expanded later too.
@@ -268,8 +282,9 @@ pub fn close(
     Ok(true)
 }
 
-/// Adds the configuration to which the event leads from this one, if it can be seen there. Calls that can take effect
-/// at once do so after it (`settled`). Nothing is added if one of the list is then known to be the same.
+/// Adds to `list` the configuration to which the event leads from `one`, if the event can be seen there. Calls that can
+/// take effect at once do so after the event (`settled`). Nothing is added if one of the list is known to be the same
+/// as the configuration after that.
 fn add_seen(
     list: &mut Vec<Configuration>,
     index: &mut FingerprintIndex,
@@ -292,8 +307,9 @@ fn add_seen(
     }
 }
 
-/// Returns the configurations after the event, from those in which it can be seen; of those that are known to be the
-/// same one is kept. `places` has what is known of open calls after it. They are taken from the last one on.
+/// Returns the configurations to which the event leads from those of `known` in which it can be seen, in reverse order,
+/// each after the calls that can take effect at once. Of those that are known to be the same only one is kept. `places`
+/// has what is known of open calls after the event.
 ///
 /// May return `NoMemory`.
 pub fn see_all(

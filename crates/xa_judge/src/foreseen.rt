@@ -33,9 +33,11 @@ use std::alloc::Global;
 use xa_server::Server;
 use xa_xid::{NoMemory, SessionNo};
 
-/// Goes on from what is kept before the event at the place `from` to before the one at the place `until`, and returns
-/// what is kept there, or after which event nothing is left, or that it gave up. Of the call at the place `asked` it
-/// isn't known what it returns. No more is done than `effort` allows, from which what is done is taken off.
+/// Goes on from `front`, what is kept before the event at the place `from`, through the events before the place
+/// `until`. Returns what is kept then, or after which event nothing is left, or that it gave up (`Swept`). What the
+/// call at the place `asked` returns is taken as unknown; if there is no such call, `asked` is a place after all
+/// events. Gives up if `effort` allows no more, if a session calls whose client is gone with an open call, or if an
+/// event doesn't fit what was known of its call. What is done is taken off `effort`.
 ///
 /// May return `NoMemory`.
 pub fn sweep_on(
@@ -61,7 +63,8 @@ pub fn sweep_on(
     } = front;
     for place in from..until {
         let event = &events[place];
-        // What was known had orders left out. So from an event that doesn't fit it nothing follows.
+        // Orders that don't fit what was known were left out. So if the event itself doesn't fit that, nothing follows
+        // from what is kept.
         if !fits(events, places.as_slice(), place, event) {
             return Ok(Swept::Unknown);
         }
@@ -77,12 +80,14 @@ pub fn sweep_on(
         effort.spend(&mut index);
         if known.is_empty() {
             let count = events.len();
-            // A call may be open on both sides of the event, or end or begin with it: all their returns count.
+            // The returns of the calls that are open before the event, and of those that are open after it: each may
+            // have refuted what was kept.
             let last = last_place(before, place, count).max(last_place(after, place, count));
             return Ok(Swept::Nothing(place, last));
         }
         places = later;
-        // Only after `stepped`, which takes no step of a call that is noted so: this call may be one.
+        // Only after `stepped`: it takes no step of a call that is noted as never heard of, and the call at this place
+        // may be a step.
         note_unheard(events, &mut places, place, event, asked);
         share(alloc, place, &mut trunk, &mut known)?;
     }
@@ -102,7 +107,7 @@ pub fn opened(alloc: Global, base: &Server) -> Result<Frontier, NoMemory>
         → LeadsThrough (opening_config base.now) events moves end
         → GoesOnLike (hints_of events front.places.items) (Has front.known.items) events end) }
 {
-    // A law, which does nothing: what is kept stands for states that keep it.
+    // This does nothing at run time. The proof needs it: what is kept stands only for states with the lock law.
     base.keeps_lock_law();
     Ok(Frontier {
         known: opening(alloc, base)?,
@@ -112,7 +117,7 @@ pub fn opened(alloc: Global, base: &Server) -> Result<Frontier, NoMemory>
     })
 }
 
-/// Goes through all events, as `sweep_on` does.
+/// Goes through all events, from the opening on, as `sweep_on` does; `asked` has the same role.
 fn sweep(
     alloc: Global,
     base: &Server,
@@ -129,9 +134,9 @@ fn sweep(
     Ok(swept)
 }
 
-/// What is kept after the events, with all configurations to which allowed acts lead before the session is answered.
-/// None if that is more than `effort` allows, or if it is known what an open call returns, or how the session's call
-/// ends.
+/// `front`, what is kept after the events, with what allowed acts lead to from there before the session is answered: so
+/// each answer that the session can have is among the configurations. None if finding them takes more than `effort`
+/// allows, if it is known what some open call returns, or if it is known how the session's call ends.
 fn closed_front(
     front: Frontier,
     events: &[Event],
@@ -165,8 +170,9 @@ fn closed_front(
     }))
 }
 
-/// What is kept of all configurations in which the session can have an answer after the events. What its last call
-/// returns isn't known here. None if that isn't found, or nothing is left.
+/// Configurations after the events that have every answer which the session can have then. What the session's last
+/// call returns is taken as unknown. None if going through the events was given up, if nothing is left, or if
+/// `closed_front` has none.
 fn front_after(
     alloc: Global,
     base: &Server,
@@ -200,7 +206,7 @@ fn is_among(answers: &[SharedAnswer], answer: &SharedAnswer) -> bool
     false
 }
 
-/// Adds the answer, unless it is there.
+/// Adds the answer, unless one of `answers` is known to be the same.
 fn add_answer(answers: &mut Vec<SharedAnswer>, answer: &SharedAnswer) -> Result<(), NoMemory>
     ensures keeps { OnOk result ((other : AnswerSeen) → Contains answers.old.items other
         → Contains answers.new.items other) }
@@ -213,7 +219,7 @@ fn add_answer(answers: &mut Vec<SharedAnswer>, answer: &SharedAnswer) -> Result<
     Ok(())
 }
 
-/// The answers, each once.
+/// The answers, without those that are known to be the same as an earlier one.
 fn distinct(alloc: Global, answers: &[SharedAnswer]) -> Result<Vec<SharedAnswer>, NoMemory>
     ensures { IfOk result (λ once. (answer : AnswerSeen) → Contains answers.now answer
         → Contains once.items answer) }
@@ -225,9 +231,10 @@ fn distinct(alloc: Global, answers: &[SharedAnswer]) -> Result<Vec<SharedAnswer>
     Ok(once)
 }
 
-/// The verdict ILLEGAL at this place, at which a return shows `seen` to the session, if it shows none of the answers
-/// that can be given there. None if it shows one, if not all of them are found, or if one isn't proved to be given.
-/// What is done is bounded by `effort`; only the contract names `limit`.
+/// The verdict ILLEGAL at this place, at which a return shows `seen` to the session, if that is none of the answers
+/// which can be given there. None if it is one of them, if there are none, if not all of them are found, or if for one
+/// no order that gives it is found (`refuted`). Looking for the answers is bounded by `effort`; only the contract names
+/// `limit`.
 fn illegal_at(
     alloc: Global,
     base: &Server,
@@ -256,7 +263,8 @@ fn illegal_at(
     }
 }
 
-/// The verdict ILLEGAL at the event at this place; None if it is no return, or isn't found to be refuted.
+/// The verdict ILLEGAL at the event at this place; None if there is no event, if it is no return, or if it isn't found
+/// to be refuted.
 fn illegal_on(
     alloc: Global,
     base: &Server,
@@ -296,7 +304,7 @@ fn legal_by(
 {
     // Only the contract names the limit: LEGAL doesn't depend on it.
     let _limit = limit;
-    // Never so after `sweep_on`. `path_of` requires one.
+    // Never empty after `sweep_on`, but no clause says so, and `path_of` requires a configuration.
     if front.known.is_empty() {
         return Ok(None);
     }
@@ -308,7 +316,7 @@ fn legal_by(
     }
 }
 
-/// The verdict ILLEGAL at one of the events from `least` to `most`; None if that isn't found.
+/// The verdict ILLEGAL at one of the places from `least` to `most`, both included; None if that isn't found.
 fn illegal_within(
     alloc: Global,
     base: &Server,
@@ -319,8 +327,8 @@ fn illegal_within(
 ) -> Result<Option<Verdict>, NoMemory>
     ensures { IfOk result (λ found. IfSome found (IsVerdict base.now events.now limit)) }
 {
-    // The first pass through the events came to its end. All passes that look for the place may together do as much as
-    // it might, and so may the pass that finds the answers there.
+    // The sweep that found the two places was allowed an `Effort` of its own. All sweeps that look for the refuted
+    // place are together allowed as much again, and so is the sweep that finds the answers there.
     let mut effort = Effort::new(limit, events.len());
     match first_refuted(alloc, base, events, least, most, &mut effort)? {
         None => Ok(None),
@@ -331,8 +339,9 @@ fn illegal_within(
     }
 }
 
-/// Returns the verdict on the events, if it is found with no more than `limit` configurations at a time, which are kept
-/// where later returns are known, and with no more work and memory than `Effort` allows; else None.
+/// Returns the verdict on the events, if it is found by sweeps (`sweep_on`) that each keep at most `limit`
+/// configurations, where later returns are known; else None. All sweeps together may do three times what one `Effort`
+/// allows (`illegal_within`).
 ///
 /// May return `NoMemory`.
 pub fn judge_ahead(
@@ -346,10 +355,12 @@ pub fn judge_ahead(
     ensures { IfOk result (λ found. IfSome found (IsVerdict base.now events.now limit)) }
 {
     let mut effort = Effort::new(limit, events.len());
-    // There is no call at this place, so what is known of every call counts.
+    // The place `asked` is after all events: no call is there, so no call's return is taken as unknown.
     match sweep(alloc, base, events, events.len(), &mut effort)? {
         Swept::Unknown => Ok(None),
         Swept::Kept(front) => legal_by(alloc, base, events, front, limit),
+        // Something was left before the event at `place`, and returns up to the place `last` refute it: the refuted
+        // event is at a place from `place` to `last`.
         Swept::Nothing(place, last) => illegal_within(alloc, base, events, place, last, limit),
     }
 }

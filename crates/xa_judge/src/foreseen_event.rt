@@ -1,4 +1,7 @@
 //! What one more event does to the configurations that are kept where later returns are known.
+//!
+//! In these functions `event` is the next one of `events`. `places` has what is known of open calls before it, and
+//! `later` what is known of them after it.
 ghost use Rattle.std.specs.Prelude.{◌≡◌, slice_set, IfOk, IfSome};
 ghost use Rattle.xa_judge.specs.Foreseen.{hint_in, hints_of, NotesCall, returning_in, FitsHints, IsAdvanceFor};
 ghost use Rattle.xa_judge.specs.Foreseen.{NeedsNone};
@@ -27,9 +30,9 @@ fn returning_of(event: &Event) -> Option<SessionNo>
     }
 }
 
-/// The configurations after an event before which acts may have to take effect: all acts that what is known of open
-/// calls allows are tried first. `places` has what is known of these before the event, `later` after it. None if that
-/// is more than `effort` allows.
+/// The configurations after an event before which acts may have to take effect: a return, or an answer that stays
+/// unknown. All acts that what is known of open calls allows are tried first (`close`). None if that takes more than
+/// `effort` allows.
 fn see_closed(
     alloc: Global,
     mut known: Vec<Configuration>,
@@ -55,8 +58,7 @@ fn see_closed(
     Ok(Some(list))
 }
 
-/// The configurations after an event that no act has to precede; never None. `later` has what is known of open calls
-/// after it.
+/// The configurations after an event that no act has to precede. Never None: it is an `Option` as in `see_closed`.
 fn see_open(
     alloc: Global,
     known: Vec<Configuration>,
@@ -79,8 +81,8 @@ fn see_open(
     Ok(Some(list))
 }
 
-/// The configurations after a call; None if in one of them the session's client is gone with an open call, so acts
-/// would have to come before this one.
+/// The configurations after `event`, a call of the session. None if in one of `known` the session's client is gone with
+/// an open call that may still take effect: acts would have to come before the new call, and that isn't tried here.
 fn see_call(
     alloc: Global,
     known: Vec<Configuration>,
@@ -105,8 +107,8 @@ fn see_call(
 }
 
 /// Returns the configurations after `event`, one of `events`; `places` has what is known of open calls before it,
-/// `later` after it. Or None, if that is more than `effort` allows, or if a session calls whose client is gone with an
-/// open call.
+/// `later` after it. Or None, if to find them takes more than `effort` allows, or if a session calls whose client is
+/// gone with an open call.
 ///
 /// May return `NoMemory`.
 pub fn see_one(
@@ -132,7 +134,9 @@ pub fn see_one(
         Event::Return(_, _) => see_closed(
             alloc, known, index, event, events, places, later, effort,
         ),
+        // What the session has called for may take effect after it too.
         Event::Lost(_) => see_open(alloc, known, index, event, events, places, later),
+        // What the session has called for took effect before it or never will.
         Event::Unknown(_) => see_closed(alloc, known, index, event, events, places, later, effort),
     }
 }

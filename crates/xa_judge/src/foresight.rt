@@ -10,7 +10,7 @@ use crate::request::Request;
 use std::alloc::Global;
 use xa_xid::{NoMemory, SessionNo};
 
-/// One place for each session's number, and place 0, which no session has.
+/// One place for each session's number, from 1 to 16, and place 0, which no session has.
 const SESSIONS: usize = 17;
 
 /// How an effect fits what its call returns.
@@ -18,7 +18,7 @@ const SESSIONS: usize = 17;
 pub enum Fit {
     /// It can't come about, or its answer isn't what the call returns.
     Not,
-    /// It fits, and changes only how far its session is, now and at any time before the call returns.
+    /// It fits, and changes only how far its session is: now, and at any later time at which it fits.
     Quiet,
     /// It fits, and may change the server.
     Loud,
@@ -49,7 +49,7 @@ fn answer_ahead<'a>(events: &'a [Event], from: usize, session: SessionNo) -> Opt
     None
 }
 
-/// Whether the request is known to change nothing; false also if the server would have to be made to tell that.
+/// Whether the request is known to change nothing; false also if the server isn't kept as itself: making it takes long.
 fn is_quiet(server: &KeptServer, session: SessionNo, request: &Request) -> Result<bool, NoMemory> {
     match request {
         Request::Unread => Ok(true),
@@ -64,7 +64,7 @@ fn is_quiet(server: &KeptServer, session: SessionNo, request: &Request) -> Resul
     }
 }
 
-/// How it fits if the session's request takes effect now, and its call returns `seen`.
+/// How the effect of the session's request fits now, if the call returns `seen`.
 fn request_fit(
     server: &KeptServer,
     session: SessionNo,
@@ -104,7 +104,8 @@ impl<'a> Foresight<'a> {
         }
     }
 
-    /// Returns how the effect fits. An effect whose answer isn't known fits if it can come about.
+    /// Returns how the effect fits in the configuration `one`. If it isn't known what the call returns, the effect fits
+    /// if it can come about.
     ///
     /// May return `NoMemory`.
     pub fn fit(&self, one: &Configuration, effect: &Effect) -> Result<Fit, NoMemory> {
@@ -112,17 +113,18 @@ impl<'a> Foresight<'a> {
             return Ok(Fit::Not);
         }
         let Some(ClientState::Called(request)) = one.client(effect.session) else {
-            // Nobody hears what a lost client's act is answered, so nothing can refute it.
+            // Nobody hears what a lost client's act is answered, so nothing can refute it. It may change the server.
             return Ok(Fit::Loud);
         };
         match self.returns.get(effect.session.get() as usize) {
             Some(Some(seen)) => request_fit(&one.server, effect.session, request.request(), seen),
-            // It isn't known what the call returns.
+            // It isn't known what the call returns, so any answer fits. Whether the server changes isn't looked up.
             _ => Ok(Fit::Loud),
         }
     }
 
-    /// Returns how many calls are stuck: each could take effect, but its answer would not be what it returns.
+    /// Returns how many calls are stuck in the configuration `one`: each could take effect now, but its answer wouldn't
+    /// be what the call returns.
     ///
     /// May return `NoMemory`.
     pub fn stuck_count(&self, one: &Configuration) -> Result<usize, NoMemory> {

@@ -1,4 +1,5 @@
-//! Finds the rows that only sessions without a branch call for.
+//! Finds the free rows: those that only sessions without a branch call for, and of which no lost client leaves a call
+//! open.
 
 use crate::event::Event;
 use crate::hints::{last_call, session_of};
@@ -20,8 +21,9 @@ fn key_before(events: &[Event], place: usize, session: SessionNo) -> Option<&Key
     }
 }
 
-/// The row whose call a lost client leaves open, if the event at this place is such a loss; `turn` is its session's
-/// before it. The call may take effect at any time from then on. None if there is none, or the row isn't free anyway.
+/// The row for which a lost client leaves a call open, if the event at this place is the loss of that client. `turn` is
+/// its session's before the event. Such a call may take effect at any time later, so the row isn't free. None if there
+/// is no such row, or if it isn't free for another reason.
 fn key_left(events: &[Event], place: usize, turn: Turn) -> Option<&Key> {
     match events.get(place) {
         Some(Event::Lost(session)) => {
@@ -42,7 +44,7 @@ fn key_left(events: &[Event], place: usize, turn: Turn) -> Option<&Key> {
 /// May return `NoMemory`.
 pub fn free_keys(alloc: Global, events: &[Event]) -> Result<Vec<Key>, NoMemory> {
     let mut turns = nobody(alloc)?;
-    // The rows that are called for, and those of them that aren't free.
+    // `called` has the rows that are called for, and `bound` those of them that aren't free.
     let mut called = BTreeSet::new(alloc);
     let mut bound = BTreeSet::new(alloc);
     for place in 0..events.len() {

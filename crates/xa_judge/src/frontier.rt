@@ -10,10 +10,10 @@ use crate::open_call::OpenCall;
 pub struct Frontier {
     /// The configurations.
     pub known: Vec<Configuration>,
-    /// The first moves to each of them, from the opening on.
+    /// The moves that all of them begin with, from the opening on. Each one's path goes on from there.
     pub trunk: Vec<Move>,
-    /// Where the open calls return, as far as that is known.
+    /// Where the open call of each session returns, as far as that is known, at the session's number.
     pub places: Vec<OpenCall>,
-    /// At which places the configurations are.
+    /// At which places of `known` the configurations are.
     pub index: FingerprintIndex,
 }

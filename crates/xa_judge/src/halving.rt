@@ -11,10 +11,12 @@ use std::alloc::Global;
 use xa_server::Server;
 use xa_xid::NoMemory;
 
-/// The place of the first call before this place that is known to return after it; this place, if there is none.
+/// The place of the first call that stands before `place` and is known to return after `place`; `place` itself, if
+/// there is none.
 fn first_open(events: &[Event], place: usize) -> usize {
     for early in 0..place {
-        // No call is at the place `events.len()`, so the return of each counts.
+        // The last argument names a call whose return is to be unknown. No call is at `events.len()`, so each return
+        // is known.
         if let Some(later) = next_return(events, early, events.len())
             && later > place
         {
@@ -24,7 +26,8 @@ fn first_open(events: &[Event], place: usize) -> usize {
     place
 }
 
-/// A copy of what is kept before the event at the place `from`, with an index that has seen the events before it.
+/// A copy of `front`, which is what is kept before the event at the place `from`. Its index is a new one that has seen
+/// the events before `from`.
 fn copy_of(
     alloc: Global,
     front: &Frontier,
@@ -32,11 +35,12 @@ fn copy_of(
     from: usize,
 ) -> Result<Frontier, NoMemory> {
     let mut index = FingerprintIndex::new(alloc);
-    // `from` is never more, but nothing promises that.
+    // `from` is at most `events.len()`, but no clause says so, and each `events[place]` must exist.
     for place in 0..from.min(events.len()) {
         index.go_on(&events[place])?;
     }
-    // Rows that were forgotten at earlier events may stay listed here. That costs time, and changes nothing else.
+    // The index of `front` may have forgotten written rows at an earlier event. The new one may still list them: that
+    // costs time, and changes nothing else.
     index.settle(front.known.len());
     let mut known = Vec::new(alloc);
     for one in front.known.iter() {
@@ -50,9 +54,9 @@ fn copy_of(
     })
 }
 
-/// The place that `first_refuted` looks for, by halving those from `least` to `most`, from what is kept before the
-/// event at the place `from`; None if a pass through the events was given up. That the place isn't after `most` is
-/// taken for granted.
+/// Of the events from `least` to `most`, the place of the first one after which nothing is left if the record ends
+/// there; found by halving. Each sweep begins with `front`, what is kept before the event at the place `from`. None
+/// if a sweep was given up. `most` isn't tried: it is returned if something is left after each event before it.
 fn halved(
     alloc: Global,
     front: &Frontier,
@@ -64,7 +68,7 @@ fn halved(
 ) -> Result<Option<usize>, NoMemory> {
     let mut low = least;
     let mut high = most;
-    // Halving a number of 64 bits as often leaves nothing of it.
+    // Each round at least halves `high - low`, a number of 64 bits, so 64 rounds make it 0.
     for _ in 0..64usize {
         if low >= high {
             break;
@@ -74,15 +78,17 @@ fn halved(
         // event, but nothing promises that, and `split_at` requires it.
         let (upto, _) = events.split_at((middle + 1).min(events.len()));
         let count = upto.len();
-        // Never so, as `from` is at most `least`. `sweep_on` has to be sure of it.
+        // Never the case, as `from` is at most `least`, and so at most `middle`. `sweep_on` requires it.
         if from > count {
             break;
         }
         let start = copy_of(alloc, front, events, from)?;
+        // No call is at the place `count`, so no return up to `middle` is left out (`asked`).
         match sweep_on(alloc, start, upto, from, count, count, effort)? {
             Swept::Unknown => return Ok(None),
             Swept::Nothing(place, _) => {
-                // Before `place` something was left, and knowing less leaves no less.
+                // Something was left after each event before `place`. If the record ends earlier, fewer returns are
+                // known, and no less is left: none of those events is the one sought.
                 low = low.max(place);
                 high = middle;
             }
@@ -92,12 +98,13 @@ fn halved(
     Ok(Some(high))
 }
 
-/// Returns the place of the first event after which nothing is left, if no more is known than the events up to there
-/// tell: it is one of those from `least` to `most`. None if a pass through the events was given up, as when `effort`
-/// allows no more, or if nothing is left before those places.
+/// Returns the place of the first event after which no configuration is left, if only the events up to it are known,
+/// and so no later return. The caller expects it among the places from `least` to `most`. None if a sweep through the
+/// events was given up, as when `effort` allows no more, or if nothing is left after an event before them.
 ///
-/// A call that returns by `least` is known to return there, whichever of these places is tried. So the events before
-/// the first call that doesn't are gone through only once.
+/// If a call returns at `least` or before, its return is known whichever of these places is tried. So the events
+/// before the first call that returns later are gone through only once.
+///
 /// May return `NoMemory`.
 pub fn first_refuted(
     alloc: Global,
@@ -108,7 +115,7 @@ pub fn first_refuted(
     effort: &mut Effort,
 ) -> Result<Option<usize>, NoMemory> {
     let from = first_open(events, least);
-    // Never so, as `least` is the place of an event. `sweep_on` requires it.
+    // Never the case, as `least` is the place of an event. `sweep_on` requires it.
     if from > events.len() {
         return Ok(None);
     }

@@ -1,4 +1,4 @@
-//! What is known of open calls: where they return.
+//! What is known of open calls: where each returns, or that it isn't heard of any more.
 ghost use Rattle.std.specs.Prelude.{◌≡◌, true, false, ℕ, Some, None, List, slice_get, slice_set, length, IfOk, IfSome};
 ghost use Rattle.std.specs.Option.{option_copied};
 ghost use Rattle.xa_judge.specs.Foreseen.{hint_in, hint_of, hints_of, fact_of, seen_in, FitsHints, NotesCall};
@@ -14,7 +14,7 @@ use crate::open_call::OpenCall;
 use std::alloc::Global;
 use xa_xid::{NoMemory, SessionNo};
 
-/// Returns the session whose event it is.
+/// Returns the session of the event.
 pub fn session_of(event: &Event) -> SessionNo
     ensures { result ≡ session_in event.now }
 {
@@ -39,8 +39,8 @@ pub fn last_call(events: &[Event], session: SessionNo) -> usize {
     last
 }
 
-/// Returns what is known while no call is open: an entry for each session's number, and entry 0, which no session
-/// has.
+/// Returns what is known while no call is open: 17 entries, one for each session's number from 1 to 16, and entry 0,
+/// which no session has.
 ///
 /// May return `NoMemory`.
 pub fn no_places(alloc: Global) -> Result<Vec<OpenCall>, NoMemory>
@@ -56,7 +56,7 @@ pub fn no_places(alloc: Global) -> Result<Vec<OpenCall>, NoMemory>
     Ok(places)
 }
 
-/// Whether it isn't known what the call returns.
+/// Whether it isn't known what the call of this entry returns: no place is noted, or no return stands there.
 fn is_no_return(events: &[Event], entry: &OpenCall) -> bool
     ensures { result ≡ true → (hint_in events.now entry.now).seen ≡ None }
 {
@@ -66,7 +66,8 @@ fn is_no_return(events: &[Event], entry: &OpenCall) -> bool
     }
 }
 
-/// Whether it isn't known what the open call of the session of this number returns.
+/// Whether it isn't known what the open call of the session of this number returns; true also if `places` has no such
+/// entry.
 fn is_no_return_at(events: &[Event], places: &[OpenCall], number: usize) -> bool
     ensures { result ≡ true → (entry : _) → slice_get places.now number ≡ Some entry
         → (hint_in events.now entry).seen ≡ None }
@@ -77,7 +78,7 @@ fn is_no_return_at(events: &[Event], places: &[OpenCall], number: usize) -> bool
     }
 }
 
-/// Tells whether it isn't known of any open call what it returns.
+/// Tells whether there is no open call of which it is known what it returns. `places` has what is known of open calls.
 pub fn are_unknown(events: &[Event], places: &[OpenCall]) -> bool
     ensures { result ≡ true → (session : ℕ) → hint_of (hints_of events.now places.now) session ≡ None }
 {
@@ -90,7 +91,7 @@ pub fn are_unknown(events: &[Event], places: &[OpenCall]) -> bool
 }
 
 /// Tells whether nothing is known of how the session's open call ends: neither where it returns, nor that it isn't
-/// heard of any more.
+/// heard of any more. True also if it has no open call.
 pub fn is_blank(events: &[Event], places: &[OpenCall], session: SessionNo) -> bool
     ensures { result ≡ true → (fact_of (hints_of events.now places.now) session).never ≡ false }
 {
@@ -102,7 +103,8 @@ pub fn is_blank(events: &[Event], places: &[OpenCall], session: SessionNo) -> bo
     }
 }
 
-/// Tells whether the session's open call may still be heard of: it isn't known that no event shows its answer.
+/// Tells whether the session's open call may still be heard of: it isn't known that no event shows its answer. True
+/// also if it has no open call.
 pub fn may_be_heard(events: &[Event], places: &[OpenCall], session: SessionNo) -> bool
     ensures { result ≡ true → (fact_of (hints_of events.now places.now) session).never ≡ false }
 {
@@ -110,12 +112,14 @@ pub fn may_be_heard(events: &[Event], places: &[OpenCall], session: SessionNo) -
         None => true,
         Some(open) => match open.returns {
             None => true,
+            // A place after all events notes that the call isn't heard of any more.
             Some(place) => events.get(place).is_some(),
         },
     }
 }
 
-/// Tells whether it is known that the session's open call isn't heard of any more: no event shows its answer.
+/// Tells whether it is known that the session's open call isn't heard of any more: no event shows its answer. A place
+/// after all events notes that.
 pub fn is_never_heard(events: &[Event], places: &[OpenCall], session: SessionNo) -> bool
     ensures { result ≡ true → (fact_of (hints_of events.now places.now) session).never ≡ true }
 {
@@ -128,7 +132,7 @@ pub fn is_never_heard(events: &[Event], places: &[OpenCall], session: SessionNo)
     }
 }
 
-/// What the return at this place shows; None if there is no return.
+/// What the return at this place shows; None if no return stands there.
 fn seen_at(events: &[Event], place: usize) -> Option<&Seen>
     ensures { option_copied result ≡ seen_in (slice_get events.now place) }
 {
@@ -141,7 +145,8 @@ fn seen_at(events: &[Event], place: usize) -> Option<&Seen>
     }
 }
 
-/// What the session's open call returns, if that is known: `places` has the places of returns.
+/// Returns what the session's open call returns, as the return shows whose place `places` has; None if that isn't
+/// known.
 pub fn hint_at<'a>(events: &'a [Event], places: &[OpenCall], session: SessionNo) -> Option<&'a Seen>
     ensures { option_copied result ≡ hint_of (hints_of events.now places.now) session }
 {
@@ -178,17 +183,18 @@ fn is_known_at(places: &[OpenCall], place: usize, session: SessionNo) -> bool
     }
 }
 
-/// Tells whether the event at this place fits what is known of its session's call. A return stands where it is known,
-/// or nothing is known; the client is lost only if nothing is known; an answer stays unknown only if no return is
-/// known.
+/// Tells whether `event`, which is at this place, fits what is known of its session's open call. A call fits always; a
+/// return, if it is known to stand here or nothing is known; the loss of a client, only if nothing is known; an answer
+/// that stays unknown, only if no return is known.
 pub fn fits(events: &[Event], places: &[OpenCall], place: usize, event: &Event) -> bool
     requires { slice_get events.now place ≡ Some event.now }
     ensures { result ≡ true → FitsHints (hints_of events.now places.now) event.now }
 {
     match event {
-        // What may be known of its session is of an earlier call.
+        // What may be known of its session is of an earlier call, and nothing of this one.
         Event::Call(_, _) => true,
         Event::Return(session, _) => {
+            // If `is_blank` holds, so does `is_unknown`. Each of them promises a part of what `fits` does.
             is_known_at(places, place, *session)
                 || (is_unknown(events, places, *session) && is_blank(events, places, *session))
         }
@@ -228,7 +234,8 @@ pub fn next_return(events: &[Event], place: usize, asked: usize) -> Option<usize
     }
 }
 
-/// Whether no event shows what the call at this place is answered, and its client isn't lost while it is open.
+/// Whether no event shows what the call at this place is answered, and its client isn't lost while it is open. True
+/// also if no call is there.
 fn is_unheard(events: &[Event], place: usize) -> bool {
     match next_own(events, place) {
         None => true,
@@ -236,7 +243,8 @@ fn is_unheard(events: &[Event], place: usize) -> bool {
     }
 }
 
-/// Notes what is known of the open call of the session of this number; does nothing if `places` has no such entry.
+/// Makes `entry` what is known of the open call of the session of this number; does nothing if `places` has no entry
+/// for it.
 pub fn put_open(places: &mut Vec<OpenCall>, number: usize, entry: OpenCall)
     ensures { places.new.items ≡ slice_set places.old.items number entry }
 {
@@ -245,8 +253,8 @@ pub fn put_open(places: &mut Vec<OpenCall>, number: usize, entry: OpenCall)
     }
 }
 
-/// What is known of the open call of the event's session after the event. Of the call at the place `asked` it isn't
-/// known what it returns.
+/// What is known of the open call of the event's session after `event`, which is at `place`. `places` has what is
+/// known of open calls before it. Of the call at the place `asked` it isn't known what it returns.
 fn open_after(
     events: &[Event],
     places: &[OpenCall],
@@ -257,6 +265,7 @@ fn open_after(
     requires { slice_get events.now place ≡ Some event.now }
     ensures { NotesCall (hints_of events.now places.now) (hint_in events.now result) event.now }
 {
+    // No call is open any more.
     let none = OpenCall {
         call: None,
         returns: None,
@@ -267,7 +276,7 @@ fn open_after(
             returns: next_return(events, place, asked),
         },
         Event::Return(_, _) => none,
-        // The call is still open: nobody hears its answer.
+        // The call is still open, and may take effect later: nobody hears its answer.
         Event::Lost(session) => match places.get(session.get() as usize) {
             None => none,
             Some(open) => OpenCall {
@@ -279,8 +288,8 @@ fn open_after(
     }
 }
 
-/// Returns what is known of open calls after the event at this place. Of the call at the place `asked` it isn't known
-/// what it returns.
+/// Returns what is known of open calls after `event`, which is at this place; `places` has what is known of them
+/// before it. Of the call at the place `asked` it isn't known what it returns.
 ///
 /// May return `NoMemory`.
 pub fn later_places(
@@ -301,12 +310,12 @@ pub fn later_places(
     Ok(later)
 }
 
-/// Returns the last place below `count` at which one of these open calls is known to return, but at least `least`.
-/// Only returns up to there can refute what was kept.
+/// Returns the last place at which one of these open calls is known to return, or `least`, if that is later. `count`
+/// is the number of events. Only returns up to the place returned can have refuted what was kept.
 pub fn last_place(places: &[OpenCall], least: usize, count: usize) -> usize {
     let mut last = least;
     for place in places {
-        // A call that isn't heard of any more refutes nothing.
+        // A call that isn't heard of any more has a place from `count` on. It refutes nothing.
         if let Some(at) = place.returns
             && at < count
         {
@@ -335,8 +344,8 @@ fn never_heard(events: &[Event], places: &[OpenCall], number: usize) -> Option<O
     }
 }
 
-/// Notes that the call at this place isn't heard of any more, if no later event shows its answer and its client isn't
-/// lost while it is open. Of the call at the place `asked` nothing is noted.
+/// If `event`, which is at this place, is a call, notes in `places` that it isn't heard of any more, if no later event
+/// shows its answer and its client isn't lost while it is open. Of the call at the place `asked` nothing is noted.
 pub fn note_unheard(
     events: &[Event],
     places: &mut Vec<OpenCall>,

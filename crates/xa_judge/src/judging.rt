@@ -17,12 +17,13 @@ use std::alloc::Global;
 use xa_server::Server;
 use xa_xid::NoMemory;
 
-/// How many configurations are kept of a record before the search tries more: up to so many each has a server of its
-/// own, so they are quick to look at.
+/// How many configurations are kept of a record before the search tries more. In lists of up to so many each has a
+/// server of its own, if there is room (`fit`), so they are quick to look at.
 const WIDE: usize = 255;
 
-/// From this number of events before calls overlap, one order is looked for first: the search needs only the
-/// rows that later calls name.
+/// If so many events or more come before calls overlap, and others follow, `WAYS_OF_LONG` is tried, which begins with
+/// a search that needs only the rows that later calls name. Fewer events are at most 255 calls, so there are few rows
+/// to leave out.
 const LONG: usize = 512;
 
 /// The ways that are tried one after another before all configurations are kept, the cheap ones first.
@@ -35,8 +36,8 @@ const WAYS: [Way; 6] = [
     Way::WholeSearch,
 ];
 
-/// The ways for a record with many events before calls overlap. Those come first that look only at the rows that later
-/// calls name.
+/// The ways for a record with many events before calls overlap. `ShortSearch` and `BehindWide` need only the rows that
+/// later calls name, so they come before the ways that keep configurations of the whole record.
 const WAYS_OF_LONG: [Way; 8] = [
     Way::ShortSearch,
     Way::Rows,
@@ -48,8 +49,8 @@ const WAYS_OF_LONG: [Way; 8] = [
     Way::BehindAll,
 ];
 
-/// The verdict that this way finds; None if it finds none. A way that doesn't tell how far it is has its verdict told
-/// afterwards (`tell_verdict`).
+/// The verdict that this way finds; None if it finds none. A way that doesn't tell `progress` how far it is has its
+/// verdict told afterwards (`tell_verdict`). `limit` is how many configurations may be kept.
 fn judge_by<P: Progress>(
     alloc: Global,
     way: Way,
@@ -149,24 +150,26 @@ pub fn judge_telling<P: Progress>(
     };
     match judge_in_order(alloc, ways, base, events, limit, progress)? {
         Some(verdict) => Ok(verdict),
+        // At last all configurations are kept, up to `limit`. No events were judged before these, so `before` is 0.
         None => judge_in_breadth(alloc, base, 0, events, limit, progress),
     }
 }
 
 /// Returns the verdict whether any order explains the events, beginning with a server in the state of `base`.
 ///
-/// If more than `limit` different configurations have to be kept before an event, the verdict is `Undecided`,
-/// unless one order was found, or the verdict was found by judging statements outside of branches row by row,
-/// or by configurations that later returns allow. A record is judged first with at most eight configurations, then
-/// row by row, then by a short search for one order, and then by what later returns allow. After these come
-/// 255 configurations, and a search that tries more, before all configurations are kept. If 512 or more events
-/// come before calls overlap, and others follow, the short search and the rows come first instead, and then what
-/// follows these events is judged by itself, as it is again with up to `limit` configurations before all are kept.
+/// The verdict is `Undecided` only if more than `limit` different configurations have to be kept before an event, and
+/// no verdict was found by a search for one order, by judging statements outside of branches row by row, or by
+/// configurations that later returns allow. A record is judged first with at most eight configurations, then row by
+/// row, then by a short search for one order, and then by what later returns allow. After these come 255
+/// configurations, and a search that tries more, before all configurations are kept. If 512 or more events come
+/// before calls overlap, and others follow, the short search and the rows come first instead, and then what follows
+/// these events is judged by itself, as it is again with up to `limit` configurations before all are kept.
 /// Identifiers that a call returns have to be in ascending order.
 /// Errors: `NoMemory` if an allocation failed.
-/// Takes memory for the configurations: in a list of up to 255 each has a copy of the server's records, as
-/// long as 128 MiB hold these by an estimate; others share those of one server. Those that later returns allow
-/// have a copy each, as long as 384 MiB hold these by an estimate. Doesn't wait.
+/// Takes memory for the configurations. In a list of up to 255 each has a copy of the server's records, and in a longer
+/// one each whose server carried out 128 requests or more since it was copied, as long as 128 MiB hold these by an
+/// estimate; others share those of one server. Those that later returns allow have a copy each: if 384 MiB don't hold
+/// these by an estimate, that way finds no verdict. Doesn't wait.
 /// Own rule: docs/HISTORIES.md#verdicts.
 pub fn judge(
     alloc: Global,

@@ -12,8 +12,8 @@ use std::alloc::Global;
 use xa_server::Server;
 use xa_xid::NoMemory;
 
-/// How many configurations are kept of a part of a record before one order is looked for: enough for what some
-/// sessions that always call do with one row.
+/// How many configurations of a part of a record are kept before one order is looked for. They are enough for several
+/// sessions that call for one row without a pause, and so few that each has a server of its own, if there is room.
 const MIDDLE: usize = 255;
 
 /// Returns the verdict on one part of a record, if one is found; else None. `limit` bounds the configurations that are
@@ -28,7 +28,8 @@ pub fn judge_part(
 ) -> Result<Option<Verdict>, NoMemory>
     ensures { IfOk result (λ found. IfSome found (IsVerdict base.now events.now limit)) }
 {
-    // All configurations refute a part that nothing explains. A search for one order would go on to its end first.
+    // Keeping all configurations comes first, since it refutes a part that no order explains. A search for one order
+    // of such a part would go on until it has to give up.
     if let Some(verdict) = judge_kept(alloc, base, events, MIDDLE, limit, &mut Silent)? {
         return Ok(Some(verdict));
     }

@@ -37,7 +37,7 @@ fn is_listed(answer: &Answer, xids: &[SharedXid]) -> bool
     }
 }
 
-/// Copies of the identifiers.
+/// Copies of the identifiers, in their order.
 fn apart(alloc: Global, xids: &[SharedXid]) -> Result<Vec<Xid>, NoMemory>
     ensures { IfOk result (λ list. list.items ≡ xids.now) }
 {
@@ -49,7 +49,7 @@ fn apart(alloc: Global, xids: &[SharedXid]) -> Result<Vec<Xid>, NoMemory>
 }
 
 impl KeptAnswer {
-    /// Returns the answer by itself.
+    /// Returns a copy of the answer. If a list is kept, its identifiers are copied, so none is shared.
     ///
     /// May return `NoMemory`.
     pub fn copy(&self, alloc: Global) -> Result<Answer, NoMemory>
@@ -64,7 +64,7 @@ impl KeptAnswer {
         }
     }
 
-    /// Tells whether it is known to be this answer.
+    /// Tells whether the kept answer is known to be `other`.
     pub fn is(&self, other: &Answer) -> bool
         ensures { result ≡ true → answer_kept self.now ≡ other.now }
     {
@@ -74,7 +74,7 @@ impl KeptAnswer {
         }
     }
 
-    /// Tells whether it is known to be the list of these identifiers.
+    /// Tells whether the kept answer is known to be the list of these identifiers.
     pub fn is_list(&self, xids: &[Xid]) -> bool
         ensures { result ≡ true → answer_kept self.now ≡ Answer.Reply (Reply.Recovered xids.now) }
     {
@@ -84,7 +84,7 @@ impl KeptAnswer {
         }
     }
 
-    /// Tells whether both are known to be the same.
+    /// Tells whether both are known to be the same answer, in whichever way each is kept.
     pub fn is_same(&self, other: &KeptAnswer) -> bool
         ensures { result ≡ true → answer_kept self.now ≡ answer_kept other.now }
     {

@@ -17,8 +17,8 @@ use std::sync::Arc;
 use xa_server::Server;
 use xa_xid::{Key, NoMemory, SessionNo, Statement};
 
-/// From this number of requests on, a server gets records of its own if there is room: to carry the requests
-/// out at each look takes long.
+/// From this number of requests on, a server gets records of its own if there is room: to carry the requests out
+/// again each time that the server is needed takes long.
 const MUCH: usize = 128;
 
 /// A server, kept as another one that several share and the requests that it carried out since. The older
@@ -82,7 +82,7 @@ impl KeptServer {
         })
     }
 
-    /// Tells whether it carried out so many requests that it takes long to make it again.
+    /// Tells whether `MUCH` requests or more have to be carried out to make the server again, which takes long.
     pub fn did_much(&self) -> bool {
         let mut count = self.since.len();
         for block in self.before.iter() {
@@ -108,7 +108,8 @@ impl KeptServer {
         })
     }
 
-    /// Puts the requests since the last block into a block, one that is kept already if possible.
+    /// Makes the requests since the last block, if there are some, a block: the one in `shared` that has the same
+    /// requests, or else a new one, which `shared` keeps.
     ///
     /// May return `NoMemory`.
     pub fn fold(&mut self, shared: &mut DoneBlocks) -> Result<(), NoMemory>
@@ -148,7 +149,7 @@ impl KeptServer {
         Ok(server)
     }
 
-    /// Makes the server, without a copy if no other shares it.
+    /// Makes the server: `base` itself carries the requests out, or a copy of it if other kept servers share it.
     ///
     /// May return `NoMemory`.
     pub fn into_server(self) -> Result<Server, NoMemory>
@@ -246,8 +247,8 @@ impl KeptServer {
         Ok((self.after(session, request)?, answer))
     }
 
-    /// Returns the server after the session's request, and the answer. It stays kept as itself if it was and
-    /// no other shares it.
+    /// Returns the server after the session's request, and the answer. The server stays kept as itself if it was so
+    /// and no other one shares it; else it is kept with one request more.
     ///
     /// May return `NoMemory`.
     pub fn carried_out(
@@ -284,7 +285,7 @@ impl KeptServer {
         }
     }
 
-    /// Whether the kept server is known to be the same as this server.
+    /// Whether the kept server is known to be in the same state as `server`.
     fn is_like(&self, server: &Server) -> Result<bool, NoMemory>
         ensures { IfOk result (λ same. same ≡ true → self.now ≡ server.now) }
     {

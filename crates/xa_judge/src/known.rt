@@ -1,4 +1,5 @@
-//! Lists in which each configuration is kept once.
+//! Adds a configuration to a list, unless one of the list is known to be the same; adds so what acts lead to; and
+//! decides which configurations have a server of their own.
 ghost use Rattle.std.specs.Prelude.{◌≡◌, ◌∷◌, ◌++◌, ◌≢◌, ◌<◌, ℕ, true, false, Option, Some, slice_get, length, vec_len};
 ghost use Rattle.std.specs.Prelude.{IfOk, OnOk};
 ghost use Rattle.xa_judge.specs.declared.configuration.Configuration.{Configuration as Found};
@@ -18,8 +19,8 @@ use xa_xid::{NoMemory, SessionNo};
 /// Shorter lists are looked through place by place: a fingerprint costs more than a few comparisons.
 const LONG: usize = 16;
 
-/// In shorter lists each configuration has a server of its own, if there is room: a longer one would take too
-/// many copies.
+/// In lists shorter than this, so of up to 255, each configuration has a server of its own, if there is room. A longer
+/// list would take too many copies.
 const WIDE: usize = 256;
 
 /// Returns the list with the only configuration before all events.
@@ -58,7 +59,8 @@ fn is_at(known: &[Configuration], place: usize, one: &Configuration) -> Result<b
     }
 }
 
-/// Whether at one of the places with this configuration's fingerprint stands one that is known to be the same.
+/// Whether one of the places that have the fingerprint of `one` has a configuration known to be the same as `one`.
+/// `index` has the places of `known`.
 fn is_marked(
     known: &[Configuration],
     index: &mut FingerprintIndex,
@@ -67,7 +69,7 @@ fn is_marked(
     ensures { IfOk result (λ found. found ≡ true → Has known.now (config_of one.now)) }
 {
     let mut next = index.last_of(one)?;
-    // A fingerprint has no more places than the list.
+    // A fingerprint has no more places than the list, so all of them are looked at.
     for _ in 0..known.len() {
         match next {
             None => return Ok(false),
@@ -82,8 +84,8 @@ fn is_marked(
     Ok(false)
 }
 
-/// Whether a configuration of the list is known to be the same. In a long list only those with its fingerprint are
-/// looked at.
+/// Whether a configuration of the list is known to be the same as `one`. In a list of `LONG` or more, only those with
+/// the fingerprint of `one` are looked at.
 fn is_known(
     known: &[Configuration],
     index: &mut FingerprintIndex,
@@ -99,7 +101,7 @@ fn is_known(
     is_marked(known, index, one)
 }
 
-/// Adds a configuration, unless one of the list is known to be the same.
+/// Adds the configuration `one` at the end, unless one of the list is known to be the same.
 ///
 /// May return `NoMemory`.
 pub fn add(
@@ -116,9 +118,9 @@ pub fn add(
     index.note(known.len())
 }
 
-/// Returns the same configuration. It gets a server of its own if memory has room for `count` such servers with
-/// `records` records each by the estimate, and `count` is less than `WIDE` or its server takes long to make again
-/// (`did_much`). Else its server stays as it is kept.
+/// Returns the same configuration, one of a list of `count`. It gets a server of its own if memory has room for
+/// `count` such servers with `records` records each by the estimate, and `count` is less than `WIDE` or its server
+/// takes long to make again (`did_much`). Else its server stays as it is kept.
 ///
 /// May return `NoMemory`.
 pub fn fit(one: Configuration, count: usize, records: usize) -> Result<Configuration, NoMemory>
@@ -134,8 +136,9 @@ pub fn fit(one: Configuration, count: usize, records: usize) -> Result<Configura
     }
 }
 
-/// The configuration `next`, to which the session's act leads from the one at this place, with its server kept as
-/// this list keeps it.
+/// The configuration `next`, to which the session's act leads from the one at this place. It keeps its own server if
+/// the list is shorter than `WIDE` and there is room for a server of so many `records` for each in it. Else its server
+/// is kept as that of the configuration at the place, with one request more.
 fn fitting(
     known: &[Configuration],
     records: usize,
@@ -148,15 +151,15 @@ fn fitting(
     requires leads { IsEffectAt known.now place session act next }
     ensures { IfOk result (λ new. new ≡ next) }
 {
-    // In a short list each has a server of its own already.
+    // `next` comes with a server of its own (`effected`).
     if known.len() < WIDE && has_room(known.len(), records) {
         return Ok(next);
     }
-    // Else its server is kept as that of the configuration that it comes from, with one request more.
+    // Its own server is dropped, which saves memory: requests take less than a copy.
     next.over(&known[place], session, act)
 }
 
-/// Adds the configuration to which the session's act leads from the one at this place, unless one of the list
+/// Adds `next`, the configuration to which the session's act leads from the one at this place, unless one of the list
 /// is known to be the same.
 fn add_next(
     known: &mut Vec<Configuration>,
@@ -210,7 +213,8 @@ fn add_effect(
     }
 }
 
-/// Adds what the acts of the session lead to from the configuration at this place.
+/// Adds what the two acts of the session, its statement and its `DISCONNECT`, lead to from the configuration at this
+/// place.
 fn add_effects(
     known: &mut Vec<Configuration>,
     index: &mut FingerprintIndex,
@@ -236,7 +240,7 @@ fn add_effects(
     Ok(())
 }
 
-/// Whether the session of this number is `returning`.
+/// Whether the session of this number is `returning`; false if that is None.
 fn is_returning(returning: &Option<SessionNo>, number: u64) -> bool
     ensures yes { result ≡ true → returning.now ≡ Some number }
     ensures no { result ≡ false → returning.now ≢ Some number }
@@ -247,8 +251,8 @@ fn is_returning(returning: &Option<SessionNo>, number: u64) -> bool
     }
 }
 
-/// Adds what the acts of the session of this number lead to from the configuration at this place, unless it
-/// is `returning`.
+/// Adds what the acts of the session of this number lead to from the configuration at this place, unless that session
+/// is `returning`; nothing if no session has this number.
 fn add_others(
     known: &mut Vec<Configuration>,
     index: &mut FingerprintIndex,
@@ -275,7 +279,7 @@ fn add_others(
         return Ok(());
     }
     match SessionNo::of(number) {
-        // The number of a session is from 1 to 16.
+        // No session has this number: those of sessions are from 1 to 16.
         None => Ok(()),
         Some(session) => {
             add_effects(known, index, place, session)?;
@@ -308,8 +312,9 @@ fn add_all(
     Ok(())
 }
 
-/// Adds what acts of sessions other than `returning` lead to from the configuration at this place, unless
-/// `returning` was answered there.
+/// Adds what acts of sessions other than `returning` lead to from the configuration at this place, unless the call of
+/// `returning` was answered there. `returning` is the session whose return comes next; None if no return does, and
+/// then acts of all sessions are tried.
 ///
 /// May return `NoMemory`.
 pub fn expand(

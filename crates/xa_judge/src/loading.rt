@@ -33,7 +33,7 @@ pub fn key_called(event: &Event) -> Option<&Key> {
     }
 }
 
-/// Whether a call is at this place, and its return directly after it.
+/// Whether a call stands at this place, and the return to the same session directly after it.
 fn is_alone(events: &[Event], place: usize) -> bool {
     match events.get(place) {
         // This doesn't saturate: there is an event at `place`.
@@ -45,9 +45,9 @@ fn is_alone(events: &[Event], place: usize) -> bool {
     }
 }
 
-/// Returns how many events there are before calls overlap: the record begins with so many that are pairs of a call and
-/// its return, directly after it. The count is even. It ends also where a client is lost, an answer stays unknown, or a
-/// call is the last event.
+/// Returns how many events come before calls overlap: the record begins with so many that are pairs of a call and its
+/// return directly after it. The count is even. The counted events end before the first one that begins no such pair:
+/// also before a lost client, a call whose answer stays unknown, or a call that is the last event.
 pub fn count_alone(events: &[Event]) -> usize {
     for pair in 0..events.len() / 2 {
         let place = pair.saturating_mul(2);
@@ -55,7 +55,7 @@ pub fn count_alone(events: &[Event]) -> usize {
             return place;
         }
     }
-    // The last one of an odd number has no partner.
+    // All are pairs. If the number of events is odd, the last one has no partner.
     events.len() / 2 * 2
 }
 
@@ -70,9 +70,9 @@ fn rows_called(alloc: Global, events: &[Event]) -> Result<BTreeSet<u64>, NoMemor
     Ok(rows)
 }
 
-/// Returns a copy of the base, with all of its rows, that has carried out calls of the first events, which don't
-/// overlap: those that name no row, or one that a later event calls for. Rows are compared by their fingerprints, so a
-/// call of another row with an equal one is carried out too.
+/// Returns a copy of the base, with all of its rows, that has carried out those calls of the `first` events that name
+/// no row, or a row for which one of the `later` events calls. The calls of `first` don't overlap. Rows are compared
+/// by their fingerprints, so a call for another row with the same fingerprint is carried out too.
 ///
 /// May return `NoMemory`.
 pub fn server_for(
@@ -90,7 +90,7 @@ pub fn server_for(
                 Some(key) => rows.contains(&mark_of_key(key)),
             };
             if is_needed {
-                // Only the state is wanted: what was answered is seen where the record's returns are judged.
+                // Only the state is wanted: the answers are checked with the moves that the search finds (`follows`).
                 let _answer = request.request().carry_out(&mut server, *session)?;
             }
         }

@@ -1,9 +1,12 @@
-//! Judges what comes after calls that don't overlap, on a server that lacks what those write outside branches to rows
-//! that this part doesn't name.
+//! Judges the events that come after calls that don't overlap, on a server that lacks what these calls write, outside
+//! branches, to rows that the later events don't name.
 //!
-//! A test bench often fills its tables first, one call after another. The answers to its other calls don't
-//! depend on rows that none of them names, and a server into which these weren't written is soon copied. The base's
-//! own rows all stay.
+//! A test bench often fills its tables first, one call after another. The answers to its other calls don't depend on
+//! rows that none of them names, and a server into which these weren't written is soon copied. The base's own rows all
+//! stay.
+//!
+//! The server with all rows is called full. One is near it if it has the same branches, and the same committed values
+//! of the rows whose keys are in `keys`.
 ghost use Rattle.std.specs.Prelude.{◌≡◌, ◌+◌, ◌<◌, ◌^◌, ◌++◌, ℕ, true, false, length, IfOk, IfSome, OnOk};
 ghost use Rattle.std.specs.List.{All};
 ghost use Rattle.xa_server.specs.State.{State, association_of};
@@ -40,7 +43,7 @@ fn keys_called(alloc: Global, events: &[Event]) -> Result<BTreeSet<Key>, NoMemor
     Ok(keys)
 }
 
-/// Whether the request reads only rows with these keys: true for all but a `GET` of another row, as only `GET` reads.
+/// Whether the request reads only rows with these keys: false only for a `GET` of another row, as nothing else reads.
 fn reads_named(keys: &BTreeSet<Key>, request: &Request) -> bool
     ensures { result ≡ true → ReadsNamed (named_in keys.now) request.now }
 {
@@ -74,7 +77,7 @@ fn all_named(keys: &BTreeSet<Key>, events: &[Event]) -> bool
     true
 }
 
-/// Whether this reply to an `XA END` says that its session has nothing open.
+/// Whether this reply to an `XA END` says that its session owns no branch.
 fn tells_free(reply: &Reply) -> bool
     ensures { result ≡ true → reply.now ≡ Reply.Refused (XaError.Rmfail BranchState.NonExisting) }
 {
@@ -84,12 +87,13 @@ fn tells_free(reply: &Reply) -> bool
     }
 }
 
-/// Whether the session is known to have nothing open.
+/// Whether the session is known to own no branch.
 #[tactic(auto, using(crate::proofs::NearStates::free_told))]
 fn is_free(server: &Server, session: SessionNo) -> Result<bool, NoMemory>
     ensures { IfOk result (λ free. free ≡ true → association_of server.now session ≡ Association.Free) }
 {
-    // XA END is refused as `tells_free` says, whatever it names, only if the session has nothing open.
+    // XA END is refused as `tells_free` says only if the session owns no branch. So any identifier does, also an
+    // empty one.
     let xid = Xid {
         format_id: 0,
         gtrid: Bytes::new(),
@@ -102,7 +106,7 @@ fn is_free(server: &Server, session: SessionNo) -> Result<bool, NoMemory>
 }
 
 /// Whether a session's write of the row with this key is apart: the key is none of `keys`, and the session is known
-/// to have nothing open.
+/// to own no branch.
 fn is_apart(
     server: &Server,
     keys: &BTreeSet<Key>,
@@ -118,8 +122,9 @@ fn is_apart(
     is_free(server, session)
 }
 
-/// Whether the session's statement is a `PUT` or `DEL` of a row with another key than these, known to be outside a
-/// branch. Then a server near this one is near it after the statement too, without carrying it out.
+/// Whether the session's statement is a `PUT` or `DEL` of a row whose key isn't in `keys`, and is known to be outside
+/// a branch on `server`, the full one. Then a server near the full one is still near it after the full one alone has
+/// carried the statement out.
 fn is_left_out(
     server: &Server,
     keys: &BTreeSet<Key>,
@@ -138,6 +143,7 @@ fn is_left_out(
             let out = is_apart(server, keys, session, key)?;
             Ok(out)
         }
+        // Others may change branches, so the near server carries them out. It does no harm if they change nothing.
         _ => Ok(false),
     }
 }
@@ -227,8 +233,8 @@ fn loaded(base: &Server, first: &[Event], keys: &BTreeSet<Key>) -> Result<Option
     Ok(Some(near))
 }
 
-/// The verdict LEGAL, if `later`, the moves for the events after the first ones, lead on from those for the first ones,
-/// in which calls don't overlap; else None.
+/// The verdict LEGAL with the moves for the `first` events, in which calls don't overlap, and behind them `later`, the
+/// moves for the events that follow; None if these moves don't lead through all `events` from `base`.
 fn legal_behind(
     alloc: Global,
     base: &Server,
@@ -252,8 +258,9 @@ fn legal_behind(
     }
 }
 
-/// The verdict on all events, by `found`, the one on the later events and a server near the one to which the first
-/// events lead. None if that is UNDECIDED, or if its moves don't lead on from those for the first events.
+/// The verdict on all `events` by `found`, which is the verdict on the `later` ones, begun on `near`, a server near
+/// the one to which the `first` events lead. None if `found` is UNDECIDED, or if its moves don't lead on from those
+/// for the first events.
 fn verdict_behind(
     alloc: Global,
     base: &Server,
@@ -279,17 +286,18 @@ fn verdict_behind(
             let whole = legal_behind(alloc, base, events, first, moves.as_slice(), limit)?;
             Ok(whole)
         }
-        // Its place is counted from the first of the later events.
+        // In `found`, the place is counted from the first of the later events.
         Verdict::Illegal(place, answers) => {
             Ok(Some(Verdict::Illegal(first.len() + place, answers)))
         }
+        // A limit that isn't enough for the later events says nothing of the whole record.
         Verdict::Undecided(_) => Ok(None),
     }
 }
 
-/// The verdict on all events, by judging those in `later` on the server `near` with at most `width` configurations, and
-/// at most `limit`; None if these aren't enough, or if the moves that they give don't lead on from those for the
-/// `first` events.
+/// The verdict on all events, by judging those in `later` on the server `near` with at most `width` configurations,
+/// and at most `limit`. None if these aren't enough, or if the moves found don't lead on from those for the `first`
+/// events.
 fn judge_later_kept<P: Progress>(
     alloc: Global,
     base: &Server,
@@ -366,10 +374,11 @@ fn judge_later<P: Progress>(
     }
 }
 
-/// Returns the verdict by what comes after calls that don't overlap, on a server that lacks what those write outside
-/// branches to rows that this part doesn't name; or None if that gives no verdict, neither with the configurations that
-/// the returns of open calls allow, at most `limit`, nor with all configurations, at most `width` and at most `limit`.
-/// None also if one of the first calls returned something else than the server answers.
+/// Returns the verdict on the record, by judging only the events after the calls at its beginning that don't overlap.
+/// The server for these events lacks what the first calls write, outside branches, to rows that the later events don't
+/// name. None if that gives no verdict, neither with the configurations that the returns of open calls allow, at most
+/// `limit`, nor with all configurations, at most `width` and at most `limit`. None also if one of the first calls
+/// returned something else than the server answers.
 ///
 /// May return `NoMemory`.
 pub fn judge_behind<P: Progress>(
@@ -385,7 +394,7 @@ pub fn judge_behind<P: Progress>(
     ensures verdict { IfOk result (λ found. IfSome found (IsVerdict base.now events.now limit)) }
     ensures told { IfOk result (λ found. IsToldOf P.judged_gives events.now found progress.old progress.new) }
 {
-    // `count_alone` is never more, but promises nothing, and `split_at` requires it.
+    // `count_alone` is never more than `events.len()`, but promises nothing, and `split_at` requires it.
     let (first, later) = events.split_at(count_alone(events).min(events.len()));
     let keys = keys_called(alloc, later)?;
     // All are, since `keys` has every row that a later call names. The proof rests on looking at each.

@@ -86,9 +86,9 @@ fn has_row(server: &KeptServer, session: SessionNo, key: &Key, xid: &Xid) -> Res
     Ok(yes)
 }
 
-/// Whether the session's statement, which is its request, is a step of this branch: it names the branch and would be
-/// answered OK, or it names a row that no other branch holds, and the session has the branch ACTIVE. `rows` has the
-/// rows that it is about.
+/// Whether the session's statement, which is its request, is a step of the branch `xid`: it names the branch and would
+/// be answered OK, or it names a row that no other branch holds, and the session has the branch ACTIVE. `rows` has the
+/// rows that the statement is about.
 fn is_step(
     server: &KeptServer,
     session: SessionNo,
@@ -141,9 +141,11 @@ fn is_step(
     }
 }
 
-/// Whether the open call of the session of this number, of which `entry` is known, is known to have nothing to do with
-/// the step `one` of `session`'s branch `xid`, or to be answered only after it. Its return is sought among the events
-/// at `from` and later. True also for the step's own call, and if the entry doesn't say what was called for.
+/// Whether the open call that `entry` notes, of the session of this `number`, is known to have nothing to do with the
+/// step `one` of `session`'s branch `xid`, or to be answered only after it. `rows` has the rows that the step is
+/// about. The call's return is sought among the events at `from` and later. True also for the step's own call, and if
+/// the entry names no call, since then none is open. The place that it names is always a call's; if it weren't, the
+/// result would be true too, for which the contract then promises nothing.
 fn is_open_aside(
     events: &[Event],
     from: usize,
@@ -175,8 +177,8 @@ fn is_open_aside(
     }
 }
 
-/// Whether the open call of the session of this number, if `places` has an entry for it, is as `is_open_aside` says;
-/// true if there is no entry.
+/// Whether `is_open_aside` holds of the open call of the session of this `number`, by its entry in `places`; true if
+/// there is no entry.
 fn is_place_aside(
     events: &[Event],
     from: usize,
@@ -220,9 +222,9 @@ pub fn are_open_aside(
     true
 }
 
-/// Tells whether in the configuration `one` the session has called for this statement, which is its request, and that
-/// is known to be a step of its branch `xid` now: it is accepted, and changes only this branch and values only of
-/// `rows`, the rows that it is about. False may mean that it isn't known.
+/// Tells whether in the configuration `one` the session has called for this statement, which is its `request`, and the
+/// statement is known to be a step of its branch `xid` now: it is accepted, and changes only this branch and values
+/// only of `rows`, the rows that it is about. False may mean that it isn't known.
 ///
 /// May return `NoMemory`.
 pub fn takes_step(

@@ -18,7 +18,7 @@ use std::alloc::Global;
 use std::collections::BTreeSet;
 use xa_xid::{Key, NoMemory, SessionNo, Statement};
 
-/// Whether the open call belongs to the chosen part.
+/// Whether a session with this turn has an open call that belongs to the chosen part.
 fn is_chosen(turn: Turn) -> bool
     ensures { result ≡ is_chosen_turn turn }
 {
@@ -32,7 +32,7 @@ fn is_chosen(turn: Turn) -> bool
     }
 }
 
-/// Returns whether the session has no open call and no branch.
+/// Returns whether a session with this turn has no open call and no branch.
 pub fn is_nobody(turn: Turn) -> bool
     ensures { result ≡ true → turn ≡ Turn.Nobody }
 {
@@ -62,7 +62,8 @@ fn part_of_row(keys: &BTreeSet<Key>, turn: Turn, key: &Key) -> Option<bool>
     }
 }
 
-/// The part of a call: `true` for the chosen one, `false` for the rest. None if it may stand in neither.
+/// The part of a call: `true` for the chosen one, `false` for the rest. `keys` has the chosen rows, and `turn` is the
+/// session's before it calls. None if the call may stand in neither.
 fn part_of_call(
     keys: &BTreeSet<Key>,
     turn: Turn,
@@ -77,14 +78,15 @@ fn part_of_call(
         Request::Statement(Statement::Get(key)) => part_of_row(keys, turn, key),
         Request::Statement(Statement::Put(key, _)) => part_of_row(keys, turn, key),
         Request::Statement(Statement::Del(key)) => part_of_row(keys, turn, key),
-        // It names no row, so it is of the rest. An open call in the chosen part would have to end there first.
+        // The request names no row, so it is of the rest. An open call in the chosen part would have to end there
+        // first.
         _ => { if is_chosen(turn) { None } else { Some(false) } }
     }
 }
 
-/// The part of an event: `true` for the chosen one, `false` for the rest. `turn` is its session's before it. None if it
-/// may stand in neither: a call as `part_of_call` says, and the loss of a client with an open call in the chosen part,
-/// as that call may take effect at any time later.
+/// The part of an event: `true` for the chosen one, `false` for the rest. `keys` has the chosen rows, and `turn` is
+/// that of the event's session before it. None if the event may stand in neither: a call as `part_of_call` says, and
+/// the loss of a client with an open call in the chosen part, as that call may take effect at any time later.
 fn part_of(keys: &BTreeSet<Key>, turn: Turn, event: &Event) -> Option<bool>
     ensures { IfSome result (λ side. FitsTurn (named_in keys.now) turn event.now side) }
 {
@@ -104,7 +106,7 @@ fn is_start(request: &Request) -> bool
     matches!(request, Request::Statement(Statement::Start(_)))
 }
 
-/// Whether the session of the request has no branch once the request is accepted.
+/// Whether the request, if it is accepted, leaves its session without a branch, also one that had a branch.
 fn is_ending(request: &Request) -> bool
     ensures { result ≡ is_ending_of request.now }
 {
@@ -117,7 +119,7 @@ fn is_ending(request: &Request) -> bool
     }
 }
 
-/// The turn of a session that may have a branch, once it has called.
+/// The turn of a session that may have a branch, once it has called for this request, which belongs to the rest.
 fn turn_within(request: &Request) -> Turn
     ensures { result ≡ called_turn Turn.Within request.now }
 {
@@ -133,7 +135,7 @@ fn turn_within(request: &Request) -> Turn
 fn turn_called(turn: Turn, request: &Request) -> Turn
     ensures { result ≡ called_turn turn request.now }
 {
-    // With a call still open (`Chosen`, `Other`, `Rest`, `Ending`) this one can't be seen. It counts as one of a
+    // With a call still open (`Chosen`, `Other`, `Rest`, `Ending`) this call can't be seen. It counts as one of a
     // session that may have a branch.
     match turn {
         Turn::Nobody => {
@@ -151,11 +153,13 @@ fn turn_called(turn: Turn, request: &Request) -> Turn
     }
 }
 
-/// The turn of a session whose call has returned this. It has no branch after a call that leaves it without one
-/// (`Chosen`, `Other`), and after an `OK` to an ending request; else it may have one.
+/// The turn of a session whose call has returned `seen`; `turn` is the one before. The session has no branch after a
+/// call that leaves it without one (`Chosen`, `Other`), and after an `OK` to an ending request; else it may have one.
 fn turn_returned(turn: Turn, seen: &Seen) -> Turn
     ensures { result ≡ returned_turn turn seen.now }
 {
+    // Without an open call (`Nobody`, `Within`) no return can be seen. It counts as one to a session that may have a
+    // branch.
     match turn {
         Turn::Nobody => Turn::Within,
         Turn::Chosen => Turn::Nobody,
@@ -163,6 +167,7 @@ fn turn_returned(turn: Turn, seen: &Seen) -> Turn
         Turn::Within => Turn::Within,
         Turn::Rest => Turn::Within,
         Turn::Ending => {
+            // Only `OK` says that the ending request was accepted.
             match seen {
                 Seen::Ok => Turn::Nobody,
                 Seen::Value(_) => Turn::Within,
@@ -178,6 +183,8 @@ fn turn_returned(turn: Turn, seen: &Seen) -> Turn
 fn turn_unheard(turn: Turn) -> Turn
     ensures { result ≡ turn_unknown turn }
 {
+    // Without an open call (`Nobody`, `Within`) such an answer can't be seen. It counts as one to a session that may
+    // have a branch.
     match turn {
         Turn::Nobody => Turn::Within,
         Turn::Chosen => Turn::Nobody,
@@ -188,7 +195,8 @@ fn turn_unheard(turn: Turn) -> Turn
     }
 }
 
-/// Returns the turn of the event's session after it. `side` is `true` if the event stands in the chosen part.
+/// Returns the turn of the event's session after the event; `turn` is the one before it. `side` is the event's part:
+/// `true` for the chosen one.
 pub fn turn_past(turn: Turn, event: &Event, side: bool) -> Turn
     ensures { result ≡ turn_after turn event.now side }
 {
@@ -201,13 +209,14 @@ pub fn turn_past(turn: Turn, event: &Event, side: bool) -> Turn
             }
         }
         Event::Return(_, seen) => turn_returned(turn, seen.seen()),
+        // An open call may still take effect. So from here on the session counts as one that may have a branch.
         Event::Lost(_) => Turn::Within,
         Event::Unknown(_) => turn_unheard(turn),
     }
 }
 
-/// Returns the turns before all events, one for each session's number and place 0: no session has an open call or a
-/// branch.
+/// Returns the turns before all events, 17 of them: one at the place of each session's number, from 1 to 16, and one
+/// at place 0, which no session has. No session has an open call or a branch.
 ///
 /// May return `NoMemory`.
 #[tactic(auto, unfolding(crate::specs::Keys::first_turns))]
@@ -221,8 +230,9 @@ pub fn nobody(alloc: Global) -> Result<Vec<Turn>, NoMemory>
     Ok(turns)
 }
 
-/// Returns the part of each event: `true` for calls for rows with these keys, by sessions that have no branch then, and
-/// for the events that end these calls. Or None, if the record can't be cut so: an event may stand in neither part.
+/// Returns the part of each event: `true` for calls for rows with these keys, by sessions that have no branch then,
+/// and for the events that end these calls; `false` for the others. None if the record can't be cut like this: some
+/// event may stand in neither part (`part_of`).
 ///
 /// May return `NoMemory`.
 pub fn sides_of(
@@ -302,7 +312,7 @@ pub fn count_before(sides: &[bool], wanted: bool, place: usize) -> usize
 }
 
 /// Returns the place in the record of the event that has the place `index`, counted from 0, in one part; None if that
-/// has no more than `index` events. `wanted` is `true` for the chosen one.
+/// part has no more than `index` events. `wanted` is `true` for the chosen part.
 pub fn place_in(sides: &[bool], wanted: bool, index: usize) -> Option<usize>
     ensures at { IfSome result (λ place. slice_get sides.now place ≡ Some wanted) }
     ensures count { IfSome result (λ place. count_in wanted (take place sides.now) ≡ index) }
@@ -320,7 +330,7 @@ pub fn place_in(sides: &[bool], wanted: bool, index: usize) -> Option<usize>
 }
 
 /// Adds to `all` the moves of one part from the place `from` on, up to its next event and with it, or all if no event
-/// follows. Returns the place after what was added, from which the rest is to be taken.
+/// follows. Returns the place after the moves that were added, from which the next ones of this part are to be taken.
 fn take_step(moves: &[Move], from: usize, all: &mut Vec<Move>) -> Result<usize, NoMemory> {
     for place in from..moves.len() {
         let by = moves[place];
@@ -333,8 +343,9 @@ fn take_step(moves: &[Move], from: usize, all: &mut Vec<Move>) -> Result<usize, 
     Ok(moves.len())
 }
 
-/// Returns moves that may lead through the record, by moves through its parts; its caller has to check them. Acts come
-/// directly before the next event of their part, and those after its last event at the end.
+/// Returns moves that may lead through the record, made of `chosen` and `rest`, moves through its parts; the caller
+/// has to check them. `sides` has the part of each event, `true` for the chosen one. Acts come directly before the
+/// next event of their part, or at the end, if their part has no more events.
 ///
 /// May return `NoMemory`.
 pub fn merge(

@@ -10,8 +10,8 @@ use std::marker::Model;
 use std::mem;
 use xa_xid::{NoMemory, SessionNo};
 
-/// The code of a session's `DISCONNECT` is its number plus this; its statement's code is the number itself,
-/// from 1 to 16.
+/// The code of a session's `DISCONNECT` is its number plus this, the greatest number of a session; its statement's
+/// code is the number itself, from 1 to 16.
 const DISCONNECT: u8 = 16;
 
 /// The moves that led to a configuration. The older ones are in blocks, which other paths can share. A
@@ -34,7 +34,7 @@ impl Model for Path {
     ghost view = { λ path. moves_of path.blocks.items path.tail.items };
 }
 
-/// The code of an effect.
+/// The code of an effect: for a statement the session's number, and for a `DISCONNECT` that number plus 16.
 #[tactic(auto, unfolding(crate::specs::Path::move_of))]
 fn effect_code(session: SessionNo, act: Act) -> u8
     ensures { move_of result ≡ Move.Effect session act }
@@ -46,7 +46,7 @@ fn effect_code(session: SessionNo, act: Act) -> u8
     }
 }
 
-/// A move's code.
+/// A move's code: 0 for an event.
 #[tactic(auto, unfolding(crate::specs::Path::move_of))]
 fn code_of(by: Move) -> u8
     ensures { move_of result ≡ by }
@@ -133,7 +133,8 @@ impl Path {
         self.tail.clear();
     }
 
-    /// Puts the newer moves into a block, one that is kept already if possible.
+    /// Makes the moves since the last block a block: the one in `shared` that has the same moves, or else a new one,
+    /// which `shared` keeps.
     ///
     /// May return `NoMemory`.
     pub fn fold(&mut self, alloc: Global, shared: &mut Blocks) -> Result<(), NoMemory>

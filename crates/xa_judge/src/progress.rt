@@ -52,7 +52,7 @@ pub fn tell<P: Progress>(
     progress.judged(SoFar::of(done as u64, all as u64, known.len() as u64));
 }
 
-/// Tells that so many events are judged of all, and so many configurations are kept.
+/// Tells that `done` events of `all` are judged, and so many configurations are kept.
 fn tell_numbers<P: Progress>(progress: &mut P, done: usize, all: usize, configurations: usize)
     requires below { done < all }
     requires some { 0 < configurations }

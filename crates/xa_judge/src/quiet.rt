@@ -1,4 +1,4 @@
-//! Requests that change nothing.
+//! Requests that change nothing, and open calls for such a request that can take effect at once.
 ghost use Rattle.std.specs.Prelude.{◌≡◌, true, List, Some, slice_get, IfOk};
 ghost use Rattle.xa_server.specs.declared.association.Association.TheVariants.{Free};
 ghost use Rattle.xa_server.specs.State.{association_of};
@@ -32,7 +32,8 @@ fn says_none(answer: &Answer) -> bool
 fn is_outside(server: &KeptServer, session: SessionNo) -> Result<bool, NoMemory>
     ensures { IfOk result (λ outside. outside ≡ true → association_of server.now session ≡ Free) }
 {
-    // XA END is refused so, whatever it names, exactly if the session has no branch.
+    // XA END is refused as `says_none` says exactly if the session has no branch. So any identifier does, also an
+    // empty one.
     let nobody = Xid {
         format_id: 1,
         gtrid: Bytes::new(),
@@ -43,8 +44,8 @@ fn is_outside(server: &KeptServer, session: SessionNo) -> Result<bool, NoMemory>
     Ok(says_none(&answer))
 }
 
-/// Whether the request lists branches, or is known to read or leave while its session has no branch open: then it
-/// changes nothing, now and at any time before the session does something else.
+/// Whether the request lists branches, or is a `GET` or `DISCONNECT` of a session known to have no branch open. Then
+/// it changes nothing, now and at any time before the session does something else.
 fn is_quiet(server: &KeptServer, session: SessionNo, request: &Request) -> Result<bool, NoMemory>
     ensures { IfOk result (λ quiet. quiet ≡ true → IsQuiet server.now session request.now) }
 {
@@ -108,8 +109,9 @@ fn can_settle(one: &Configuration, session: SessionNo, seen: &Seen) -> Result<bo
     }
 }
 
-/// Returns the configuration after the session's call, which returns `seen`, has taken effect, if it can at once: it is
-/// known to change nothing, and would now be answered what it returns. Else the same one.
+/// Returns the configuration after the session's call, which returns `seen`, has taken effect, if it can at once: it
+/// is known to change nothing, and would now be answered what it returns. Else the same configuration. `lists` has the
+/// replies of `XA RECOVER` that configurations share.
 ///
 /// May return `NoMemory`.
 pub fn settled_one(
@@ -127,13 +129,13 @@ pub fn settled_one(
         return Ok(one);
     }
     match one.effected(session, Act::Statement, lists)? {
-        // Not so: its call is open.
+        // Never None: `can_settle` saw that the session's call is open.
         None => Ok(one),
         Some(next) => Ok(next),
     }
 }
 
-/// Whether the answer says that nothing was done.
+/// Whether the answer says that nothing was done: it is a refusal, or error 1064 for a text that isn't a statement.
 fn is_refusal(answer: &Answer) -> bool
     ensures { result ≡ refuses answer.now }
 {
@@ -146,7 +148,7 @@ fn is_refusal(answer: &Answer) -> bool
     }
 }
 
-/// Whether the request is answered now that nothing was done.
+/// Whether the request, if it took effect now, would be answered that nothing was done (`is_refusal`).
 fn is_refused_now(
     server: &KeptServer,
     session: SessionNo,
@@ -158,7 +160,8 @@ fn is_refused_now(
     Ok(is_refusal(&answer))
 }
 
-/// Whether the request lists branches, or reads or leaves while its session has no branch open: it changes nothing.
+/// Whether the request lists branches, or is a `GET` or `DISCONNECT` of a session known to have no branch open.
+/// `is_quiet` has the same body: its clause says which requests these are, and this one that they change nothing now.
 fn is_read_outside(
     server: &KeptServer,
     session: SessionNo,
@@ -174,7 +177,8 @@ fn is_read_outside(
     }
 }
 
-/// Returns whether the request is known to change nothing as things are.
+/// Returns whether the request is known to change nothing, if it takes effect now: it lists branches, reads or leaves
+/// outside of a branch (`is_read_outside`), or is refused.
 ///
 /// May return `NoMemory`.
 pub fn is_still_now(

@@ -19,7 +19,7 @@ use std::alloc::Global;
 use xa_server::{Reply, Server};
 use xa_xid::{NoMemory, SessionNo};
 
-/// Whether the session is known to have this answer.
+/// Whether in the configuration `one` the session is known to have this answer, which hasn't returned yet.
 fn has_answer(one: &Configuration, session: SessionNo, answer: &SharedAnswer) -> bool
     ensures { result ≡ true → slice_get one.now.clients.items session ≡ Some (Answered answer.now) }
 {
@@ -50,8 +50,8 @@ fn kept_way(
     Ok(None)
 }
 
-/// Whether there is a kept configuration in which the session has this answer, and the moves to it lead through the
-/// events and give that answer.
+/// Whether there is a kept configuration in which the session has this answer, and the moves to the first such one,
+/// carried out once more from `base`, lead through the events and give that answer.
 fn is_given(
     alloc: Global,
     base: &Server,
@@ -102,10 +102,10 @@ fn shows_none(seen: &Seen, answers: &[SharedAnswer]) -> bool
     true
 }
 
-/// Returns the verdict ILLEGAL at the return at this place, which shows `seen` to the session, if that is none of these
-/// answers and each of them is given by some order of the `first` events, which are those before the place. `answers`
-/// has all that can be given. Orders are looked for among those to the kept configurations `front`. None if the verdict
-/// isn't found so, also if there are no answers.
+/// Returns the verdict ILLEGAL at the return at this place, which shows `seen` to the session, if `seen` shows none of
+/// the `answers`, and some order of the `first` events, those before the place, gives each of these. `answers` has all
+/// that can be given. As orders only those are tried that led to a configuration kept in `front`. Else None, also if
+/// there are no answers.
 ///
 /// May return `NoMemory`.
 pub fn refuted(
@@ -129,7 +129,8 @@ pub fn refuted(
 {
     // Only the contract names them.
     let (_events, _limit) = (events, limit);
-    // Moves that give an answer also show that an order explains the events before the place, so there must be one.
+    // ILLEGAL says also that an order explains the events before the place. Moves that give an answer show that, so
+    // there must be an answer.
     if answers.is_empty() || !shows_none(seen, answers.as_slice()) {
         return Ok(None);
     }

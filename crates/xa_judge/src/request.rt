@@ -36,7 +36,7 @@ impl Request {
         }
     }
 
-    /// Returns what it would be answered.
+    /// Returns what the server would answer the session's request. Nothing takes effect.
     ///
     /// May return `NoMemory`.
     pub(crate) fn answer(&self, server: &Server, session: SessionNo) -> Result<Answer, NoMemory>
@@ -51,7 +51,7 @@ impl Request {
         }
     }
 
-    /// Has it take effect, and returns its answer.
+    /// Has the session's request take effect on the server, and returns its answer.
     ///
     /// May return `NoMemory`.
     pub(crate) fn carry_out(

@@ -11,7 +11,7 @@ const SERVER: usize = 32_768;
 /// part in lists of locks.
 const RECORD: usize = 512;
 
-/// No server with more records has room.
+/// A server with more records has no room: `BYTES` bytes don't hold even its records.
 pub const MOST_RECORDS: usize = BYTES / RECORD;
 
 /// Whether `room` bytes hold `count` servers, each of which takes `bytes` bytes in addition to this many records.
@@ -26,11 +26,12 @@ pub fn has_room(count: usize, records: usize) -> bool {
     holds_all(BYTES, count, SERVER, records)
 }
 
-/// How many bytes configurations with a server of their own each may take: with the rest, judging stays below 512 MiB.
+/// How many bytes configurations with a server of their own each may take: 384 MiB, so that with the rest judging
+/// stays below 512 MiB.
 const APART: usize = 402_653_184;
 
-/// What such a configuration takes in addition to its records, in bytes. With 16 sessions, four rows and three branches
-/// one was measured to take 6 KB in all.
+/// What such a configuration takes in addition to its records, in bytes: a usual figure, not the most (`SERVER`). With
+/// 16 sessions, four rows and three branches one was measured to take 6 KB in all.
 const APART_EACH: usize = 4_096;
 
 /// Tells whether memory holds `count` configurations with a server of its own each, which has this many records of rows

@@ -29,7 +29,7 @@ pub fn is_same_text(left: &Bytes, right: &Bytes) -> bool
     left.as_slice() == right.as_slice()
 }
 
-/// Tells whether two values are the same, or both are missing.
+/// Tells whether two values are the same, or both are missing (None).
 pub fn is_same_value(left: &Option<Bytes>, right: &Option<Bytes>) -> bool
     ensures exact { result ≡ same_values left.now right.now }
     ensures same { result ≡ true → left.now ≡ right.now }
@@ -63,7 +63,7 @@ pub fn is_same_rows(left: &[Xid], right: &[Xid]) -> bool
     }
 }
 
-/// Tells whether two lists have the same identifiers in the same order.
+/// Tells whether two lists have the same identifiers in the same order; the second has ones that other lists may own.
 pub fn is_same_listed(left: &[Xid], right: &[SharedXid]) -> bool
     ensures exact { result ≡ same_rows left.now right.now }
     ensures same { result ≡ true → left.now ≡ right.now }

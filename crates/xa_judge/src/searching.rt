@@ -14,13 +14,13 @@ use std::alloc::Global;
 use xa_server::Server;
 use xa_xid::NoMemory;
 
-/// How many configurations are kept at a time. If a search with the first number finds no order, the next one
-/// is tried: few are fast, and mostly enough.
+/// The greatest number of configurations that a search keeps after an event. If a search with the first number finds
+/// no order, the next one is tried: few are fast, and mostly enough.
 const WIDTHS: [usize; 3] = [8, 32, 256];
 
-/// Moves that may lead through all of the events, if a search finds some that keeps at most `width` configurations at
-/// a time; else None. It gives up after about `left` effects, and takes those that it tried off `left`. `before` other
-/// events come before these; they only count for `progress`.
+/// Moves that may lead through all of the events, if a search that keeps at most `width` configurations after each
+/// event finds some; else None. The search gives up after about `left` effects, and takes those that it tried off
+/// `left`. `before` other events come before these; they matter only for `progress`.
 fn moves_within<P: Progress>(
     alloc: Global,
     base: &Server,
@@ -48,7 +48,8 @@ fn moves_within<P: Progress>(
         }
         share(alloc, place, &mut trunk, &mut beam.known)?;
     }
-    // It isn't: it had one at first, and was looked at after each event. But `path_of` requires one.
+    // Never empty: the beam begins with one configuration, and after each event the loop has seen that one is left.
+    // But `path_of` requires one.
     if beam.known.is_empty() {
         return Ok(None);
     }
@@ -56,7 +57,7 @@ fn moves_within<P: Progress>(
 }
 
 /// Moves that may lead through all of the events, if a search of this size finds some with one of the `WIDTHS`, tried
-/// in turn; else None. `before` other events come before these; they only count for `progress`.
+/// in turn; else None. `before` other events come before these; they matter only for `progress`.
 fn moves_behind<P: Progress>(
     alloc: Global,
     base: &Server,
@@ -71,7 +72,8 @@ fn moves_behind<P: Progress>(
         (λ _. IsToldUpTo P.judged_gives (before + length events.now) (before + length events.now) progress.old
         progress.new)) }
 {
-    // So many effects may be tried with all widths together. Once none is left, the other widths give up at once.
+    // So many effects may be tried with all widths together. Once none is left, each other width gives up after one
+    // event.
     let mut left = size.effects(events.len());
     for width in WIDTHS {
         match moves_within(alloc, base, before, events, width, &mut left, progress)? {
@@ -85,10 +87,10 @@ fn moves_behind<P: Progress>(
 /// Returns moves that may lead through all of the events, if a search of this size finds some. Its caller has to
 /// check them. None says nothing about the events.
 ///
-/// The search looks at no order in which a call is answered otherwise than it returns. It keeps the
-/// configurations with the fewest stuck calls, whose answers, given now, wouldn't be what they return; first few
-/// configurations, then more. It begins where calls overlap, on a server that hasn't carried out the calls before
-/// that which name rows that no later call names.
+/// The search looks at no order in which a call is answered otherwise than it returns. It keeps the configurations
+/// with the fewest stuck calls, whose answers, given now, wouldn't be what they return; first few configurations, then
+/// more. It begins where calls overlap. Its server has carried out the calls before that, except those that name a row
+/// which no later call names.
 /// May return `NoMemory`.
 pub fn moves_through<P: Progress>(
     alloc: Global,
@@ -101,7 +103,7 @@ pub fn moves_through<P: Progress>(
         (ArePasses P.judged_gives (length events.now) progress.old progress.new)
         (λ _. IsToldUpTo P.judged_gives (length events.now) (length events.now) progress.old progress.new)) }
 {
-    // `count_alone` is never more, but promises nothing, and `split_at` requires it.
+    // `count_alone` is never more than `events.len()`, but promises nothing, and `split_at` requires it.
     let (first, later) = events.split_at(count_alone(events).min(events.len()));
     let near = server_for(alloc, base, first, later)?;
     match moves_behind(alloc, &near, first.len(), later, size, progress)? {

@@ -60,7 +60,8 @@ impl Configuration {
         }
     }
 
-    /// How far the session is once its client is gone; None if it was gone before. An open call may still take effect.
+    /// How far the session is once its client is gone; None if it was gone before. An open call that hasn't taken
+    /// effect may still do so; an answer that hasn't returned is forgotten.
     #[tactic(auto, unfolding(crate::specs::Explained::observed, crate::specs::Explained::lost))]
     fn after_loss(&self, session: SessionNo) -> Result<Option<ClientState>, NoMemory>
         ensures config { IfOk result (λ client. option_map (with_client (config_of self.now) session) client

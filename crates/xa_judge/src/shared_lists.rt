@@ -14,7 +14,9 @@ use xa_xid::{NoMemory, Xid};
 /// fingerprint the newest is kept.
 #[derive(Drop)]
 pub struct SharedLists {
+    /// The newest list of each fingerprint.
     newest: BTreeMap<u64, SharedAnswer>,
+    /// The newest identifier of each fingerprint.
     xids: BTreeMap<u64, SharedXid>,
     alloc: Global,
 }
@@ -51,7 +53,7 @@ impl SharedLists {
         Ok(shared)
     }
 
-    /// The identifiers, to be shared.
+    /// The identifiers, to be shared, in their order: each as `with_xid` gives it.
     fn with_xids(&mut self, xids: &[Xid]) -> Result<Vec<SharedXid>, NoMemory>
         ensures { IfOk result (λ names. names.items ≡ xids.now) }
     {

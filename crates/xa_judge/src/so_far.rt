@@ -15,7 +15,7 @@ pub struct SoFar {
 }
 
 impl SoFar {
-    /// So many events are judged of all, and so many configurations are kept.
+    /// Returns a report that `done` events of `all` are judged, and that so many configurations are kept.
     pub(crate) fn of(done: u64, all: u64, configurations: u64) -> SoFar
         requires below { done < all }
         requires some { 0 < configurations }

@@ -20,9 +20,11 @@ use crate::shared_lists::SharedLists;
 use std::alloc::Global;
 use xa_xid::{NoMemory, SessionNo, Statement, Xid};
 
-/// The configuration after the session's statement, which is its request, has taken effect, if it is known to be a step
-/// of this branch now, and each call that other sessions have open, or make until it returns, to have nothing to do
-/// with it or to be answered only after it; else the same one. `from` is the place of the next event.
+/// The configuration `kept` after the session's statement, which is its `request`, has taken effect, if two things are
+/// known: the statement is a step of the branch `xid` now, and each call that other sessions have open, or make until
+/// it returns, has nothing to do with it or is answered only after it. Else `kept` itself. `places` has what is known
+/// of open calls, `from` is the place of the next event, and `lists` has the replies of `XA RECOVER` that
+/// configurations share.
 fn stepped_one(
     kept: Configuration,
     events: &[Event],
@@ -41,6 +43,7 @@ fn stepped_one(
 {
     let about = kept.server.keys_about(session, statement)?;
     let rows = about.as_slice();
+    // Of the three, `takes_step` comes last: it alone has the server answer requests, which takes longest.
     if !are_open_aside(events, from, places, session, statement, xid, rows)
         || !are_calls_aside(events, from, session, statement, xid, rows)
         || !takes_step(&kept, session, request, statement, xid, rows)?
@@ -48,14 +51,15 @@ fn stepped_one(
         return Ok(kept);
     }
     match kept.effected(session, Act::Statement, lists)? {
-        // Not so: `takes_step` saw that the call is open.
+        // Never None: `takes_step` saw that the session's call is open.
         None => Ok(kept),
         Some(next) => Ok(next),
     }
 }
 
-/// The configurations, each after the step if the session can take it there (`stepped_one`), from the last one on. Of
-/// those that are known to be the same then one is kept.
+/// The configurations, each after the session's statement if it can be taken there as a step of the branch `xid`
+/// (`stepped_one`). They are gone through from the last one on. Of those that are then known to be the same, one is
+/// kept. The call isn't noted as never heard of: `stepped_for` leaves such a call out.
 fn stepped_all(
     alloc: Global,
     mut known: Vec<Configuration>,
@@ -73,6 +77,7 @@ fn stepped_all(
     ensures { IfOk result (λ list. KeepsEnds (hints_of events.now places.now) (drop from events.now) known.items
         list.items) }
 {
+    // The index serves the new list from here on.
     index.clear();
     let mut list = Vec::new(alloc);
     while let Some(one) = known.pop() {
@@ -131,9 +136,9 @@ fn last_started(events: &[Event], from: usize, session: SessionNo) -> Option<Xid
     None
 }
 
-/// The configurations, each after this request of the session has taken effect if there it is a step of the session's
-/// branch that may come first (`stepped_one`). They stay as they are if the request is no statement or its branch isn't
-/// found (`branch_of`), or if it is known that no event shows the request's answer.
+/// The configurations, each after this request of the session has taken effect, if in that configuration it is a step
+/// that may come first (`stepped_one`). They stay as they are if the request is no statement or its branch isn't found
+/// (`branch_of`), or if it is known that no event shows the request's answer.
 fn stepped_for(
     alloc: Global,
     known: Vec<Configuration>,
@@ -153,7 +158,8 @@ fn stepped_for(
     let Some(xid) = branch_of(events, from, session, statement) else {
         return Ok(known);
     };
-    // A call that isn't heard of any more was tried when it was made, before that was noted.
+    // A call that isn't heard of any more was tried directly after it was made, before it was noted as such
+    // (`sweep_on`).
     if !may_be_heard(events, places, session) {
         return Ok(known);
     }
@@ -163,7 +169,7 @@ fn stepped_for(
     Ok(list)
 }
 
-/// Whether there is a configuration in which the session's call hasn't taken effect.
+/// Whether there is a configuration in which the session's call is open and hasn't taken effect.
 fn is_called(known: &[Configuration], session: SessionNo) -> bool {
     for one in known {
         if let Some(ClientState::Called(_)) = one.client(session) {
@@ -173,8 +179,9 @@ fn is_called(known: &[Configuration], session: SessionNo) -> bool {
     false
 }
 
-/// The configurations, each after the open call of the session of this number has taken effect if there it is a step
-/// that may come first (`stepped_one`). They stay as they are if `places` knows of no open call of that session.
+/// The configurations, each after the open call of the session of this number has taken effect, if in that
+/// configuration it is a step that may come first (`stepped_one`). They stay as they are if `places` has no open call
+/// of that session.
 fn stepped_at(
     alloc: Global,
     known: Vec<Configuration>,
@@ -213,10 +220,10 @@ fn stepped_at(
     Ok(list)
 }
 
-/// Returns the configurations, each after the calls open before the place `from` have taken effect that are there known
-/// to be steps of their sessions' branches which may come first: each call that other sessions have open, or make until
-/// the step returns or else up to the end, has nothing to do with it or is answered only after it. `places` has what is
-/// known of open calls.
+/// Returns the configurations, each after those open calls have taken effect that are known to be steps of their
+/// sessions' branches in that configuration, and may come first. A step may if each call that other sessions have
+/// open, or make until the step returns, or up to the end if it doesn't, has nothing to do with it or is answered only
+/// after it. `places` has what is known of the calls that are open before the place `from`.
 ///
 /// A step that had to wait for another call is tried again after each event.
 /// May return `NoMemory`.

@@ -9,7 +9,7 @@ use crate::moves::Move;
 use std::alloc::Global;
 use xa_xid::NoMemory;
 
-/// After how many events configurations are made to share what led to them: more often would take time, more
+/// After how many events each time configurations are made to share what led to them: more often would take time, more
 /// seldom memory.
 const APART: usize = 64;
 
@@ -22,7 +22,7 @@ fn shorten(trunk: &mut Vec<Move>, known: &mut Vec<Configuration>) -> Result<(), 
         return Ok(());
     }
     match known.pop() {
-        // Not so: the list has one.
+        // Never None: the list has one.
         None => Ok(()),
         Some(only) => {
             only.path.add_to(trunk)?;
@@ -43,7 +43,8 @@ pub fn path_of(mut trunk: Vec<Move>, known: &[Configuration]) -> Result<Vec<Move
     Ok(trunk)
 }
 
-/// Has the configurations share equal blocks of the moves and requests that led to them.
+/// Has the configurations share equal blocks of the moves and requests that led to them: each puts its newest ones
+/// into a block.
 fn fold_all(alloc: Global, known: &mut Vec<Configuration>) -> Result<(), NoMemory>
     ensures { OnOk result (known.new.items ≡ known.old.items) }
 {
@@ -56,8 +57,8 @@ fn fold_all(alloc: Global, known: &mut Vec<Configuration>) -> Result<(), NoMemor
     Ok(())
 }
 
-/// Has the configurations share what led to them, as far as possible, after the event at this place: the path of the
-/// only one goes to the trunk, and every `APART` events equal blocks are shared.
+/// Has the configurations share what led to them, as far as possible, after the event at this place. If only one is
+/// left, its path goes to the trunk. After every `APART` events, equal blocks are shared.
 ///
 /// May return `NoMemory`.
 pub fn share(
@@ -69,6 +70,7 @@ pub fn share(
     ensures { OnOk result (IsShortened trunk.old.items trunk.new.items known.old.items known.new.items) }
 {
     shorten(trunk, known)?;
+    // Places count from 0: the event at the place `APART - 1` is the one numbered `APART`.
     if place % APART == APART - 1 {
         fold_all(alloc, known)?;
     }

@@ -1,4 +1,5 @@
-//! The ways to a verdict that tell how far they are, each by itself.
+//! The ways to a verdict that tell how far they are, each by itself; and the telling afterwards for a way that
+//! doesn't.
 ghost use Rattle.std.specs.Prelude.{◌+◌, ◌^◌, ◌<◌, length, IfOk, IfSome};
 ghost use Rattle.xa_judge.specs.Told.{AreReports, IsToldOf, IsSizeOfKept, seen_for};
 ghost use Rattle.xa_judge.specs.Verdicts.{IsVerdict};
@@ -21,8 +22,8 @@ use xa_xid::NoMemory;
 const NARROW: usize = 8;
 
 /// Judges the events by all configurations to which they can lead with acts as late as they can be. If acts that may
-/// have to come before an event are found to lead to more than `limit` different ones, the verdict is UNDECIDED.
-/// `before` other events were judged already; it only counts for `progress`.
+/// have to come before an event are found to lead to more than `limit` different configurations, the verdict is
+/// UNDECIDED. `before` other events were judged already; that number matters only for `progress`.
 ///
 /// May return `NoMemory`.
 pub fn judge_in_breadth<P: Progress>(
@@ -111,6 +112,7 @@ pub fn judge_by_search<P: Progress>(
     match moves_through(alloc, base, events, size, progress)? {
         None => Ok(None),
         Some(moves) => {
+            // Nothing is promised of the search, so its moves are checked.
             if follows(alloc, base, events, moves.as_slice())? {
                 Ok(Some(Verdict::Legal(moves)))
             } else {
@@ -146,6 +148,7 @@ pub fn tell_verdict<P: Progress>(
             tell_first(progress, events, place + 1);
             Some(Verdict::Illegal(place, answers))
         }
+        // Another way may decide.
         Some(Verdict::Undecided(_)) => None,
     }
 }

@@ -47,12 +47,12 @@ begins_filled line rest lines cut filled =
     ap begins_commented cut ∙ not_chosen (is_empty_line (unblank line)) (begins_commented lines) (is_comment_line line)
     (empty_line (unblank line) ∙ filled)
 
--- if no line is left, and those before were blank, the script begins with no comment
+-- a text without a line doesn't begin with a comment
 pub begins_none : (rest : List ℕ) → (length rest == 0) ≡ true → begins_commented (lines_of rest) ≡ false
 unfolding begins_commented
 begins_none rest empty = ap begins_commented (lines-none rest empty)
 
--- the loop over lines: one more was written, blank if it was a comment
+-- the loop over lines: one more was written, blank if it was a comment, and those behind it are left
 pub bare_more : (whole old more new line rest : List ℕ) (lines : List (List ℕ)) → lines_of rest ≡ line ∷ lines
     → whole ≡ old ++ bare_lines (lines_of rest)
     → more ≡ old ++ bare_line line → new ≡ more ++ 10 ∷ [] → whole ≡ new ++ bare_lines lines

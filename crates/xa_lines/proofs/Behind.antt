@@ -46,7 +46,8 @@ pub reply_answers : (state : State) (session : ℕ) (statement : Statement) (rep
 reply_answers state session statement reply told is words =
     words (converts statement) ∙ ap (λ r. answer_text (decimal session) (reply_text (converts statement) r)) is
 
--- an answer that takes memory: it is the statement's, or memory was refused for it
+-- if memory may be refused for a statement, the text for a result answers it: after Ok its own answer, with the state
+-- after it; after Err that memory was refused, with the old state
 pub text_answered : {A E : Type 0} (items : A → List ℕ) (result : Result A E) (old new : State) (session : ℕ)
     (read : Result Statement ℕ) (text : List ℕ)
     → MayBeRefused old session read → IfOk result (λ answer. items answer ≡ answer_to old session read)

@@ -12,17 +12,18 @@ use Rattle.xa_lines.specs.declared.script_fault.ScriptFault.{ScriptFault}
 use Rattle.xa_lines.specs.declared.script_fault.ScriptFault.TheVariants.{Read, Write, NoMemory}
 
 module _ {S : Type 0} (passes : S → List ℕ → S → Type 0) where
-  -- no calls pass no bytes
+  -- without a call no byte passes, and the stream stays as it is
   pub carries_none : (stream : S) → Carries passes 0 stream [] stream
   unfolding Carries
   carries_none stream = (refl, refl)
 
-  -- no calls pass bytes that are none
+  -- without a call an empty text passes, and the stream stays as it is
   pub carries_empty : (stream : S) (bytes : List ℕ) → bytes ≡ [] → Carries passes 0 stream bytes stream
   unfolding Carries
   carries_empty stream bytes none = (refl, none)
 
-  -- after calls, one more that passes at least one byte: all of them pass the bytes of both
+  -- if calls pass bytes, and one more passes a piece of at least one byte, all of them pass the bytes and then that
+  -- piece
   pub carries_more : (count : ℕ) (old mid new : S) (before piece bytes : List ℕ) → Carries passes count old before mid
       → passes mid piece new
       → 0 < length piece → bytes ≡ before ++ piece → Carries passes (count + 1) old bytes new
@@ -32,7 +33,7 @@ module _ {S : Type 0} (passes : S → List ℕ → S → Type 0) where
       let P : ℕ → Type 0 = λ n. Carries passes n old bytes new in
       subst P next (mid, before, piece, done, now, some, is)
 
-  -- calls, and then others: all of them pass the bytes of both
+  -- if calls pass bytes, and then others pass bytes, all of them pass the first bytes and then the others
   pub carries_joined : (first second : ℕ) (old mid new : S) (before after : List ℕ)
       → Carries passes first old before mid → Carries passes second mid after new
       → Carries passes (first + second) old (before ++ after) new
@@ -58,7 +59,8 @@ module _ {S : Type 0} (passes : S → List ℕ → S → Type 0) where
             ∙ sym (append_assoc before now.1 now.2),
       )
 
-  -- after fewer reads than are allowed, one that gives nothing: all was read
+  -- if fewer reads than are allowed gave a text, and one more gives nothing, that text is all that was read
+  -- (`HasReadAll`)
   pub read_to_end : (reads count n : ℕ) (old last new : S) (text piece : List ℕ) → n ≡ 0 → count < reads
       → Carries passes count old text last
       → passes last (take n piece) new → HasReadAll passes reads old text new
@@ -66,7 +68,7 @@ module _ {S : Type 0} (passes : S → List ℕ → S → Type 0) where
       let P : ℕ → Type 0 = λ k. passes last (take k piece) new in
       record { count = count; last = last; within = within; calls = calls; end = subst P none now }
 
-  -- after reads, one more that gives at least one byte: all of them give the text and that piece
+  -- if reads gave a text, and one more gives a piece of at least one byte, all of them give the text and that piece
   pub read_more : (count n : ℕ) (old mid new : S) (text piece : List ℕ) → 0 < n → n ≤ length piece
       → Carries passes count old text mid
       → passes mid (take n piece) new → Carries passes (count + 1) old (text ++ take n piece) new
@@ -74,7 +76,8 @@ module _ {S : Type 0} (passes : S → List ℕ → S → Type 0) where
       let longer : 0 < length (take n piece) = omega (arith, length-take n piece) in
       carries_more count old mid new text (take n piece) (text ++ take n piece) calls now longer refl
 
-  -- after the first bytes were written, a write that takes at least one of the rest: so many more were written
+  -- if the first bytes of a text were written, and a write takes at least one of the rest, the first bytes up to there
+  -- are written
   pub written_next : (old mid new : S) (bytes : List ℕ) (written n : ℕ) → HasWritten passes old (take written bytes) mid
       → passes mid (take n (take (length bytes - written) (drop written bytes))) new → 0 < n
       → n ≤ length (take (length bytes - written) (drop written bytes))
@@ -160,7 +163,7 @@ stops_for_fault {A} gives fails reads most old new result passed fault is same o
     let Q : ScriptFault → Type 0 = λ told. StopsReading gives fails reads most told old new in
     subst P (sym is) (subst Q (sym (same ∙ of_read)) (inl failed))
 
--- of a result that is an Err, what is to hold of an Err is enough
+-- if a result is an Err, it is enough that what is promised after an Err holds
 pub writing_stopped : {A E : Type 0} (P : A → Type 0) (Q : Type 0) (result : Result A E) (fault : E)
     → result ≡ Err fault → Q → MatchResult result P (λ _. Q)
 writing_stopped {A} {E} P Q result fault is stops =

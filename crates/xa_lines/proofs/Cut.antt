@@ -94,7 +94,8 @@ pub received_line-nothing : Whole [] ≡ received_line []
 unfolding received_line
 received_line-nothing = refl
 
--- one byte more of a line: it is kept, or the line is too long
+-- one byte more for what is kept of a line gives what is kept of the line with that byte; `b` says whether the line
+-- without it has at most 65,536 bytes
 longer_by : (b : Bool) (line : List ℕ) (byte : ℕ) → nat_le (length line) 65536 ≡ b
     → longer (cond b (Whole line) TooLong) byte ≡ received_line (line ++ byte ∷ [])
 unfolding received_line
@@ -103,7 +104,8 @@ longer_by false line byte long =
     let more : nat_le (length (line ++ byte ∷ [])) 65536 ≡ false = grind (arith, nat_tests, length-append) in
     rw more refl
 
--- a byte makes the line longer by that byte, or too long
+-- one byte more for what is kept of a line gives what is kept of the line with that byte: all of it, or that it is too
+-- long
 pub received_line-longer : (line : List ℕ) (byte : ℕ) → longer (received_line line) byte
     ≡ received_line (line ++ byte ∷ [])
 unfolding received_line

@@ -1,4 +1,4 @@
--- What has been written of a text, and what is left of it.
+-- Lines as objects of JSON: what has been written and what is left, and which form fits a line.
 use Rattle.std.proofs.Common.{◌≡◌, ℕ, ◌+◌, ◌<◌, ◌==◌, Bool, true, false, List, [], ◌∷◌, ◌++◌, length, take, get_or}
 use Rattle.std.proofs.Common.{drop, map, codes, Bor, ◌≤◌, refl, ap, sym, ◌∙◌, arith}
 use Rattle.std.proofs.Common.{append_assoc, append-nil}
@@ -12,7 +12,7 @@ use Rattle.xa_lines.specs.Script.{lines_of, is_empty_line}
 use Rattle.xa_lines.specs.Objects.{mark_of, part_fits_as, left_as, parts_fit, part_tokens_as, parts_tokens, fits}
 use Rattle.xa_lines.specs.Objects.{first_fit, form_for, object_line, objects_of}
 
--- the loop over characters: one more is encoded
+-- the loop over characters: after one more is encoded, all characters up to it are
 pub characters_more : (text old new : List ℕ) (index : ℕ) → index < length text
     → old ≡ encode_utf8_all (take index text)
     → new ≡ old ++ encode_utf8 (get_or text index 0)
@@ -68,7 +68,7 @@ pub fit_ends : (parts line : List ℕ) → (length parts == 0) ≡ true → part
 unfolding parts_fit
 fit_ends parts line empty = ap (λ l. parts_fit l line) (lines-none parts empty) ∙ empty_line line
 
--- the loop over a form's parts: the member of one more is written
+-- the loop over a form's parts: the member of one more is written, and those of the parts behind it are left
 pub members_more : (whole old new : List Token) (part parts line : List ℕ) (more : List (List ℕ))
     → lines_of parts ≡ part ∷ more
     → whole ≡ old ++ parts_tokens (lines_of parts) line → new ≡ old ++ part_tokens_as (mark_of part) part line
@@ -87,7 +87,7 @@ unfolding parts_tokens
 members_end whole new parts line empty is =
     sym (is ∙ ap (λ l. new ++ parts_tokens l line) (lines-none parts empty) ∙ append-nil new)
 
--- the loop over lines: the object of one more is written
+-- the loop over lines: the object of one more is written, and those of the lines behind it are left
 pub objects_more : (whole old new line text : List ℕ) (lines : List (List ℕ)) → lines_of text ≡ line ∷ lines
     → whole ≡ old ++ objects_of (lines_of text)
     → new ≡ old ++ object_line line → whole ≡ new ++ objects_of lines
@@ -102,7 +102,8 @@ pub objects_end : (whole new text : List ℕ) → (length text == 0) ≡ true �
 unfolding objects_of
 objects_end whole new text empty is = sym (is ∙ ap (λ l. new ++ objects_of l) (lines-none text empty) ∙ append-nil new)
 
--- the object of a line was written: its beginning, its members, and its end
+-- once the beginning, the members and the end of a line's object are written, and a line feed, the object's line is
+-- written
 pub object_done : (text items more line : List ℕ) (one two three : List Token) → one ≡ begin_object ∷ []
     → two ≡ one ++ parts_tokens (lines_of (form_for line)) line → three ≡ two ++ end_object ∷ []
     → items ≡ text ++ print three
@@ -114,7 +115,8 @@ object_done text items more line one two three first second third written ended 
     ended ∙ ap (λ l. l ++ codes "\n") (written ∙ ap (λ l. text ++ print l) all)
     ∙ append_assoc text (print (begin_object ∷ (parts ++ end_object ∷ []))) (codes "\n")
 
--- the first form that fits, among those from a place on: the one there, or one behind it
+-- the first form that fits, among those from a place on, is the one there if it fits, or else the first that fits
+-- behind it
 first_of_rest : (forms : List (Bor (List ℕ))) (line : List ℕ) (index : ℕ) (d : Bor (List ℕ)) → index < length forms
     → first_fit (map (λ form. form.now) (drop index forms)) line
     ≡ (if fits (get_or forms index d).now line
@@ -152,7 +154,7 @@ form_next forms line index d within is fit =
     is ∙ first_of_rest forms line index d within ∙ left_if (fits (get_or forms index d).now line) (get_or forms index
     d).now _ fit
 
--- the loop over forms ends: no form fits the line
+-- the loop over forms ends: no form fits the line, so the form for it is `=text`
 pub form_none : (forms : List (Bor (List ℕ))) (line : List ℕ) (index : ℕ) → length forms ≤ index
     → form_for line ≡ first_fit (map (λ form. form.now) (drop index forms)) line → codes "=text" ≡ form_for line
 unfolding first_fit

@@ -38,7 +38,7 @@ unfolding lines_of
 last_cut true byte = refl
 last_cut false byte = refl
 
--- the first line, and the lines of what stands after its line feed
+-- the lines of a text that isn't empty are its first line and the lines of what stands after that line's line feed
 pub lines_of-cut : (text : List ℕ) → 0 < length text → lines_of text
     ≡ take (first_length text) text ∷ lines_of (drop (first_length text + 1) text)
 unfolding lines_of
@@ -80,7 +80,8 @@ pub filled-given : (line text word rest : List ℕ) (session : ℕ) → line_of 
 filled-given line text word rest session is at after some =
     rw after (sym (is ∙ ap (λ s. line_given s (unblank (after_word text))) (ap session_named (sym at) ∙ some)))
 
--- the lines of a text are its first line and the lines behind that line's line feed
+-- if a text that isn't empty is split before its first line feed, its lines are the part before and the lines behind
+-- that line feed
 pub lines_of-split : (text line rest lines : List ℕ) → 0 < length text → line ≡ take (first_length text) text
     → rest ≡ drop (first_length text) text
     → lines ≡ drop 1 rest

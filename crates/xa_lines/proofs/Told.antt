@@ -156,7 +156,7 @@ pub bad_answered : (state : State) (line : Line) (text : List ℕ) → Bad ≡ l
 unfolding answer_of state_after_line
 bad_answered state line text is told = (rw (← is) told, rw (← is) refl)
 
--- the text of the answer to a bad line
+-- the answer to a bad line is `- ERROR 1064 (42000): syntax fault at byte 0`
 pub bad_text : codes "-" ++ codes " ERROR 1064 (42000): syntax fault at byte 0\n"
     ≡ answer_text (codes "-") (syntax_text 0)
 bad_text =
@@ -164,7 +164,8 @@ bad_text =
     decimal_digit 0 (lit< tt) in ap (λ d. answer_text (codes "-")
     (codes "ERROR 1064 (42000): syntax fault at byte " ++ d)) (sym e)
 
--- the answer to a statement for which memory was refused: its session's number, and the text of ERROR 1037
+-- a session's number and the text of ERROR 1037 are the answer to a statement of that session for which memory was
+-- refused
 pub refused_text-parts : (who : List ℕ) (session : ℕ) → who ≡ decimal session
     → who ++ codes " ERROR 1037 (HY001): out of memory\n" ≡ refused_text session
 refused_text-parts who session is = rw is (simp append_assoc)

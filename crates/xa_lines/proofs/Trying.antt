@@ -11,7 +11,8 @@ module _ {S : Type 0} (takes : S → List ℕ → S → Type 0) (interrupts : S 
   unfolding Tries
   tried_none stream = (refl, refl)
 
-  -- after writes took the first bytes of a text, one more try that takes some of the rest, or none
+  -- if tries took the first bytes of a text, and one more takes some of the rest, or is interrupted and takes none,
+  -- all of them took the first bytes and those
   pub tried_next : (count : ℕ) (old mid new : S) (text : List ℕ) (written n : ℕ)
       → Tries takes interrupts count old (take written text) mid
       → IsTry takes interrupts mid (take n (take (length text - written) (drop written text))) new
@@ -25,7 +26,8 @@ module _ {S : Type 0} (takes : S → List ℕ → S → Type 0) (interrupts : S 
       let P : ℕ → Type 0 = λ k. Tries takes interrupts k old (take (written + n) text) new in
       subst P next (mid, take written text, piece, before, now, is)
 
-  -- if writes took the first bytes of a text, and no further one was tried, that is how trying stops
+  -- if writes took the first bytes of a text, and the last one failed or took nothing, or all tries are spent, trying
+  -- stopped after these bytes (`StopsTrying`)
   pub tried_part : (count : ℕ) (old last new : S) (text : List ℕ) (written : ℕ)
       → (refuses : S → S → Type 0) → Tries takes interrupts count old (take written text) last
       → IsLastTry takes refuses count last new → StopsTrying takes interrupts refuses old text new

@@ -16,7 +16,7 @@ use Rattle.xa_lines.proofs.Cut.{cut_none, cut_more, cut_feed, lines_of-cut, line
 use Rattle.xa_lines.proofs.Cut.{lines_of-nothing, nothing_begun}
 use Rattle.xa_lines.proofs.Cut.{received_line-nothing, received_line-longer}
 
--- a read that gives at least one byte keeps reads no more than bytes
+-- if there were no more reads than bytes received, there still aren't after a read that gives at least one byte
 longer_received : (reads n : ℕ) (received piece : List ℕ) → (n == 0) ≡ false → n ≤ length piece
     → reads ≤ length received → reads + 1 ≤ length (received ++ take n piece)
 longer_received reads n received piece some within before = grind (arith, nat_tests, length-append, length-take)

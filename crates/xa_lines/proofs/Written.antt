@@ -6,13 +6,14 @@ use Rattle.std.proofs.Math.Seq.{take-add}
 use Rattle.std.specs.Io.KnownBytes.{Appends, Keeps}
 use Rattle.std.proofs.KnownBytes.{Appends-trans}
 
--- a piece that makes the text longer than is allowed makes it too long
+-- if a text and so many bytes of a piece are together longer than is allowed, so is the text with those bytes at its
+-- end
 pub length-piece : (most : ℕ) (script piece : List ℕ) (count : ℕ) → most < length script + count → count ≤ length piece
     → most < length (script ++ take count piece)
 length-piece most script piece count long within =
     omega (arith, length-append script (take count piece), length-take count piece)
 
--- a part of a text that was written, and the part behind it, are one part
+-- if the first bytes of a text were written, and then some of those behind them, all of these were written as one part
 pub Appends-more : (first second third : Option (List ℕ)) (bytes : List ℕ) (written count : ℕ)
     → Appends first second (take written bytes)
     → Appends second third (take count (take (length bytes - written) (drop written bytes)))
@@ -30,7 +31,7 @@ kept_by_nothing None new taken = tt
 kept_by_nothing (Some old) None taken = absurd taken
 kept_by_nothing (Some old) (Some new) taken = taken ∙ append-nil old
 
--- what takes nothing leaves the bytes as they are
+-- a write that took no byte keeps what was written
 pub Keeps-nothing : (old new : Option (List ℕ)) (count : ℕ) (bytes : List ℕ) → count ≡ 0
     → Appends old new (take count bytes) → Keeps old new
 Keeps-nothing old new count bytes none taken =

@@ -9,7 +9,8 @@
 --     StopsWriting     a write failed before all bytes were written
 --     Completes        all of a script was read, and all of its text written
 --     Stops            why a script's text wasn't written
--- A fault is told only where the last call on a stream is the one that had it: a stream that failed isn't called again.
+-- A stream's fault is told only if the last call on the stream is the one that had it: a stream that failed isn't
+-- called again.
 use Rattle.std.specs.Prelude.{◌≡◌, ◌⊎◌, ℕ, zero, suc, ◌<◌, ◌≤◌, List, [], ◌++◌, length}
 use Rattle.xa_lines.specs.declared.script_fault.ScriptFault.{ScriptFault}
 use Rattle.xa_lines.specs.declared.script_fault.ScriptFault.TheVariants.{Read, TooLong, Write, NoMemory, Full, GateShut}

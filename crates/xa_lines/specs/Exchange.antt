@@ -15,12 +15,12 @@ pub record Exchange : Type 0 where
   pub received : List ℕ
   -- what was given to be said
   pub given : List ℕ
-  -- as much of it as was surely said: what was given before the last flush
+  -- as much of it as was surely said: what was given before the last flush, if that didn't fail
   pub told : List ℕ
   -- whether more may be received
   pub stage : Stage
 
--- nothing was received, taken or told yet, and the client may send
+-- nothing was received, given or told yet, and the client may send
 abbrev pub IsFresh : Exchange → Type 0
 IsFresh exchange = (exchange.received ≡ []) × (exchange.given ≡ []) × (exchange.told ≡ []) × (exchange.stage ≡ Open)
 
@@ -29,7 +29,7 @@ abbrev pub with_received : Exchange → ℕ → List ℕ → Exchange
 with_received exchange n piece =
     record exchange { received = exchange.received ++ take n piece; stage = cond (n == 0) Ended Open }
 
--- a read adds what it gives to what was received, or else the client is deaf from then on
+-- a read adds what it gives to what was received; if it fails, the client is deaf from then on
 abbrev pub Receives : {E : Type 0} → Option Exchange → Option Exchange → Result ℕ E → List ℕ → Type 0
 Receives None None result piece = ⊤
 Receives None (Some new) result piece = ⊥

@@ -1,6 +1,7 @@
 -- What the lines of a text are as objects of JSON.
 -- Every rule here is the project's own: docs/COMMANDS.md#output-as-json.
--- A form is a text with one part on each of its lines. The first byte of a part is its mark.
+-- A form is a text with one part on each of its lines. The first byte of a part may be a mark; a part without one
+-- stands for itself.
 --     number_said      the number that a word is
 --     mark_of          what a part stands for
 --     part_fits_as     a part fits what a text begins with
@@ -57,7 +58,8 @@ abbrev pub mark_of : List ℕ → Mark
 mark_of [] = Word
 mark_of (byte ∷ rest) = mark_by byte
 
--- whether a part with this mark fits what a text begins with; `Undecided` fits only a text that is just this word
+-- whether a part with this mark fits what a text begins with; `Undecided` fits only a text that is just the word
+-- UNDECIDED
 abbrev pub part_fits_as : Mark → (part text : List ℕ) → Bool
 part_fits_as Word part text = pointwise nat_eq (first_word text) part
 part_fits_as Number part text = is_some (number_said (first_word text))

@@ -16,8 +16,8 @@ use Rattle.xa_server.specs.declared.reply.Reply.TheVariants.{Ok as Accepted, Val
 use Rattle.xa_server.specs.declared.xa_error.XaError.{XaError}
 use Rattle.xa_server.specs.Errors.{number_of, sqlstate_of, message_of}
 
--- the bytes of a recovered identifier: as they are, or with CONVERT XID as `0x` and two small digits for each
--- (manual, XA RECOVER; `0x` alone for no byte is our own)
+-- the bytes of a recovered identifier: as they are, or with CONVERT XID as `0x` and two hexadecimal digits for each,
+-- in lower case (manual, XA RECOVER; `0x` alone for no byte is our own)
 abbrev pub row_data : Bool → List ℕ → List ℕ
 row_data false bytes = bytes
 row_data true bytes = codes "0x" ++ encode_lower bytes

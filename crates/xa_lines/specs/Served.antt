@@ -64,9 +64,9 @@ abbrev pub IsCutOff : {S : Type 0} → (S → Type 0) → (S → Received → Li
 IsCutOff Begins Answers exchange =
     IsBegunAnswer Begins Answers exchange.received exchange.given × (exchange.stage ≡ Mute)
 
--- what a fault leaves. After a read fault all whole lines are answered, and the client is deaf, or gave more reads than
--- are counted; a write fault comes only where a write or a flush failed, and the answers are begun; without memory
--- nothing has passed
+-- what a fault leaves. After a read fault all whole lines are answered, and a read has failed (Deaf), or at least
+-- 2^64 - 1 bytes were received; a write fault comes only where a write or a flush failed (Mute), and the answers are
+-- begun; without memory nothing has passed. No other fault occurs
 abbrev pub AfterServing : {S : Type 0} → (S → Type 0) → (S → Received → List ℕ → S → Type 0) → ScriptFault → Exchange
     → Type 0
 AfterServing Begins Answers Read exchange =

@@ -36,8 +36,8 @@ keys_asked state Blank = []
 keys_asked state Bad = []
 keys_asked state (Given session text) = keys_of_read state session (read_of text)
 
--- behind the answer to a line stand the branches and the rows that the line is about, as they are then; a line of
--- blanks has no answer, and nothing stands behind it
+-- behind the answer to a line stand all branches, and the rows that the line is about, as they are after it; a line
+-- of blanks has no answer, and nothing stands behind it
 unfoldable pub listing_after : State → Line → State → List ℕ
 listing_after old Blank new = []
 listing_after old Bad new = listing new []

@@ -38,8 +38,8 @@ refused_text session = answer_text (decimal session) (codes "ERROR 1037 (HY001):
 abbrev pub HoldsNothing : State → Type 0
 HoldsNothing state = state ≡ no_state
 
--- memory may be refused for a statement that asks for a list, or is logged and makes a record, and for no text that
--- isn't a statement (own rule)
+-- memory may be refused for XA RECOVER, for an XA START or a statement on a row that is logged, and for no other text
+-- (own rule)
 abbrev pub MayBeRefused : State → ℕ → Result Statement ℕ → Type 0
 MayBeRefused state session (Ok statement) = may_take_memory state session statement ≡ true
 MayBeRefused state session (Err place) = ⊥
@@ -80,7 +80,7 @@ state_of true state Blank = state_after_line state Blank
 state_of true state Bad = state_after_line state Bad
 state_of false state line = state_after_line state line
 
--- whether memory is refused for the next statement; behind the marks it isn't
+-- whether memory is refused for the statement of the next line; behind the marks it isn't
 abbrev pub next_mark : List Bool → Bool
 next_mark [] = false
 next_mark (mark ∷ marks) = mark
@@ -97,8 +97,8 @@ served_text marks state (line ∷ lines) =
     text_of (next_mark marks) state (said (received_line line))
     ++ served_text (later_marks marks) (state_of (next_mark marks) state (said (received_line line))) lines
 
--- nothing more is to be received; what was told are the answers to all lines, for some of whose statements memory was
--- refused
+-- nothing more is to be received; what was told are the answers to all lines, and for statements on some of them
+-- memory may have been refused
 abbrev pub IsToldAll : Exchange → Type 0
 IsToldAll exchange = (exchange.stage ≡ Ended) × ((marks : List Bool)
     × (exchange.told ≡ served_text marks no_state (lines_of exchange.received)))
@@ -117,9 +117,9 @@ pub record IsToldInPart (received text : List ℕ) : Type 0 where
   pub unsaid : List ℕ
   pub whole : served_text marks no_state (lines_of received) ≡ text ++ unsaid
 
--- what a fault leaves: after a read fault all whole lines are answered, and the client is deaf, or gave more reads than
--- are counted; a write fault comes only where a write or a flush failed, and the answers are begun; without memory
--- nothing has passed
+-- what a fault leaves. After a read fault all whole lines are answered, and a read has failed (Deaf), or at least
+-- 2^64 - 1 bytes were received; a write fault comes only where a write or a flush failed (Mute), and the answers are
+-- begun; without memory nothing has passed. No other fault occurs
 abbrev pub AfterFaultOfStatements : ScriptFault → Exchange → Type 0
 AfterFaultOfStatements Read exchange =
     IsToldSoFar exchange.received exchange.told × ((exchange.stage ≡ Deaf) ⊎ (2 ^ 64 - 1 ≤ length exchange.received))

@@ -73,8 +73,8 @@ IsOfReading fault = (fault ≡ Read) ⊎ (fault ≡ TooLong) ⊎ (fault ≡ NoMe
 abbrev pub IsOfRun : ScriptFault → Type 0
 IsOfRun fault = (fault ≡ Write) ⊎ (fault ≡ NoMemory)
 
--- what a fault leaves in the writer, by the fault: nothing where the script wasn't read, else a prefix of its
--- transcript; a run has no fault of a race
+-- what a fault leaves in the writer: nothing after a read fault or a script that is too long; after a write fault, or
+-- where memory gave out, a prefix of the script's transcript; a run has no fault of a race
 abbrev pub AfterFault : ScriptFault → Option (List ℕ) → Option (List ℕ) → Option (List ℕ) → Type 0
 AfterFault Read input old new = Keeps old new
 AfterFault TooLong input old new = Keeps old new

@@ -3,7 +3,7 @@
 --     IsTry          a write took bytes, or was interrupted and took none
 --     Tries          so many writes one after another, which took bytes in all
 --     HasTried       writes took all of the text
---     StopsTrying    writes took a part of the text, and why there was no further one
+--     StopsTrying    writes took a part of the text, and then there was no further one
 use Rattle.std.specs.Prelude.{◌≡◌, ◌⊎◌, ℕ, zero, suc, ◌-◌, ◌^◌, ◌<◌, ◌≤◌, List, [], ◌++◌, length}
 
 -- a write took some bytes; or it was interrupted, and took none
@@ -22,7 +22,7 @@ Tries {S} takes interrupts (suc count) old bytes new =
 abbrev pub HasTried : {S : Type 0} → (S → List ℕ → S → Type 0) → (S → S → Type 0) → S → List ℕ → S → Type 0
 HasTried takes interrupts old text new = (count : ℕ) × Tries takes interrupts count old text new
 
--- no further write was tried: the last one failed or took nothing, or all tries are spent
+-- no further write was tried: the last one failed or took nothing, or 2^64 - 1 writes or more were made
 abbrev pub IsLastTry : {S : Type 0} → (S → List ℕ → S → Type 0) → (S → S → Type 0) → ℕ → S → S → Type 0
 IsLastTry takes refuses count old new =
     (refuses old new ⊎ takes old [] new) ⊎ ((2 ^ 64 - 1 ≤ count) × (new ≡ old))

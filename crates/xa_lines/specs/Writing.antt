@@ -20,7 +20,7 @@ abbrev pub AppendsObjects : (Option (List ℕ) → Option (List ℕ) → Type 0)
 AppendsObjects Writes old new = (text : List ℕ) × Writes (Some []) (Some text)
     × Appends old new (objects_of (lines_of text))
 
--- the writer got a prefix of the JSON objects of what Writes writes
+-- the writer got a prefix of the objects of the lines that a job writes to an empty output
 abbrev pub AppendsObjectsPrefix : (Option (List ℕ) → Option (List ℕ) → Type 0) → Option (List ℕ) → Option (List ℕ)
     → Type 0
 AppendsObjectsPrefix Writes old new = (text : List ℕ) × Writes (Some []) (Some text)

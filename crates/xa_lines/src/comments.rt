@@ -23,7 +23,8 @@ fn begins_with_comment(script: &[u8]) -> bool
     false
 }
 
-/// Appends a line without its line feed, or nothing if it is a comment, which leaves its line blank.
+/// Appends a line, which is given without its line feed; or nothing if it is a comment. The caller appends the line
+/// feed, so a comment's line is left blank.
 fn push_bare(text: &mut Vec<u8>, line: &[u8]) -> Result<(), NoMemory>
     ensures { OnOk result (text.new.items ≡ text.old.items ++ bare_line line.now) }
 {
@@ -33,7 +34,7 @@ fn push_bare(text: &mut Vec<u8>, line: &[u8]) -> Result<(), NoMemory>
     text.extend_from_slice(line)
 }
 
-/// Returns the lines of a script, with its comments left blank.
+/// Returns the lines of a script, with its comments left blank. Each line, also the last, ends in a line feed.
 fn without_comments(alloc: Global, script: &[u8]) -> Result<Vec<u8>, NoMemory>
     ensures { IfOk result (λ text. text.items ≡ bare_lines (lines_of script.now)) }
 {

@@ -1,6 +1,6 @@
 //! Answers a client, line by line.
 //!
-//! This loop isn't `run_script`'s: a run ends if memory runs out, so that its output doesn't depend on memory,
+//! This loop isn't `run_script`'s: a run ends if memory runs out, so that none of its answers depends on memory,
 //! while a conversation answers `ERROR 1037` and goes on, and limits the length of a line.
 ghost use Rattle.std.specs.Prelude.{◌≡◌, ◌≤◌, ◌∷◌, [], ℕ, List, IfErr, IfSome, OnOk, OnErr};
 ghost use Rattle.xa_lines.specs.Answer.{bytes_of};
@@ -14,7 +14,7 @@ use crate::begun_line::BegunLine;
 use crate::{Client, LineServer, ScriptFault};
 use std::alloc::Global;
 
-/// Flushes all that was given to the client.
+/// Flushes all that was given to the client. Returns `Write` if that fails.
 fn flush<S: LineServer, P: Client<S>>(client: &mut P) -> Result<(), ScriptFault>
     requires { IfSome (P.exchange client.old) CanBeTold }
     ensures flushed { Flushes (P.exchange client.old) (P.exchange client.new) result }
@@ -50,7 +50,8 @@ fn answer_begun<S: LineServer, P: Client<S>>(
     }
 }
 
-/// Takes a byte that was received. A line feed ends the line, which is then answered.
+/// Takes a byte that was received. A line feed ends `line`, which is then answered; any other byte is added to it.
+/// Returns `Write` if the client doesn't take the answer.
 fn take_byte<S: LineServer, P: Client<S>>(
     alloc: Global,
     server: &mut S,
@@ -80,7 +81,9 @@ fn take_byte<S: LineServer, P: Client<S>>(
     }
 }
 
-/// Takes a piece of what was received, and answers each line that ends in it.
+/// Takes a piece of what was received, and answers each line that ends in it. `line` holds what was received after the
+/// last line feed, before the piece and then after it. Returns `Write` at the first answer that the client doesn't
+/// take.
 fn take_piece<S: LineServer, P: Client<S>>(
     alloc: Global,
     server: &mut S,
@@ -106,7 +109,8 @@ fn take_piece<S: LineServer, P: Client<S>>(
     Ok(())
 }
 
-/// Answers the last line if it has no line feed, when nothing more is to be received.
+/// Answers what stands behind the last line feed, if anything does, when nothing more is to be received. Returns
+/// `Write` if the client doesn't take the answer.
 fn answer_last<S: LineServer, P: Client<S>>(
     alloc: Global,
     server: &mut S,
@@ -142,7 +146,7 @@ fn answer_last<S: LineServer, P: Client<S>>(
 /// conversation at once.
 /// After `Read` all whole lines are answered. After `Write` a prefix of the answers was given, and nothing
 /// more is given.
-/// Takes memory for one line, once, and what the server's answers take. Doesn't wait, unless the client does.
+/// Takes memory for one line, once, and what the server takes to answer. Doesn't wait, unless the client does.
 /// Own rule: docs/COMMANDS.md#serve.
 pub fn serve<S: LineServer, P: Client<S>>(
     alloc: Global,
@@ -158,7 +162,7 @@ pub fn serve<S: LineServer, P: Client<S>>(
     ensures fault { IfErr result (λ fault. IfSome (P.exchange client.new) (AfterServing S.begins S.answers fault)) }
 {
     let mut line = BegunLine::new(alloc)?;
-    // The answers to what one read gives, at most 4,096 bytes, are flushed together.
+    // One read gives at most 4,096 bytes, and the answers to its lines are flushed together. Any size but 0 would do.
     let mut piece = [0u8; 4096];
     // With a bound the loop is known to end. No client sends as often as this.
     for _read in 0..u64::MAX {

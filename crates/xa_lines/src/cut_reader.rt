@@ -74,7 +74,7 @@ impl<'a> CutReader<'a> {
         reader
     }
 
-    /// Returns how many more reads succeed before it fails.
+    /// Returns how many more reads succeed before it first fails; 0 after that.
     ///
     /// Takes no memory. Doesn't wait.
     pub fn reads_left(&self) -> u64
@@ -99,8 +99,8 @@ impl<'a> Read for CutReader<'a> {
 
     ghost remaining = { λ reader. Some (left_in reader) };
 
-    /// Gives as much of what is left as fits into `buf`, at most a piece; or fails if no read is left, at each read or
-    /// at one only. Counts reads after the first that failed.
+    /// Gives as much of what is left as fits into `buf`, at most a piece. If no read is left it fails: at each read, or
+    /// if `once` made it, only at the first. Counts the reads after the first that failed.
     fn read(&mut self, buf: &mut [u8]) -> io::Result<usize>
         ensures bound { ReadsAtMost result buf.new }
         ensures bytes { ReadConsumes (Some (left_in self.old)) (Some (left_in self.new)) result buf.new }

@@ -100,9 +100,9 @@ impl Write for CutWriter {
 
     ghost contents = { λ writer. Some (taken_by writer) };
 
-    /// Takes as much of `buf` as there is room for, at most a piece; or fails if no room is left, even for an empty
-    /// `buf`, at each write or at one only. After that one, room doesn't matter. Also fails if memory is refused.
-    /// Counts writes after the first that failed for want of room.
+    /// Takes as much of `buf` as there is room for, at most a piece. If no room is left it fails, even for an empty
+    /// `buf`: at each write, or if `once` made it, only at the first, after which room doesn't matter. It also fails if
+    /// memory is refused. Counts the writes after the first that failed for want of room.
     fn write(&mut self, buf: &[u8]) -> io::Result<usize>
         ensures bound { WritesAtMost result buf.now }
         ensures bytes { WriteAppends (Some (taken_by self.old)) (Some (taken_by self.new)) result buf.now }
@@ -135,6 +135,7 @@ impl Write for CutWriter {
         Ok(count)
     }
 
+    /// Does nothing: nothing is buffered.
     fn flush(&mut self) -> io::Result<()> {
         Ok(())
     }

@@ -7,8 +7,9 @@ use crate::json_numbers::number_said;
 use crate::json_words::{begins_statement, left_behind, split_first};
 use crate::split_line;
 
-/// Returns whether a part with this mark fits what a text begins with. A part for any word, or for the rest, fits
-/// every text, even an empty one.
+/// Returns whether a part with this mark fits what a text begins with. A word of the form, which is `part`, fits if it
+/// is the text's first word. A part for a number fits if the first word is one. A part for any word, or for the rest,
+/// fits every text, even an empty one. A part for a statement, or for `UNDECIDED`, is tried on the whole text.
 fn part_fits(mark: Mark, part: &[u8], text: &[u8]) -> bool
     ensures { result ≡ part_fits_as mark part.now text.now }
 {

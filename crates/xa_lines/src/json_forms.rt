@@ -4,8 +4,10 @@ ghost use Rattle.xa_lines.specs.Objects.{form_for};
 
 use crate::json_fitting::fits;
 
-/// The forms, of which the first one that fits a line is its own. The rows of a reply come before answers, which have
-/// fewer numbers.
+/// The forms. A line's form is the first one that fits it. Each line of a form is a part, which `Mark` explains.
+/// Where two forms fit a line, the narrower one comes first: `STOP` with numbers before `STOP` with any rest, the rows
+/// of a reply before answers, which have fewer numbers, a statement before a reply, and a reply with a place before one
+/// without.
 const FORMS: [&[u8]; 18] = [
     b"!verdict",
     b"OUTCOMES\n#outcomes",

@@ -43,7 +43,7 @@ fn write_text(alloc: Global, writer: &mut Writer, name: &[u8], text: &[u8]) -> R
     writer.string(text.as_str())
 }
 
-/// Writes a key with a number as its value, if there is one.
+/// Writes a key with a number as its value; neither if there is no number.
 fn write_number(
     alloc: Global,
     writer: &mut Writer,
@@ -84,7 +84,8 @@ fn write_part(
     }
 }
 
-/// Writes the members of a line, by the parts of its form.
+/// Writes the members of a line, by the parts of its form, in order. Each part takes its value from what the parts
+/// before it left of the line.
 ///
 /// May return `NoMemory`.
 pub fn write_parts(

@@ -34,8 +34,8 @@ pub fn begins_statement(text: &[u8]) -> bool
     }
 }
 
-/// Returns what is left of a text behind what a part with this mark stands for: what comes after the first word and a
-/// blank, or nothing if the part stands for the rest.
+/// Returns what a part with this mark leaves of a text to the next parts: what comes after the first word and the blank
+/// behind it, or nothing if the part stands for the rest.
 ///
 /// Takes no memory. Doesn't wait.
 pub fn left_behind(mark: Mark, text: &[u8]) -> &[u8]

@@ -10,7 +10,8 @@ use crate::{ScriptFault, write_whole};
 use std::alloc::Global;
 use std::io::Write;
 
-/// Returns how a job that wrote to memory ended: if it couldn't write, memory ran out.
+/// Returns how a job that wrote to memory ended: `NoMemory` in place of `Write`, since such a write fails only if
+/// memory runs out. Any other result stays.
 pub fn in_memory<T: Drop>(done: Result<T, ScriptFault>) -> Result<T, ScriptFault>
     ensures same { IfOk result (λ value. done ≡ Ok value) }
     ensures fault { IfErr result (λ fault. fault ≡ ScriptFault.Write → ⊥) }

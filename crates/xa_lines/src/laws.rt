@@ -5,8 +5,8 @@ ghost use Rattle.xa_lines.specs.Script.{lines_of};
 ghost use Rattle.xa_lines.specs.Transcript.{transcript};
 ghost use Rattle.xa_lines.specs.Statements.{IsShort, served_text};
 
-/// If memory is refused for no statement, and no line has more than 65,536 bytes, what is served for a script
-/// is its transcript, byte by byte.
+/// States that what is served for a script is its transcript, byte by byte, if memory is refused for no statement and
+/// no line has more than 65,536 bytes. Does nothing when it is called.
 ///
 /// Takes no memory. Doesn't wait. Own rule: docs/COMMANDS.md#serve.
 pub fn what_is_served_is_the_transcript()

@@ -34,7 +34,7 @@ pub fn converts(statement: &Statement) -> bool
 // The functions `put_..` write an answer over the text's former content. So one text can take one answer
 // after another, and keeps its memory.
 
-/// Begins an answer anew, with the number of the session that is answered and a blank.
+/// Begins an answer anew, in place of what `answer` held, with the number of the session that is answered and a blank.
 fn put_session(answer: &mut Vec<u8>, session: SessionNo) -> Result<(), NoMemory>
     ensures { OnOk result (answer.new.items ≡ decimal session ++ codes " ") }
 {
@@ -110,7 +110,7 @@ fn put_read(
     put_reply(alloc, answer, server, session, statement, &reply, enters, 0)
 }
 
-/// Answers a text that isn't a statement, with the place where it goes wrong.
+/// Answers a text that isn't a statement, with the byte at which it goes wrong, `place`, from 0.
 fn put_unread(answer: &mut Vec<u8>, session: SessionNo, place: u64) -> Result<(), NoMemory>
     ensures { OnOk result (answer.new.items ≡ answer_text (decimal session) (syntax_text place)) }
 {
@@ -171,10 +171,10 @@ pub(crate) fn put_line(
 
 /// Gives a text's statement to the server as a session's, and returns the printed answer, with its line feed.
 ///
-/// The text is a statement without the session's number. If it isn't a statement, the answer names the byte
-/// of the fault.
+/// The text comes without the session's number. If it isn't a statement, the answer names the byte at which it goes
+/// wrong.
 /// Errors: `NoMemory` if an allocation failed. The server is then as before.
-/// Takes memory for the answer. Doesn't wait.
+/// Takes memory for the answer, and for what the statement adds to the server. Doesn't wait.
 /// Own rule: docs/COMMANDS.md#scripts.
 pub fn answer_statement(
     alloc: Global,
@@ -200,7 +200,7 @@ pub fn answer_statement(
 ///
 /// The line is without its line feed. The answer ends in a line feed; it is empty for a line of blanks.
 /// Errors: `NoMemory` if an allocation failed. The server is then as before.
-/// Takes memory for the answer. Doesn't wait.
+/// Takes memory for the answer, and for what the statement adds to the server. Doesn't wait.
 /// Own rule: docs/COMMANDS.md#scripts.
 pub fn answer_line(alloc: Global, server: &mut Server, line: &[u8]) -> Result<Vec<u8>, NoMemory>
     // Proved (scripts, line-answers)

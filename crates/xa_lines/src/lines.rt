@@ -44,9 +44,9 @@ fn session_of(word: &[u8]) -> Option<SessionNo>
 pub enum ScriptLine<'a> {
     /// It has only blanks, and no answer.
     Blank,
-    /// It doesn't begin with the number of a session.
+    /// Its first word isn't the number of a session.
     Bad,
-    /// The session gives the statement of this text.
+    /// The session, and the text after its number and the blanks behind that. The text may be empty, or no statement.
     Given(SessionNo, &'a [u8]),
 }
 
@@ -68,7 +68,7 @@ pub fn split_line(text: &[u8]) -> (&[u8], &[u8])
     }
 }
 
-/// Returns the text up to its first blank, and the text from there on.
+/// Returns the text up to its first blank, and the text from there on: all of it, and nothing, if it has no blank.
 ///
 /// Takes no memory. Doesn't wait.
 /// Own rule: docs/COMMANDS.md#scripts.
@@ -114,7 +114,7 @@ pub fn number_in(word: &[u8]) -> Option<u64>
     }
 }
 
-/// Reads a line of a script, without its line feed.
+/// Reads a line of a script, without its line feed. Its first word, up to a blank, names the session.
 ///
 /// Takes no memory. Doesn't wait.
 /// Own rule: docs/COMMANDS.md#scripts.

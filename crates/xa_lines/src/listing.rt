@@ -11,7 +11,7 @@ use std::alloc::Global;
 use xa_server::{BranchEntry, HeldRow, Hold, Phase, Server};
 use xa_xid::{Bytes, Key, NoMemory, SessionNo, with_part, with_xid};
 
-/// The words of a phase.
+/// The word of a phase, behind a blank.
 fn words_of(phase: Phase) -> &'static [u8]
     ensures { result.now ≡ phase_text phase }
 {
@@ -22,7 +22,7 @@ fn words_of(phase: Phase) -> &'static [u8]
     }
 }
 
-/// A text with the owner of a branch at its end.
+/// Appends the owner of a branch to a text; nothing if it has none.
 fn with_owner(mut text: Vec<u8>, owner: Option<SessionNo>) -> Result<Vec<u8>, NoMemory>
     ensures { IfOk result (λ longer. longer.items ≡ text.items ++ owner_text owner) }
 {
@@ -33,7 +33,7 @@ fn with_owner(mut text: Vec<u8>, owner: Option<SessionNo>) -> Result<Vec<u8>, No
     Ok(text)
 }
 
-/// A text with the line of a branch at its end.
+/// Appends the line of a branch to a text: its identifier, its phase, and its owner if it has one.
 fn with_branch_line(mut text: Vec<u8>, branch: &BranchEntry) -> Result<Vec<u8>, NoMemory>
     ensures { IfOk result (λ longer. longer.items ≡ text.items ++ branch_line branch.now) }
 {
@@ -45,7 +45,8 @@ fn with_branch_line(mut text: Vec<u8>, branch: &BranchEntry) -> Result<Vec<u8>, 
     Ok(text)
 }
 
-/// A text with a row that is held, and how, at its end.
+/// Appends a row that a branch holds, and how, to a text, without a line feed: `SHARES` in share, and else `HOLDS` with
+/// what the branch's commit will do to the row.
 fn with_hold(mut text: Vec<u8>, key: &Key, hold: &Hold) -> Result<Vec<u8>, NoMemory>
     ensures { IfOk result (λ longer. longer.items ≡ text.items ++ hold_text key.now hold.now) }
 {
@@ -69,7 +70,7 @@ fn with_hold(mut text: Vec<u8>, key: &Key, hold: &Hold) -> Result<Vec<u8>, NoMem
     }
 }
 
-/// A text with the lines of rows that a branch holds at its end.
+/// Appends to a text a line for each of these rows, which a branch holds.
 fn with_holds(text: Vec<u8>, rows: &[HeldRow]) -> Result<Vec<u8>, NoMemory>
     ensures { IfOk result (λ longer. longer.items ≡ text.items ++ flat_map hold_line rows.now) }
 {
@@ -81,7 +82,7 @@ fn with_holds(text: Vec<u8>, rows: &[HeldRow]) -> Result<Vec<u8>, NoMemory>
     Ok(longer)
 }
 
-/// A text with a branch, and the rows that it holds, at its end.
+/// Appends to a text the line of a branch, and a line for each row that it holds.
 fn with_branch(
     alloc: Global,
     text: Vec<u8>,
@@ -95,7 +96,7 @@ fn with_branch(
     with_holds(text, rows.as_slice())
 }
 
-/// A text with branches, and the rows that each holds, at its end.
+/// Appends to a text the lines of branches, each followed by the rows that it holds.
 fn with_branches(
     alloc: Global,
     text: Vec<u8>,
@@ -111,7 +112,7 @@ fn with_branches(
     Ok(longer)
 }
 
-/// A text with a value at its end, in the words of a reply.
+/// Appends a value to a text, in the words of a reply: `NONE` if there is none.
 fn with_value(mut text: Vec<u8>, value: Option<Bytes>) -> Result<Vec<u8>, NoMemory>
     ensures { IfOk result (λ longer. longer.items ≡ text.items ++ value_text value) }
 {
@@ -127,7 +128,7 @@ fn with_value(mut text: Vec<u8>, value: Option<Bytes>) -> Result<Vec<u8>, NoMemo
     }
 }
 
-/// A text with the line of a row at its end.
+/// Appends to a text the line of a row: its key and its committed value, or `NONE` if it has none.
 fn with_row(mut text: Vec<u8>, server: &Server, key: &Key) -> Result<Vec<u8>, NoMemory>
     ensures { IfOk result (λ longer. longer.items ≡ text.items ++ row_line server.now key.now) }
 {
@@ -138,7 +139,7 @@ fn with_row(mut text: Vec<u8>, server: &Server, key: &Key) -> Result<Vec<u8>, No
     Ok(text)
 }
 
-/// A text with the lines of rows at its end.
+/// Appends to a text the lines of the rows of these keys.
 fn with_rows(text: Vec<u8>, server: &Server, keys: &[Key]) -> Result<Vec<u8>, NoMemory>
     ensures { IfOk result (λ longer. longer.items ≡ text.items ++ flat_map (row_line server.now) keys.now) }
 {

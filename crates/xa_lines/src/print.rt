@@ -23,7 +23,7 @@ pub fn push_number(text: &mut Vec<u8>, number: u64) -> Result<(), NoMemory>
     text.extend_from_slice(buffer.format(number).as_bytes())
 }
 
-/// Appends `0x` and two digits for each byte.
+/// Appends `0x` and two hexadecimal digits, in lower case, for each byte.
 fn push_digits(alloc: Global, text: &mut Vec<u8>, bytes: &[u8]) -> Result<(), NoMemory>
     ensures { OnOk result (text.new.items ≡ text.old.items ++ (codes "0x" ++ encode_lower bytes.now)) }
 {
@@ -32,18 +32,20 @@ fn push_digits(alloc: Global, text: &mut Vec<u8>, bytes: &[u8]) -> Result<(), No
     text.extend_from_slice(digits.as_bytes())
 }
 
-/// Appends the bytes of a key or a value. Without memory the text is lost.
+/// Appends the canonical text of a value, as `with_part` does. If memory is refused, the text is lost.
 fn push_part(alloc: Global, text: &mut Vec<u8>, bytes: &[u8]) -> Result<(), NoMemory>
     requires { length bytes.now ≤ text_bytes }
     ensures { OnOk result (text.new.items ≡ text.old.items ++ part_text bytes.now) }
 {
-    // `with_part` takes the text, and gives a longer one back.
+    // `with_part` takes the text, and gives a longer one back. An empty one holds its place, and stays if memory is
+    // refused.
     let before = mem::replace(text, Vec::new(alloc));
     *text = with_part(before, bytes)?;
     Ok(())
 }
 
-/// Appends gtrid and bqual of an identifier, in digits if `convert` asks for that.
+/// Appends gtrid and bqual of an identifier: their bytes, one after the other, or if `convert` asks for that, `0x` and
+/// the hexadecimal digits of these bytes.
 fn push_row_data(
     alloc: Global,
     text: &mut Vec<u8>,

@@ -18,11 +18,11 @@ pub struct Recorded<'a> {
     reader: CutReader<'a>,
     /// Takes what it is given.
     writer: CutWriter,
-    /// What it has sent.
+    /// What it has sent, which the server has received.
     received: Vec<u8>,
     /// How many bytes were flushed to it: those that the writer had taken at the last flush.
     told: usize,
-    /// Whether it may send more.
+    /// Whether it may send more, or what ended that.
     stage: Stage,
     // No more was told than the writer took.
     ghost within: { told ≤ length (taken_by writer) },
@@ -135,7 +135,8 @@ impl<'a, S: LineServer> Client<S> for Recorded<'a> {
         }
         match self.writer.write(text) {
             Ok(count) if count >= text.len() => Ok(()),
-            // Only a part of the text was taken, so the client never hears the rest: a fault.
+            // Only a part of the text was taken, so the client never hears the rest: a fault, of the kind that a full
+            // writer returns.
             Ok(_) => {
                 self.stage = Stage::Mute;
                 Err(ErrorKind::Interrupted.into())
@@ -147,7 +148,7 @@ impl<'a, S: LineServer> Client<S> for Recorded<'a> {
         }
     }
 
-    /// What was given so far counts as told. It never fails.
+    /// Notes that all that was given so far is told. It never fails.
     fn flush(&mut self) -> io::Result<()>
         ensures flushed { Flushes (Some (exchange_of self.old)) (Some (exchange_of self.new)) result }
         ensures kept { (self.new.reader ≡ self.old.reader) × (self.new.writer ≡ self.old.writer) }

@@ -14,8 +14,8 @@ use crate::{PieceReader, PieceWriter, ScriptFault};
 use std::alloc::Global;
 use xa_server::Server;
 
-/// Gives the script's lines to a server that is empty at first, and writes each answer as soon as it is
-/// there.
+/// Gives the script's lines to a server that is empty at first, and writes each answer as soon as it is there. Returns
+/// `NoMemory` or `Write` at the first line whose answer can't be made or written.
 fn run_lines<W: PieceWriter>(
     alloc: Global,
     script: &[u8],

@@ -1,5 +1,5 @@
-//! Answers statements as serving does. If memory is refused the answer says so, and only the answer to a list
-//! takes any.
+//! Answers statements as serving does. If memory is refused the answer says so. Of the answers only that to a list
+//! takes memory. Carrying a statement out may take some, too.
 ghost use Rattle.std.specs.Prelude.{◌≡◌, ◌≤◌, ◌+◌, false, Ok, Err, IfOk, OnOk, OnErr, vec_len, vec_capacity};
 ghost use Rattle.xa_server.specs.Replies.{reply_to};
 ghost use Rattle.xa_server.specs.Step.{enters as enters_at, is_list};
@@ -17,8 +17,8 @@ use xa_server::{Reply, Server};
 use xa_statement::read_statement;
 use xa_xid::{NoMemory, SessionNo, Statement};
 
-/// How many bytes more an answer has room for: enough to append the note that a listing is left out, after memory
-/// was refused for it.
+/// How many bytes more an answer has room for: the length of the line that `with_unshown` appends, which says that
+/// memory was refused for a listing.
 const SPARE_BYTES: usize = 16;
 
 /// Carries out a statement whose reply is known and isn't a list, if it is logged, which `enters` says, and answers it
@@ -116,8 +116,8 @@ pub(crate) fn serve_read(
     }
 }
 
-/// Answers a text that isn't a statement, and goes wrong at this place. 16 more bytes can be appended to the answer
-/// without memory.
+/// Answers a text that isn't a statement, and goes wrong at the byte `place`, from 0. 16 more bytes can be appended to
+/// the answer without memory.
 pub(crate) fn serve_unread(server: &Server, session: SessionNo, place: u64) -> Answer
     ensures answered { IsStatementAnswer server.now session (Err place) (bytes_of result) server.now }
     ensures room { HasRoom 16 result }
@@ -127,8 +127,9 @@ pub(crate) fn serve_unread(server: &Server, session: SessionNo, place: u64) -> A
     unread_told(session, place)
 }
 
-/// Answers a session's line, of which `text` comes after the number: carries out its statement, or if it isn't one,
-/// says where it goes wrong.
+/// Answers a session's line, of which `text` comes after the number. A statement is carried out if it is logged; if
+/// `text` isn't one, the answer says where it goes wrong. If memory is refused, the answer says so, and nothing has
+/// changed.
 pub(crate) fn serve_given(
     alloc: Global,
     server: &mut Server,

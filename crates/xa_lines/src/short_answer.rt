@@ -10,7 +10,7 @@ use arrayvec::ArrayVec;
 use itoa::Buffer;
 use xa_xid::{NoMemory, SessionNo};
 
-/// Returns an answer of at most 160 bytes: whose it is, and what it says.
+/// Returns an answer of at most 160 bytes: `who`, the session's number or what stands for it, and `what` it says.
 fn short_answer(who: &[u8], what: &[u8]) -> Answer
     requires { length who.now + length what.now ≤ 160 }
     ensures bytes { bytes_of result ≡ who.now ++ what.now }
@@ -23,7 +23,7 @@ fn short_answer(who: &[u8], what: &[u8]) -> Answer
     Answer::Short(text)
 }
 
-/// The answer to a bad line.
+/// The answer to a bad line: `-` in place of a session's number, and a fault at byte 0.
 pub(crate) fn bad_line() -> Answer
     ensures bytes { bytes_of result ≡ answer_text (codes "-") (syntax_text 0) }
     ensures room { HasRoom 16 result }

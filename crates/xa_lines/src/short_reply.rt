@@ -14,7 +14,7 @@ use itoa::Buffer;
 use xa_server::{BranchState, Reply, XaError};
 use xa_xid::SessionNo;
 
-/// Returns the number of the session that is answered, as the front of the answer.
+/// Returns the number of the session that is answered, with which the answer begins.
 fn session_text(session: SessionNo) -> ArrayVec<u8, 160>
     ensures text { result.items ≡ decimal session }
     ensures short { array_vec_len result ≤ 2 }
@@ -27,7 +27,7 @@ fn session_text(session: SessionNo) -> ArrayVec<u8, 160>
 }
 
 /// Returns the answer to a session: its number, a blank, what it is told, which is given in two parts, and a line
-/// feed.
+/// feed. At most 140 bytes are told (a value has 136), so 16 of 160 are left for what `with_unshown` appends.
 fn told(session: SessionNo, first: &[u8], second: &[u8]) -> Answer
     requires { length first.now + length second.now ≤ 140 }
     ensures bytes { bytes_of result ≡ answer_text (decimal session) (first.now ++ second.now) }
@@ -54,7 +54,7 @@ fn small_digits(bytes: &[u8]) -> ArrayVec<u8, 128>
     digits
 }
 
-/// The answer to a session that reads a value.
+/// The answer to a session that reads a value: `VALUE` and the value's canonical text.
 fn value_told(session: SessionNo, value: &[u8]) -> Answer
     requires { length value.now ≤ text_bytes }
     ensures bytes { bytes_of result ≡ answer_text (decimal session) (codes "VALUE " ++ part_text value.now) }
@@ -67,7 +67,7 @@ fn value_told(session: SessionNo, value: &[u8]) -> Answer
     told(session, b"VALUE 0x", small_digits(value).as_slice())
 }
 
-/// Returns the words of the refusal 1399 in each state.
+/// Returns the words of the refusal 1399 of a statement that isn't allowed in this state: at most 64 bytes.
 fn state_words(state: BranchState) -> &'static [u8]
     ensures words { result.now ≡ error_text (XaError.Rmfail state) }
     ensures few { length result.now ≤ 64 }
@@ -80,7 +80,7 @@ fn state_words(state: BranchState) -> &'static [u8]
     }
 }
 
-/// Returns the words of a refusal.
+/// Returns the words of a refusal: at most 64 bytes, of the 140 that `told` takes.
 fn error_words(error: &XaError) -> &'static [u8]
     ensures words { result.now ≡ error_text error.now }
     ensures few { length result.now ≤ 64 }
@@ -110,12 +110,13 @@ pub(crate) fn reply_told(session: SessionNo, reply: &Reply) -> Answer
     }
 }
 
-/// The answer to a session's text that isn't a statement, with the place where it goes wrong.
+/// The answer to a session's text that isn't a statement, with the byte at which it goes wrong, `place`, from 0.
 pub(crate) fn unread_told(session: SessionNo, place: u64) -> Answer
     ensures bytes { bytes_of result ≡ answer_text (decimal session) (syntax_text place) }
     ensures room { HasRoom 16 result }
 {
     let mut buffer = Buffer::new();
+    // At most 20 digits, so `told` has room.
     let number = buffer.format(place);
     told(
         session,

@@ -27,7 +27,7 @@ use xa_xid::{Key, NoMemory, SessionNo, Statement};
 pub struct Shown {
     /// The server that answers.
     server: Server,
-    /// Where memory for the listing after a line that is too long is taken from: `answer_long` is given none.
+    /// The allocator for the listing after a line that is too long, since `answer_long` is given none.
     alloc: Global,
 }
 
@@ -51,7 +51,8 @@ fn comment_answer(alloc: Global, line: &[u8]) -> Answer
     }
 }
 
-/// Returns the answer, followed by the listing: all branches, and the rows of these keys.
+/// Returns a copy of the answer, followed by the listing: all branches with the rows that they hold, and the rows of
+/// these keys.
 fn listed(
     alloc: Global,
     answer: &Answer,
@@ -64,7 +65,7 @@ fn listed(
     with_listing(alloc, text, server, keys)
 }
 
-/// Whether the listing is empty: it is if there are neither branches nor keys. To find that takes no memory then.
+/// Returns whether the listing is empty: whether there are neither branches nor keys. If it is, this takes no memory.
 #[tactic(auto, using(crate::proofs::Listed::branch_listed, crate::proofs::Listed::key_listed))]
 fn lists_nothing(alloc: Global, server: &Server, keys: &[Key]) -> bool
     ensures nothing { result ≡ true → listing server.now keys.now ≡ [] }
@@ -107,7 +108,7 @@ fn show_read(
         → read_of text ≡ Ok statement.now
         → IsAnswerShown server.old (Given session text) (bytes_of result) server.new }
 {
-    // A statement that ends a branch is about the rows that the branch held before.
+    // The keys are asked for first: a statement that ends a branch is about the rows that the branch held before.
     let keys = server.keys_about(alloc, session, statement);
     let answer = serve_read(alloc, server, session, statement);
     match keys {
@@ -116,8 +117,8 @@ fn show_read(
     }
 }
 
-/// Answers a text that isn't a statement, and shows the store after the answer: all branches, and no other rows, since
-/// the text is about none.
+/// Answers a text that isn't a statement and goes wrong at the byte `place`, from 0, and shows the store after the
+/// answer: all branches with the rows that they hold, and no other rows, since the text is about none.
 fn show_unread(alloc: Global, server: &Server, session: SessionNo, place: u64) -> Answer
     ensures { (text : List ℕ)
         → read_of text ≡ Err place
@@ -127,7 +128,7 @@ fn show_unread(alloc: Global, server: &Server, session: SessionNo, place: u64) -
     with_shown(alloc, answer, server, &[])
 }
 
-/// Answers a session's line, and shows the store after the answer.
+/// Answers a session's line, of which `text` comes after the number, and shows the store after the answer.
 fn show_given(alloc: Global, server: &mut Server, session: SessionNo, text: &[u8]) -> Answer
     ensures { IsAnswerShown server.old (Given session text.now) (bytes_of result) server.new }
 {
@@ -137,8 +138,8 @@ fn show_given(alloc: Global, server: &mut Server, session: SessionNo, text: &[u8
     }
 }
 
-/// Answers a bad line, and shows the store after the answer: all branches, and no other rows, since the line is about
-/// none.
+/// Answers a bad line, and shows the store after the answer: all branches with the rows that they hold, and no other
+/// rows, since the line is about none.
 fn show_bad(alloc: Global, server: &Server) -> Answer
     ensures { IsAnswerShown server.now Bad (bytes_of result) server.now }
 {

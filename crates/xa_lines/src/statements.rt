@@ -20,6 +20,8 @@ impl LineServer for Server {
     //   that is logged, is ever answered out of memory. It has then changed nothing.
     ghost answers = { IsLineAnswer };
 
+    /// Answers a line as in a script, but if memory is refused the answer says so. The answer to a line of blanks is
+    /// empty.
     fn answer(&mut self, alloc: Global, line: &[u8]) -> Answer {
         match read_line(line) {
             ScriptLine::Blank => Answer::Short(ArrayVec::new()),
@@ -28,6 +30,7 @@ impl LineServer for Server {
         }
     }
 
+    /// Answers as for a bad line, since what begins the line isn't looked at.
     fn answer_long(&mut self) -> Answer {
         bad_line()
     }

@@ -12,7 +12,7 @@ ghost use Rattle.xa_lines.specs.Transcript.{AppendsPrefix, ConsumesMoreThan, IsO
 use crate::{PieceReader, PieceWriter, ScriptFault};
 use std::alloc::Global;
 
-/// The greatest length of a script, in bytes.
+/// The greatest length of a script, in bytes: 1 MiB.
 const SCRIPT_BYTES: usize = 1_048_576;
 
 /// The greatest number of reads that a script takes. A reader that gives one byte at a time needs one for each byte and
@@ -33,7 +33,7 @@ pub fn script_limits() -> (usize, u64)
     (SCRIPT_BYTES, SCRIPT_READS)
 }
 
-/// Reads once.
+/// Reads once into `piece`, and returns how many bytes were read. Any error of the reader is `Read`.
 fn read_once<R: PieceReader>(reader: &mut R, piece: &mut [u8]) -> Result<usize, ScriptFault>
     ensures bound { ReadsAtMost result piece.new }
     ensures bytes { ReadConsumes (R.remaining reader.old) (R.remaining reader.new) result piece.new }
@@ -47,7 +47,8 @@ fn read_once<R: PieceReader>(reader: &mut R, piece: &mut [u8]) -> Result<usize, 
     }
 }
 
-/// Writes once: at least one byte. A write that takes nothing is a fault, too.
+/// Writes once, and returns how many of the bytes were taken, at least one. Returns `Write` if the write fails or takes
+/// nothing.
 fn write_once<W: PieceWriter>(writer: &mut W, bytes: &[u8]) -> Result<usize, ScriptFault>
     ensures bound { WritesAtMost result bytes.now }
     ensures bytes { WriteAppends (W.contents writer.old) (W.contents writer.new) result bytes.now }
@@ -63,7 +64,8 @@ fn write_once<W: PieceWriter>(writer: &mut W, bytes: &[u8]) -> Result<usize, Scr
     }
 }
 
-/// Reads all that the reader gives: at most `most` bytes, in at most `reads` reads. The read that finds the end counts.
+/// Reads all that the reader gives: at most `most` bytes, in at most `reads` reads. The read that finds the end is one
+/// of these.
 ///
 /// Errors: `Read` if a read failed, or too many were needed; `TooLong` if the reader gives more; `NoMemory`
 /// if an allocation failed. A reader that failed isn't read again.

@@ -71,8 +71,8 @@ pub struct Transport<R: Read + Drop, W: Write + Drop> {
 }
 
 impl<R: Read + Drop, W: Write + Drop> Transport<R, W> {
-    /// Returns a client over these streams. Answers are gathered in the writer's buffer, and written at each
-    /// flush.
+    /// Returns a client over these streams. Answers are gathered in the writer's buffer, and written when that is full
+    /// and at each flush.
     ///
     /// Takes no memory. Doesn't wait.
     pub fn new(reader: R, writer: BufWriter<W>) -> Transport<R, W>
@@ -84,6 +84,7 @@ impl<R: Read + Drop, W: Write + Drop> Transport<R, W> {
 }
 
 impl<S: LineServer, R: PieceReader + Drop, W: Write + Drop> Client<S> for Transport<R, W> {
+    /// Reads once from the reader. An interrupted read is an error, too.
     fn receive(&mut self, piece: &mut [u8]) -> io::Result<usize>
         ensures bound { ReadsAtMost result piece.new }
         ensures bytes { ReadConsumes (R.remaining self.old.reader) (R.remaining self.new.reader) result piece.new }
@@ -96,6 +97,8 @@ impl<S: LineServer, R: PieceReader + Drop, W: Write + Drop> Client<S> for Transp
         self.reader.read_piece(piece)
     }
 
+    /// Gives all of the text to the writer, as `give` does. The writer's buffer may hold some of the text until the
+    /// next flush.
     fn tell(&mut self, text: &[u8]) -> io::Result<()>
         ensures bytes { OnOk result (Appends (writer_contents W.contents self.old.writer)
             (writer_contents W.contents self.new.writer) text.now) }
@@ -110,6 +113,7 @@ impl<S: LineServer, R: PieceReader + Drop, W: Write + Drop> Client<S> for Transp
         give(&mut self.writer, text)
     }
 
+    /// Writes what the writer's buffer holds, and flushes the writer.
     fn flush(&mut self) -> io::Result<()>
         ensures bytes { Keeps (writer_contents W.contents self.old.writer)
             (writer_contents W.contents self.new.writer) }

@@ -175,8 +175,8 @@ module _ (kind : Statement → Type 0) where
         each = All-nil kind;
       }
 
-  -- if the branch was open, or its XA START was added, which is of the kind, and then only such statements were
-  -- added: all of them are of the kind
+  -- if the branch was open, or its XA START was added, which is of the kind, and then only statements of the kind
+  -- were added, all that was added is of the kind
   started : (xid : Xid) (old mid new : SessionView) → kind (Start xid) → MayStart xid old mid → AddsOnly kind mid new
       → AddsOnly kind old new
   started xid old mid new may (was_open is) more = more

@@ -60,7 +60,7 @@ module _ {S : Type 0} (view other : S → SessionView) (steady : (old new : S) �
     abbrev Same : Type 0
     Same = others_of other new.sessions ≡ others_of other old.sessions
 
-    -- they are as they were if they are in a manager that equals the new one
+    -- the other clients' sessions are as they were if they are so in a manager that equals the new one
     unchanged_others : (whole : WholeManager (Fused S) T) → new ≡ whole
         → others_of other whole.sessions ≡ others_of other old.sessions → Same
     unchanged_others whole is same = ap (λ (w : WholeManager (Fused S) T). others_of other w.sessions) is ∙ same
@@ -187,7 +187,7 @@ module _ {S : Type 0} (view : S → SessionView) where
     left = left ∙ so_far.left;
   }
 
--- what follows from a result's value may be concluded under the Ok
+-- if `P` of a value gives `Q` of it, and `P` holds of a result's value, if it is Ok, so does `Q`
 pub if_ok_map : {A E : Type 0} (P Q : A → Type 0) (result : Result A E) → ((a : A) → P a → Q a) → IfOk result P
     → IfOk result Q
 if_ok_map P Q (Ok a) more is = more a is

@@ -18,7 +18,7 @@ use Rattle.xa_coordinator.specs.Lasting.{history_of}
 use Rattle.xa_manager.specs.declared.counted_store.CountedStore.{CountedStore}
 use Rattle.xa_manager.specs.Atomic.{ChangesRows, KeepsRowsOr, state_before}
 
--- a branch is changed, and no row
+-- changing a branch changes no row
 changed_rows : (state : State) (xid : Xid) (change : Branch → Branch)
     → (with_changed state xid change).rows ≡ state.rows
 changed_rows state xid change = by (map.get state.branches xid)

@@ -30,16 +30,16 @@ pushed_holds P from (z ∷ zs) y old new (suc place) x is =
     (old (suc other) o known))
     (subst (λ (n : ℕ). P n y) long new) place x is)
 
--- of no elements none is left
+-- an empty list from which elements are dropped is empty
 drop_nil : (place : ℕ) → drop {A = ℕ} place [] ≡ []
 drop_nil zero = refl
 drop_nil (suc place) = refl
 
--- a place within a list, counted without its first element
+-- if the place after this one is within a list, this place is within the list without its first element
 less_behind : (x : ℕ) (xs : List ℕ) (place : ℕ) → suc place < length (x ∷ xs) → place < length xs
 less_behind x xs place within = grind (arith, common_steps)
 
--- the loop over stores: one difference more
+-- the loop over stores: the differences from a store on are that store's, and then those from the next store on
 pub differences_step : (after before : List ℕ) (place one other : ℕ) → place < length after → one ≡ get_or after place 0
     → other ≡ get_or before place 0
     → differences (drop place after) (drop place before) ≡ (one - other) ∷ differences (drop (place + 1) after)
@@ -90,7 +90,8 @@ pub none_below : (place : ℕ) → stops_below place 0 ≡ []
 unfolding stops_below
 none_below place = refl
 
--- the loop over a call's statements: one stop more
+-- the loop over a call's statements: the stops after fewer than count + 1 calls are those after fewer than `count`,
+-- and the one after `count`
 pub stops_more : (place count : ℕ) → stops_below place (count + 1) ≡ stops_below place count
     ++ (record { place = place; calls = count }) ∷ []
 unfolding stops_below
@@ -101,7 +102,7 @@ pub counted : (calls : ℕ) → max calls 1 ≡ stop_count calls
 counted zero = omega arith
 counted (suc calls) = omega arith
 
--- the loop over lines: the stops in one more
+-- the loop over lines: the stops from a line on are those in that line, and then those from the next line on
 pub stops_step : (place : ℕ) (calls : List Call) (made : List (List ℕ)) (call : Call) (there : List ℕ)
     → place < length calls → place < length made
     → call ≡ get_or calls place call → there ≡ get_or made place there

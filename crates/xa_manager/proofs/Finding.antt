@@ -1,4 +1,4 @@
--- How a prepared branch of a history is ended.
+-- How a prepared branch of a history is ended, what an XA PREPARE leaves, and what a commit does to the rows.
 use Rattle.std.proofs.Common.{◌≡◌, ◌⊎◌, ◌≤◌, ℕ, zero, suc, Bool, true, false, cond, List, [], ◌∷◌, length, refl, ap}
 use Rattle.std.proofs.Common.{sym, ◌∙◌, subst, inl, inr, Some, None, arith}
 use Rattle.std.specs.Prelude.{slice_get, Option, not, ◌&&◌}

@@ -52,7 +52,9 @@ pub record IsUndecidedOver (manager : Managing) (number : ℕ) : Type 0 where
   pub undecided : is_decided manager.decisions number ≡ false
   pub over : stage_of manager.stages number ≡ Some Over
 
--- what a manager must be like if a store was given this statement, by the kind of statement
+-- what holds of a manager if a store was given this statement: XA COMMIT is of a decided transaction's branch; with
+-- ONE PHASE it is of one that is over and undecided, with no branch in another store; XA ROLLBACK is of one that is
+-- over and undecided
 abbrev pub Goes : Managing → ℕ → Statement → Type 0
 Goes manager store (Commit xid false) =
     (number : ℕ) × IsBranchOf (codes "c") number store xid × (is_decided manager.decisions number ≡ true)

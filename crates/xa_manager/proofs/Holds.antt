@@ -337,7 +337,8 @@ no_start transaction InTwoPhases store xid (inr is) = absurd (let e = is.0 in cc
 no_start transaction InOnePhase store xid (inr is) = absurd (let e = is.0 in cc)
 no_start transaction RollBack store xid (inr is) = absurd (let e = is.0 in cc)
 
--- how a transaction may be finished: in two phases if it is decided, in one if only one store takes part
+-- how a transaction may be finished: in two phases if it is decided; else by a rollback, or in one phase if only one
+-- store takes part
 abbrev May : Managing → ℕ → Transaction → Closing → Type 0
 May old number transaction InTwoPhases = is_decided old.decisions number ≡ true
 May old number transaction InOnePhase =

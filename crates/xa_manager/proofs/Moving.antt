@@ -230,7 +230,7 @@ decided_more decisions number = by (number == 0)
     by true = refl
     by false = decides_more decisions (number - 1)
 
--- a stage that is there, as one that was found
+-- a stage that isn't None is one that was found
 some_stage : (stage : Option Stage) → (stage ≡ None → ⊥) → (found : Stage) × (stage ≡ Some found)
 some_stage None none = absurd (none refl)
 some_stage (Some stage) none = (stage, refl)

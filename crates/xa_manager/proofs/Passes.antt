@@ -80,7 +80,8 @@ pairs_of turns (x ∷ xs) (s ∷ ss) (t ∷ ts) pass base pass' base' own own' b
   pairs_of turns xs ss ts pass base pass' base' own.1 own'.1 bases.1 bases'.1 empty.1 first.1 second.1,
 )
 
--- if the list of what is within each is related to another list, place by place, so is what is within each
+-- if a list mapped by `within` is related to another list, place by place, so is the list itself, by what is within
+-- each element
 pub zip_within : {A B C : Type 0} (within : A → B) (R : B → C → Type 0) (xs : List A) (ys : List C)
     → AllZip R (map within xs) ys
     → AllZip (λ x y. R (within x) y) xs ys
@@ -95,7 +96,7 @@ pub map_within : {A B C : Type 0} (within : A → B) (f : B → C) (xs : List A)
 map_within within f [] = refl
 map_within within f (x ∷ xs) = ap (λ rest. f (within x) ∷ rest) (map_within within f xs)
 
--- pairs of sessions are pairs where the first can be made to fail
+-- pairs of sessions are still pairs once the first of each can be made to fail
 pub fused_pairs : {S T : Type 0} (sessions : List S) (others others' : List T) (fused fused' : List (Fused S))
     (R : S → T → Type 0)
     → map (λ (session : Fused S). session.inner) fused ≡ sessions → fused' ≡ fused → others' ≡ others

@@ -62,7 +62,7 @@ fine_work : (number store : ℕ) (read : Result Statement ℕ) → Fine (work_ca
 fine_work number store (Ok statement) = fine_row number store statement (takes_rows statement) refl
 fine_work number store (Err place) = record { is = tt }
 
--- a line of AT is fine, whether its statement was read or not
+-- a line of AT isn't taken as RECOVER, whether its statement was read or not
 fine_at : (store : ℕ) (read : Result Statement ℕ) → Fine (at_call store read)
 fine_at store (Ok statement) = record { is = tt }
 fine_at store (Err place) = record { is = tt }
@@ -97,27 +97,27 @@ fine_work_of text =
 
 -- the choice of a call by its first word, from the last word that is tried
 module _ (word text : List ℕ) where
-  -- SHOW, or unread
+  -- the call if the word is SHOW, and else a line that can't be read
   shows : Call
   shows = if bytes_eq word (codes "SHOW") then alone Show text else Unread 0
 
-  -- RECOVER, or `shows`
+  -- the call if the word is RECOVER, and else `shows`
   recovers : Call
   recovers = if bytes_eq word (codes "RECOVER") then alone Recover text else shows
 
-  -- STOP, or `recovers`
+  -- the call if the word is STOP, and else `recovers`
   stops : Call
   stops = if bytes_eq word (codes "STOP") then alone StopCall text else recovers
 
-  -- FAIL, or `stops`
+  -- the call if the word is FAIL, and else `stops`
   fails : Call
   fails = if bytes_eq word (codes "FAIL") then fail_of text else stops
 
-  -- AT, or `fails`
+  -- the call if the word is AT, and else `fails`
   ats : Call
   ats = if bytes_eq word (codes "AT") then at_of text else fails
 
-  -- a call that is about no transaction isn't taken as RECOVER
+  -- a call that names no transaction isn't taken as RECOVER
   fine_plain : Fine (plain_call word text)
   unfolding plain_call shows recovers stops fails ats
   fine_plain =
@@ -135,19 +135,19 @@ module _ (word text : List ℕ) where
   number : Option ℕ
   number = lone_number text
 
-  -- ABANDON, or a call that is about no transaction
+  -- the call if the word is ABANDON, and else a call that names no transaction
   abandons : Call
   abandons = if bytes_eq word (codes "ABANDON") then numbered (λ n. Abandon n) number else plain_call word text
 
-  -- FINISH, or `abandons`
+  -- the call if the word is FINISH, and else `abandons`
   finishes : Call
   finishes = if bytes_eq word (codes "FINISH") then numbered (λ n. Finish n) number else abandons
 
-  -- DECIDE, or `finishes`
+  -- the call if the word is DECIDE, and else `finishes`
   decides : Call
   decides = if bytes_eq word (codes "DECIDE") then numbered (λ n. Decide n) number else finishes
 
-  -- PREPARE, or `decides`
+  -- the call if the word is PREPARE, and else `decides`
   prepares : Call
   prepares = if bytes_eq word (codes "PREPARE") then numbered (λ n. Prepare n) number else decides
 

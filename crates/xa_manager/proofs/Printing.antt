@@ -9,7 +9,8 @@ use Rattle.xa_session.specs.declared.fault.Fault.{Fault}
 use Rattle.xa_coordinator.specs.declared.decisions.Decision.{Decision}
 use Rattle.xa_manager.specs.Texts.{stores_text, store_text, stores_shown_text, number_text, numbers_text, stands_as}
 
--- the step of a loop that makes a text longer by each element of a list
+-- the step of a loop that makes a text longer by each element of a list: once the text of the next one is appended,
+-- that of the first i + 1 is written
 grown : {A : Type 0} (all : List A → List ℕ) (one : List ℕ) (xs : List A) (i : ℕ) (x : A) (begin before now : List ℕ)
     → i < length xs → x ≡ get_or xs i x
     → all (take i xs ++ x ∷ []) ≡ all (take i xs) ++ one → before ≡ begin ++ all (take i xs) → now ≡ before ++ one
@@ -20,14 +21,14 @@ grown all one xs i x begin before now within is more was step =
     step ∙ ap (λ text. text ++ one) was ∙ append_assoc begin (all (take i xs)) one
     ∙ ap (λ text. begin ++ text) (sym (ap all cut ∙ more))
 
--- the text of several stores' numbers and one more
+-- the text of several stores' numbers and one more is that of the several, and then a space and the one
 stores_text-more : (xs : List ℕ) (x : ℕ) → stores_text (xs ++ x ∷ []) ≡ stores_text xs ++ (codes " " ++ decimal x)
 stores_text-more [] x = append-nil (codes " " ++ decimal x)
 stores_text-more (y ∷ ys) x =
     ap (λ text. codes " " ++ decimal y ++ text) (stores_text-more ys x)
     ∙ sym (append_assoc (codes " " ++ decimal y) (stores_text ys) (codes " " ++ decimal x))
 
--- the step of the loop that prints the numbers of stores
+-- the step of the loop that prints the numbers of stores: one number more is written
 pub stores_grown : (xs : List ℕ) (i x : ℕ) (begin before now : List ℕ) → i < length xs → x ≡ get_or xs i x
     → before ≡ begin ++ stores_text (take i xs)
     → now ≡ before ++ (codes " " ++ decimal x)
@@ -36,7 +37,8 @@ stores_grown xs i x begin before now within is was step =
     grown stores_text (codes " " ++ decimal x) xs i x begin before now within is
     (stores_text-more (take i xs) x) was step
 
--- the text of several stores' answers and of one more, under the number that is its place
+-- the text of several stores' answers and of one more is that of the several, and then the one's, under the number
+-- that is its place
 shown-more : (n : ℕ) (xs : List (Result Reply Fault)) (x : Result Reply Fault)
     → stores_shown_text n (xs ++ x ∷ []) ≡ stores_shown_text n xs ++ store_text (n + length xs) x
 shown-more n [] x = append-nil (store_text n x) ∙ ap (λ k. store_text k x) (sym (add-zero n))
@@ -56,7 +58,8 @@ shown_grown xs i x begin before now within is was step =
     grown (stores_shown_text 0) (store_text i x) xs i x begin before now within is
     (shown-more 0 (take i xs) x ∙ ap (λ k. stores_shown_text 0 (take i xs) ++ store_text k x) count) was step
 
--- the text of several decisions' numbers and of one more, if it is the wanted one
+-- the text of several decisions' numbers and of one more is that of the several, and then the one's number, if it is
+-- the wanted decision
 numbers-more : (wanted : Decision) (n : ℕ) (xs : List Decision) (x : Decision)
     → numbers_text wanted n (xs ++ x ∷ []) ≡ numbers_text wanted n xs ++ number_text wanted (n + length xs) x
 numbers-more wanted n [] x = append-nil (number_text wanted n x) ∙ ap (λ k. number_text wanted k x) (sym (add-zero n))
@@ -67,7 +70,7 @@ numbers-more wanted n (y ∷ ys) x =
     ∙ sym (append_assoc (number_text wanted n y) (numbers_text wanted (n + 1) ys)
     (number_text wanted (n + length (y ∷ ys)) x))
 
--- the step of the loop that prints the numbers; they begin at 1
+-- the step of the loop that prints the numbers of decisions, which begin at 1: the text of one more is written
 pub numbers_grown : (wanted : Decision) (xs : List Decision) (i : ℕ) (x : Decision) (begin before now : List ℕ)
     → i < length xs → x ≡ get_or xs i x
     → before ≡ begin ++ numbers_text wanted 1 (take i xs) → now ≡ before ++ number_text wanted (i + 1) x
@@ -78,7 +81,8 @@ numbers_grown wanted xs i x begin before now within is was step =
     (numbers-more wanted 1 (take i xs) x ∙ ap (λ k. numbers_text wanted 1 (take i xs) ++ number_text wanted k x) count)
     was step
 
--- a number is told where it stands as wanted, and nothing is where it doesn't
+-- the step of the loop that prints the numbers of decisions: a number is written if it stands as wanted, and nothing
+-- is if it doesn't
 pub numbers_grown_if : (wanted : Decision) (xs : List Decision) (i : ℕ) (d : Decision) (stands : Bool)
     (begin before now : List ℕ) → i < length xs
     → stands ≡ stands_as wanted (get_or xs i d)
@@ -97,7 +101,7 @@ numbers_grown_if wanted xs i d stands begin before now within is was step =
     by false so (inl told) = let yes = told.0 in absurd (cc)
     by false so (inr silent) = silent.1 ∙ sym (append-nil before)
 
--- three words, each with its count, appended one after another
+-- three words, each with its count, appended one after another, are appended as one text
 pub three_grown : (begin first second now a b c d e f : List ℕ) → first ≡ begin ++ (a ++ b) → second ≡ first ++ (c ++ d)
     → now ≡ second ++ (e ++ f)
     → now ≡ begin ++ (a ++ b ++ c ++ d ++ e ++ f)

@@ -30,7 +30,7 @@ carried_as old new calls same responses as_well is are carried =
     subst (λ (list : List Call). CarriesOut old list as_well new) (sym is)
     (subst (λ (list : List Response). CarriesOut old calls list new) (sym are) carried)
 
--- calls that were carried out, and one call more
+-- calls that were carried out, and one call more that was answered after them, were carried out together
 pub carried_more : (old mid new : Managing) (calls more : List Call) (responses : List Response) (call : Call)
     (response : Response)
     → CarriesOut old calls responses mid → IsAnswered mid call response new → more ≡ calls ++ call ∷ []
@@ -69,7 +69,7 @@ pub fails_none : fails_from 0 [] ≡ []
 unfolding fails_from
 fails_none = refl
 
--- the FAILs for one store more of a list of limits
+-- the FAILs for one limit more are those for the limits before it, and one for the store at its place
 pub fails_step : (limits : List ℕ) (store limit : ℕ) → store < length limits → limit ≡ get_or limits store 0
     → fails_from 0 (take (store + 1) limits) ≡ fails_from 0 (take store limits) ++ Fail store limit ∷ []
 fails_step limits store limit within is =
@@ -132,7 +132,7 @@ recovered stores script told mid stopped last first second kept text before stop
       refl,
     )
 
--- what follows from a result's value may be concluded under the Ok
+-- if `P` of a value gives `Q` of it, and `P` holds of a result's value, if it is Ok, so does `Q`
 pub if_ok_map : {A E : Type 0} (P Q : A → Type 0) (result : Result A E) → ((a : A) → P a → Q a) → IfOk result P
     → IfOk result Q
 if_ok_map P Q (Ok a) more is = more a is
@@ -199,7 +199,8 @@ unfolding fails_from
 fails_length from [] = refl
 fails_length from (limit ∷ limits) = ap suc (fails_length (from + 1) limits)
 
--- a run is put together from calls, a call FAIL for each store, and the call of one line
+-- calls, a call FAIL for each store, and the call of one line, carried out one after another, are one run from the
+-- beginning
 pub cut_run : (stores : ℕ) (calls fails line same : List Call) (first one two three : Managing)
     (responses more : List Response) (call : Call) (response : Response)
     → IsFresh stores first → CarriesOut first calls responses one → CarriesOut one fails more two

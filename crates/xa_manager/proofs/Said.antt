@@ -80,7 +80,8 @@ listed_more {T} view answers answer place old now before after count so_far was 
     (at_place view [] (IsListed more place) now place before after was
     (record { answer = answer; there = get_last answers answer place count; given = here }))
 
--- a fact of each session of a part of a list that was lent, and was all of it, holds of each of the list
+-- if all of a list was lent, and a fact holds of each session that was lent and came back, it holds of each of the
+-- list, which then has what came back
 pub each_lent : {T : Type 0} (view : T → SessionView) (fact : ℕ → SessionView → SessionView → Type 0)
     (items was now rest : List T) (count : ℕ)
     → was ≡ items → count ≡ length items → length now ≡ length was → EachStore view fact was now

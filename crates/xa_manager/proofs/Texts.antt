@@ -25,7 +25,7 @@ use Rattle.xa_manager.specs.declared.stop_ended.Ended.{Ended}
 use Rattle.xa_manager.specs.Scripts.{call_in, calls_of, is_refusal, cause_text, fault_text, faults_from, IsStopsText}
 use Rattle.xa_manager.specs.Scripts.{AppendsStops, AppendsStopsPrefix, AfterStopsFault}
 
--- the loop over lines: one more was cut off and read
+-- the loop over lines: the calls of a text are the call in its first line, and then those of the rest
 pub calls_cut : (text line rest : List ℕ) → lines_of text ≡ line ∷ lines_of rest
     → calls_of text ≡ call_in line ∷ calls_of rest
 calls_cut text line rest cut = ap (map call_in) cut
@@ -36,7 +36,7 @@ unfolding lines_of
 calls_end [] empty = refl
 calls_end (x ∷ xs) empty = absurd (let none : length (x ∷ xs) ≡ 0 = grind (arith, common_steps) in omega arith)
 
--- the text of several responses' faults and of one more
+-- the text of several responses' faults and of one more is that of the several, and then the one's, under its number
 pub faults_snoc : (number : ℕ) (responses : List Response) (response : Response)
     → faults_from number (responses ++ response ∷ []) ≡ faults_from number responses
     ++ fault_text (number + length responses) response
@@ -92,7 +92,7 @@ pub rows_end : (calls : List Call) (store : ℕ) (states : List State) → lengt
 unfolding rows_text
 rows_end calls store states past = ap (rows_text calls store) (drop_all store states past)
 
--- one related pair more behind two lists that are related place by place
+-- two lists that are related place by place are so with one related pair more behind them
 pub zip_push : {A B : Type 0} (R : A → B → Type 0) (xs : List A) (ys : List B) (x : A) (y : B) → AllZip R xs ys → R x y
     → AllZip R (xs ++ x ∷ []) (ys ++ y ∷ [])
 zip_push R [] [] x y all one = (one, tt)
@@ -100,7 +100,7 @@ zip_push R [] (b ∷ bs) x y all one = absurd all
 zip_push R (a ∷ more) [] x y all one = absurd all
 zip_push R (a ∷ more) (b ∷ bs) x y all one = (all.0, zip_push R more bs x y all.1 one)
 
--- one block more behind others, as one text
+-- the text of blocks and one more is that of the blocks, and then the one
 pub concat_push : (blocks : List (List ℕ)) (block : List ℕ) → concat (blocks ++ block ∷ []) ≡ concat blocks ++ block
 concat_push blocks block =
     concat-append blocks (block ∷ []) ∙ ap (λ (t : List ℕ). concat blocks ++ t) (append-nil block)
@@ -112,7 +112,7 @@ read_whole P None rest given read end p = tt
 read_whole P (Some x) None given read end p = absurd read
 read_whole P (Some x) (Some y) given read end p = subst P (sym (read ∙ ap (λ l. given ++ l) end ∙ append-nil given)) p
 
--- the input was read and the whole text was written: what `stops` promises after Ok
+-- if the input was read and the whole text was written, what `stops` promises after Ok holds
 pub stops_written : (stores : ℕ) (result : Result Ended ScriptFault) (ended : Ended) (text given : List ℕ)
     (input rest old new : Option (List ℕ))
     → Consumes input rest given → IsAtEnd rest → IsStopsText stores given ended text
@@ -123,7 +123,7 @@ stops_written stores (Ok e) ended text given input rest old new read end is same
     (text, subst (λ x. IsStopsText stores given x text) (sym same) is, written)
 stops_written stores (Err fault) ended text given input rest old new read end is same written = tt
 
--- writing failed: a prefix of the text was written, which is what `stops` promises after that fault
+-- if writing failed and a prefix of the text was written, what `stops` promises after that fault holds
 pub stops_faulted : (stores : ℕ) (result : Result Ended ScriptFault) (ended : Ended) (text given : List ℕ)
     (input rest old new : Option (List ℕ))
     → Consumes input rest given → IsAtEnd rest → IsStopsText stores given ended text

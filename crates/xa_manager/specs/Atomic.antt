@@ -4,12 +4,12 @@
 --     IsPlain          a call that isn't RECOVER
 --     IsAlone          of a transaction's branches, the coordinator began at most the one in this store
 --     GoesWith         a statement goes with the decisions
---     LeavesBranches   a call that has no other client end a branch of the coordinator's
+--     LeavesBranches   a call that has no other client finish a branch of the coordinator's
 --     ChangesRows      a statement that changes committed values
 --     WasCommitted     a prepared branch was committed, with all its writes
 --     AllOrNone        each transaction is in all of its stores, or in none
---     KeepsToDecisions     all that the coordinator added goes with the decisions, and none of its branches
---     is prepared
+--     KeepsToDecisions     all that the coordinator added goes with the decisions, and none of its branches is
+--                          prepared
 --     LeavesWhole      KeepsToDecisions and AllOrNone hold after a recovery, if it came to its end
 use Rattle.std.specs.Prelude.{◌≡◌, ◌⊎◌, ◌<◌, ◌≤◌, ◌+◌, ◌^◌, ℕ, Bool, true, false, Some, Ok, slice_get, List, Contains}
 use Rattle.std.specs.Prelude.{codes}
@@ -67,8 +67,8 @@ pub record IsOnePhase (decisions : List Decision) (sessions : List (Fused Counte
   pub undecided : is_decided decisions number ≡ false
   pub alone : IsAlone sessions number store
 
--- XA COMMIT is of a decided transaction's branch; with ONE PHASE of an undecided one's that has no branch in
--- another store; XA ROLLBACK is of an undecided one's; every other statement goes with them
+-- XA COMMIT is of a decided transaction's branch; with ONE PHASE, of an undecided one's of which the coordinator began
+-- a branch in no other store; XA ROLLBACK is of an undecided one's; every other statement goes with the decisions
 abbrev pub GoesWith : List Decision → List (Fused CountedStore) → ℕ → Statement → Type 0
 GoesWith decisions sessions store (Commit xid false) =
     (number : ℕ) × IsBranchOf (codes "c") number store xid × (is_decided decisions number ≡ true)
@@ -93,7 +93,7 @@ EndsNone store (Commit xid one_phase) = IsNamed (codes "c") store xid → ⊥
 EndsNone store (Rollback xid) = IsNamed (codes "c") store xid → ⊥
 EndsNone store statement = Unit {0}
 
--- a call that has no other client end a branch of the coordinator's naming
+-- a call that has no other client finish a branch of the coordinator's naming
 abbrev pub LeavesBranches : Call → Type 0
 LeavesBranches (At store statement) = EndsNone store statement
 LeavesBranches call = Unit {0}

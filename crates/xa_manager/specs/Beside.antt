@@ -1,7 +1,7 @@
 -- A transaction manager whose sessions hold the other clients': what a call does to it.
 --     within, others_of        the coordinator's sessions without their limits, and the other clients'
 --     LeavesAlone      no session of the coordinator's got a statement, and each passes on as many calls as
---     before
+--                      before
 --     HasRepliedBeside         AT
 --     IsShownBeside            SHOW
 --     CarriesBeside    a call was carried out, by the call
@@ -32,7 +32,7 @@ use Rattle.xa_manager.specs.Served.{call_said, refused_text, has_few_words}
 use Rattle.xa_manager.specs.Texts.{answer_text}
 use Rattle.xa_manager.specs.Whole.{IsPair, IsRefused}
 
--- a session without its limit
+-- the session within one that has a limit, as contracts see it: without the limit
 abbrev pub within : {S : Type 0} → (S → SessionView) → Fused S → SessionView
 within {S} view session = view session.inner
 
@@ -81,7 +81,7 @@ CarriesBeside view other nobody old Show response new = IsShownBeside view other
 CarriesBeside view other nobody old call response new =
     Carries (limited view) nobody old call response new × (others_of other new.sessions ≡ others_of other old.sessions)
 
--- a call was refused as it has to be, or was carried out
+-- a call was refused as the table (`refusal_of`) says, or was carried out
 abbrev pub PerformsBeside : {S T : Type 0} → (S → SessionView) → (S → SessionView) → (T → SessionView)
     → WholeManager (Fused S) T → Call → Response
     → WholeManager (Fused S) T → Type 0
@@ -97,7 +97,8 @@ pub record BeginsBeside {S T : Type 0} (view other : S → SessionView)
   pub pairs : All (λ session. IsPair (view session.inner) (other session.inner)) manager.sessions
 
 -- memory was refused for a call, and nothing changed; or the call was refused by the table or carried out, and memory
--- was refused for its answer, which is then of many words. A blank line and a comment are never answered so
+-- was refused for its answer, which isn't of few words (`has_few_words`). A blank line and a comment are never answered
+-- so
 pub record IsRefusedBeside {S T : Type 0} (view other : S → SessionView) (nobody : T → SessionView)
     (old : WholeManager (Fused S) T) (call : Call)
     (text : List ℕ) (new : WholeManager (Fused S) T) : Type 0 where

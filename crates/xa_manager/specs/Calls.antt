@@ -30,13 +30,13 @@ abbrev pub alone : Call → List ℕ → Call
 alone call [] = call
 alone call (byte ∷ rest) = Unread 0
 
--- a call of which a transaction's number is the only argument
+-- the call with the number, if one was read; else unread
 abbrev pub numbered : (ℕ → Call) → Option ℕ → Call
 numbered call None = Unread 0
 numbered call (Some number) = call number
 
--- work, if its statement is read and is GET, PUT or DEL; any other kind is wrong at its first byte, and a statement
--- that can't be read at the place of its fault
+-- work, if its statement is read and is GET, PUT or DEL; else unread: at byte 0 if it is of another kind, at the place
+-- of its fault if it can't be read
 abbrev pub work_call : ℕ → ℕ → Result Statement ℕ → Call
 work_call number store (Err place) = Unread place
 work_call number store (Ok statement) = if takes_rows statement then Work number store statement else Unread 0
@@ -51,18 +51,18 @@ abbrev pub with_number : Option ℕ → (ℕ → Call) → Call
 with_number None call = Unread 0
 with_number (Some number) call = call number
 
--- what stands behind WORK: a transaction's number, a store's number, and a statement about a row
+-- the call of the text behind WORK: a transaction's number, a store's number, and a statement about a row
 unfoldable pub work_of : List ℕ → Call
 work_of text =
     with_number (number_of_word (first_word text)) (λ number.
     with_number (number_of_word (first_word (behind_word text)))
     (λ store. work_call number store (read_of (behind_word (behind_word text)))))
 
--- what stands behind AT: a store's number and a statement of its other client
+-- the call of the text behind AT: a store's number and a statement of its other client
 unfoldable pub at_of : List ℕ → Call
 at_of text = with_number (number_of_word (first_word text)) (λ store. at_call store (read_of (behind_word text)))
 
--- what stands behind FAIL: a store's number, the word AFTER, and after how many statements it fails
+-- the call of the text behind FAIL: a store's number, the word AFTER, and after how many statements its session fails
 unfoldable pub fail_of : List ℕ → Call
 fail_of text =
     with_number (number_of_word (first_word text)) (λ store.
@@ -70,7 +70,7 @@ fail_of text =
     (lone_number (behind_word (behind_word text)))
     else Unread 0)
 
--- the calls that are about no transaction, by their first word and the text after it
+-- the calls that name no transaction, by their first word and the text after it
 unfoldable pub plain_call : List ℕ → List ℕ → Call
 plain_call word text =
     if bytes_eq word (codes "BEGIN") then alone Begin text else

@@ -130,8 +130,8 @@ pub record HasWorked {C T : Type 0} (view : C → SessionView) (number store : �
   pub marks : ChangesAt store old.branches new.branches
   pub alone : SpeaksAlone view old.decisions (with_stage old.stages number (Working after)) old new
 
--- the stores of a transaction that takes work voted, and this is the vote, which is kept; what is open stays so in
--- the stores that take no part or weren't asked
+-- the stores of a transaction that takes work voted, this is the vote, and the transaction's stage is that after it
+-- (`stage_after`); what is open stays so in the stores that take no part or weren't asked
 pub record HasVoted {C T : Type 0} (view : C → SessionView) (number : ℕ) (old : WholeManager C T) (response : Response)
     (new : WholeManager C T) : Type 0 where
   pub before : Transaction
@@ -191,7 +191,8 @@ pub record IsLimited {S T : Type 0} (store calls : ℕ) (old : WholeManager (Fus
   pub limited : LimitsAlone store calls old.sessions new.sessions
   pub stands : new ≡ record old { sessions = new.sessions }
 
--- a new coordinator replaced the old one, over the same sessions, which got no statement
+-- a new coordinator replaced the old one, over the same sessions, which got no statement; it has nothing open, and each
+-- session passes on 2^64 - 1 calls
 pub record IsStopped {S T : Type 0} (old : WholeManager (Fused S) T) (response : Response)
     (new : WholeManager (Fused S) T) : Type 0 where
   pub told : response ≡ Stopped

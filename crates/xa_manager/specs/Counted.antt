@@ -1,7 +1,7 @@
 -- A store that notes if memory was refused, as contracts see it.
 --     own_of, other_of         the coordinator's session;  the other client's by itself
---     state_in         the state that its history leaves
---     IsNoted          it is noted if a statement of the coordinator's session wasn't answered
+--     state_in         the state that the store's history leaves
+--     IsNoted          it is noted that memory was refused, if a statement wasn't answered
 use Rattle.std.specs.Prelude.{◌≡◌, true, Result, OnOk, OnErr}
 use Rattle.xa_xid.specs.declared.statement.Statement.{Statement}
 use Rattle.xa_server.specs.State.{State}
@@ -20,7 +20,7 @@ own_of counted = record (own_view counted.store) { starved = counted.starved }
 abbrev pub other_of : CountedStore → SessionView
 other_of counted = other_alone counted.store
 
--- the state that its history leaves
+-- the state that the store's history leaves
 abbrev pub state_in : CountedStore → State
 state_in counted = state_after counted.store.first.value (history_of counted.store)
 

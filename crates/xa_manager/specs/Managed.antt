@@ -5,7 +5,7 @@ use Rattle.xa_coordinator.specs.declared.speak.Speak.{Ghosts as SpeakOf}
 use Rattle.xa_manager.specs.Carried.{WholeManager}
 use Rattle.xa_manager.specs.declared.manager.Manager.{Manager}
 
--- a manager as definitions see it: its stores are counted, all else is as it is
+-- a manager as definitions see it: how many stores it has, and all else as it is
 abbrev pub whole_of : {C T : Type 0} {session : SpeakOf C} {other_client : SpeakOf T} → Manager C T session other_client
     → WholeManager C T
 whole_of manager = record {

@@ -12,7 +12,8 @@ use Rattle.xa_store.specs.declared.store.Store.{Store}
 abbrev pub AreOf : List Store → List Pass → Type 0
 AreOf stores passes = AllZip (λ store pass. log_of pass ≡ identity_of store.log) stores passes
 
--- no store holds anything, and the passes are of sessions 1 and of sessions 2, none of which has seen anything
+-- no store holds anything; the first passes are of session 1 and the second ones of session 2, and none of them has
+-- seen anything
 pub record AreNew (stores : List Store) (firsts seconds : List Pass) : Type 0 where
   pub empty : All (λ store. store.base ≡ no_state) stores
   pub first : All (λ pass. known_of pass ≡ newcomer 1) firsts

@@ -35,7 +35,8 @@ abbrev pub refusal_in : (Stage → Bool) → ℕ → Option Stage → Option Res
 refusal_in takes number None = Some (UnknownTransaction number)
 refusal_in takes number (Some stage) = if takes stage then None else Some (WrongStage number)
 
--- the refusal of a call that needs a store of this number: there is no such store, or else this one
+-- the refusal of a call that needs a store of this number: if there is no such store, that; else the given refusal, if
+-- there is one
 abbrev pub refusal_at : (stores store : ℕ) → Option Response → Option Response
 refusal_at stores store refusal = if nat_lt store stores then refusal else Some (UnknownStore store)
 

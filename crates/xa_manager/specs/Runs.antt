@@ -32,7 +32,7 @@ use Rattle.xa_manager.specs.Counted.{own_of, other_of}
 abbrev pub Managing : Type 0
 Managing = WholeManager (Fused CountedStore) LastingStore
 
--- the call was refused as the table says, or was carried out, with this response
+-- the call was refused as the table (`refusal_of`) says, or was carried out, with this response
 abbrev pub IsAnswered : Managing → Call → Response → Managing → Type 0
 IsAnswered old call response new = PerformsBeside own_of other_of own_view old call response new
 

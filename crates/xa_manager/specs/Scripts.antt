@@ -1,7 +1,7 @@
 -- What a script of calls is, and the text that is written for it. All of it is an own rule:
 -- docs/COORDINATOR.md#stops.
 --     calls_of         the calls of a script, one of each line
---     faults_text      the text of the lines that are refused
+--     faults_from      the text of the lines that are refused
 --     IsStopsText      the text of a script, and how the script ended
 use Rattle.std.specs.Prelude.{◌≡◌, ◌≢◌, ℕ, ◌+◌, Bool, true, false, if◌then◌else◌, Option, List, [], ◌∷◌, ◌++◌, map}
 use Rattle.std.specs.Prelude.{codes, decimal, IfSome}
@@ -23,7 +23,7 @@ use Rattle.xa_manager.specs.declared.stop_ended.Ended.TheVariants.{Done, Faulty}
 use Rattle.xa_manager.specs.Runs.{Managing, IsRun, AreAnswered}
 use Rattle.xa_manager.specs.Stops.{IsShown}
 
--- the calls that stop the coordinator or look at it aren't read in a script whose stops are shown
+-- in a script whose stops are shown, FAIL, STOP, RECOVER and SHOW aren't read; every other call is taken as it is
 abbrev pub taken : Call → Call
 taken (Fail store calls) = UnreadCall 0
 taken Stop = UnreadCall 0
@@ -91,7 +91,8 @@ AppendsStopsPrefix stores script old new =
 abbrev pub IsFaultOfStops : List ℕ → ScriptFault → Type 0
 IsFaultOfStops script fault = fault ≡ NoMemory
 
--- what a fault leaves in the writer: a prefix if a write failed, else nothing; there is no fault of a race
+-- what a fault leaves in the writer: a prefix of the text if a write failed, else nothing. No fault of a race comes:
+-- `Full`, `GateShut` or `ThreadRefused`
 abbrev pub AfterStopsFault : ℕ → ScriptFault → Option (List ℕ) → Option (List ℕ) → Option (List ℕ) → Type 0
 AfterStopsFault stores Write input old new = IfSome input (λ script. AppendsStopsPrefix stores script old new)
 AfterStopsFault stores Full input old new = ⊥

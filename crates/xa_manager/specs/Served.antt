@@ -58,8 +58,8 @@ has_few_words (Replied convert (Ok reply)) = is_word reply
 has_few_words response = false
 
 -- memory was refused for a call, and no session got a statement and nothing changed; or the call was refused by the
--- table or carried out, and memory was refused for its answer, which is then of many words: so a begin, a decision, a
--- limit and a stop aren't carried out. A blank line and a comment are never answered so
+-- table or carried out, and memory was refused for its answer, which isn't of few words (`has_few_words`): none of
+-- BEGIN, DECIDE, FAIL and STOP is carried out then. A blank line and a comment are never answered so
 pub record IsRefusedCall {S T : Type 0} (view : S → SessionView) (view' : T → SessionView)
     (old : WholeManager (Fused S) T) (call : Call) (text : List ℕ)
     (new : WholeManager (Fused S) T) : Type 0 where

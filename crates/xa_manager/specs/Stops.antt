@@ -3,7 +3,7 @@
 --     MakesCalls       how many calls of sessions a line makes in each store
 --     stops_in         the stops of calls
 --     limits_for       how many of a line's first calls go to each store
---     IsRecovered      a coordinator was stopped, and a new one recovered
+--     IsRecovered      STOP and then RECOVER were answered
 --     ended_calls      calls, and then STOP and RECOVER
 --     stopped_calls    the calls that are carried out for a stop
 --     IsLeft           what a recovery leaves after calls
@@ -27,14 +27,14 @@ use Rattle.xa_manager.specs.Counted.{state_in}
 use Rattle.xa_manager.specs.Rows.{rows_text}
 use Rattle.xa_manager.specs.Runs.{Managing, IsAnswered, IsRun, IsGiven, is_unanswered, AreAnswered}
 
--- a call that the coordinator carries out: not another client's, and not a blank line or a comment
+-- whether the call is the coordinator's: not another client's, and not that of a blank line or a comment
 abbrev pub is_own : Call → Bool
 is_own Silent = false
 is_own (At store statement) = false
 is_own call = true
 
--- how much greater each number of the first list is than that of the second at its place, which counts as 0 if there
--- is none
+-- how much greater each number of the first list is than that of the second at its place, which is taken as 0 if there
+-- is none; 0 if it isn't greater
 unfoldable pub differences : List ℕ → List ℕ → List ℕ
 differences [] before = []
 differences (one ∷ after) [] = one ∷ differences after []
@@ -59,7 +59,7 @@ abbrev pub stop_count : ℕ → ℕ
 stop_count zero = 1
 stop_count (suc calls) = suc calls
 
--- the stops in a line that makes so many calls in each store; none in one that the coordinator doesn't carry out
+-- the stops in a line that makes so many calls in each store; none if its call isn't the coordinator's
 abbrev pub stops_at : ℕ → Call → List ℕ → List Stop
 stops_at place call made = if is_own call then stops_below place (stop_count (sum made)) else []
 
@@ -83,7 +83,7 @@ unfoldable pub fails_from : ℕ → List ℕ → List Call
 fails_from store [] = []
 fails_from store (limit ∷ limits) = Fail store limit ∷ fails_from (store + 1) limits
 
--- the coordinator was stopped, and a new one recovered, with each statement answered: this text is its answer
+-- STOP was answered, and then RECOVER, for which sessions answered each statement; the text is the answer to RECOVER
 pub record IsRecovered (old : Managing) (answer : List ℕ) (new : Managing) : Type 0 where
   pub stopped : Response
   pub mid : Managing

@@ -97,12 +97,12 @@ abbrev pub recovered_text : Result Report RecoverFault → List ℕ
 recovered_text (Ok report) = report_text report
 recovered_text (Err fault) = recover_fault_text fault
 
--- what is written for an answer to the other client; convert says whether recovered identifiers are in digits
+-- what is written for an answer to the other client; `convert` says whether recovered identifiers are in hexadecimal
 abbrev pub replied_text : Bool → Result Reply Fault → List ℕ
 replied_text convert (Ok reply) = reply_text convert reply
 replied_text convert (Err fault) = codes "FAULT: " ++ fault_text fault
 
--- a store's number, and below it the answer that its other client got; `true`: recovered identifiers are in digits
+-- a store's number, and below it the answer that its other client got; `true`: recovered identifiers are in hexadecimal
 abbrev pub store_text : ℕ → Result Reply Fault → List ℕ
 store_text store answer = codes "STORE " ++ decimal store ++ codes "\n" ++ replied_text true answer ++ codes "\n"
 
@@ -135,7 +135,7 @@ decisions_text decisions =
     ++ codes "\nCLOSED"
     ++ numbers_text Closed 1 decisions
 
--- the response to a call, when the decisions are these
+-- what is written for the response to a call, without its line feed; SHOW writes these decisions too
 abbrev pub response_text : List Decision → Response → List ℕ
 response_text decisions Silent = []
 response_text decisions (Unread place) = syntax_text place

@@ -33,7 +33,7 @@ pub record ManagerBegins {S T : Type 0} (view : S → SessionView) (view' : T �
   pub anew : StartsAnew manager.branches manager.sessions
   pub pairs : AllZip (λ session other. IsPair (view session.inner) (view' other)) manager.sessions manager.other_clients
 
--- a call was refused by the table; no session got a statement, and nothing changed
+-- a call was refused by the table (`refusal_of`); no session got a statement, and nothing changed
 pub record IsRefused {C T : Type 0} (old : WholeManager C T) (call : Call) (response : Response)
     (new : WholeManager C T) : Type 0 where
   pub told : refusal_of old.stores old.stages call ≡ Some response

@@ -37,11 +37,13 @@ fn not_begun(fault: BeginFault) -> Result<Response, NoMemory>
     }
 }
 
-/// The response for a vote, and the transaction's stage after it.
+/// What is answered to a vote, and the transaction's stage after it.
 fn told_of(vote: Vote) -> (VoteAnswer, Stage)
     ensures answer { result.0 ≡ vote_answer_of vote }
     ensures stage { result.1 ≡ stage_with vote }
 {
+    // Only a vote of Ready can be decided, so it has a stage of its own. If no store takes part, nothing is left to
+    // finish.
     match vote {
         Vote::Ready(prepared) => (VoteAnswer::Ready, Stage::Ready(prepared)),
         Vote::OnePhase(prepared) => (VoteAnswer::OnePhase, Stage::Voted(prepared)),
@@ -65,8 +67,8 @@ fn reply_from<T: Speak, R: Wait>(
     reply_in(session.execute(rt, statement))
 }
 
-/// What each other client's session answers to `XA RECOVER CONVERT XID`. Room for the answers is taken before
-/// the first is asked, so after `NoMemory` none got a statement.
+/// What the other client's session of each store answers to `XA RECOVER CONVERT XID`, or its fault, from store 0 on.
+/// Room for the answers is taken before the first session is asked, so after `NoMemory` no session got a statement.
 fn listed_by_each<T: Speak, R: Wait>(
     rt: &R,
     alloc: Global,
@@ -86,7 +88,7 @@ fn listed_by_each<T: Speak, R: Wait>(
     Ok(answers)
 }
 
-/// Lets the sessions of the first `count` stores pass on 2^64 - 1 calls, so that none reaches its limit.
+/// Lets the coordinator's sessions of the first `count` stores pass on 2^64 - 1 calls: more than any run makes.
 fn allow_all<S: Speak>(coordinator: &mut Coordinator<Fused<S>>, count: u8)
     requires { count ≤ vec_len coordinator.old.stores }
     ensures name { coordinator.new.name ≡ coordinator.old.name }
@@ -100,22 +102,25 @@ fn allow_all<S: Speak>(coordinator: &mut Coordinator<Fused<S>>, count: u8)
 }
 
 impl<C: Speak, T: Speak> Manager<C, T> {
-    /// Whether there is a store of this number.
+    /// Whether there is a store of this number. If so, the number fits into a `u8`, since there are at most 16 stores.
     pub(crate) fn has_store(&self, store: u64) -> bool
         ensures { result ≡ nat_lt store (vec_len self.now.coordinator.stores) }
     {
-        // The list has one for each store.
+        // The list of other clients has one for each store.
         store < self.other_clients.len() as u64
     }
 
-    /// Begins the transaction of the next number, or answers that all numbers were given.
+    /// Begins the transaction of the next number, or answers that all numbers were given. Errors: `NoMemory` if the
+    /// ledger or the decisions can't grow; then nothing has changed.
     fn begin(&mut self) -> Result<Response, NoMemory>
         ensures answers { IfOk result
             (λ response. IsBegun (whole_of self.old) response (whole_of self.new)
             ⊎ IsSpent (whole_of self.old) response (whole_of self.new)) }
         ensures nothing { OnErr result (whole_of self.new ≡ whole_of self.old) }
     {
-        // The place comes first: where there is no memory for it, no number is given.
+        // The place comes first: if there is no memory for it, no number is given. `Over` only holds the place until
+        // the transaction is there. The ledger had a place for each number that was given, so this is the next
+        // number's.
         self.ledger.add(Stage::Over)?;
         match self.coordinator.begin(&mut self.decisions) {
             Ok(transaction) => {
@@ -131,8 +136,8 @@ impl<C: Speak, T: Speak> Manager<C, T> {
         }
     }
 
-    /// Gives a row statement of a transaction to a store. The answer is a refusal if there is no such store, or if
-    /// the transaction wasn't begun or takes no more work.
+    /// Gives a row statement of a transaction to a store, and answers what the coordinator's `work` returned. The
+    /// answer is a refusal if there is no such store, or if the transaction wasn't begun or takes no more work.
     fn work<R: Wait>(&mut self, rt: &R, number: u64, store: u64, statement: &Statement) -> Response
         requires { takes_rows statement.now ≡ true }
         ensures { IsRefused (whole_of self.old) (Call.Work number store statement.now) result (whole_of self.new)
@@ -147,7 +152,7 @@ impl<C: Speak, T: Speak> Manager<C, T> {
                 let worked = self
                     .coordinator
                     .work(rt, &mut transaction, store as u8, statement);
-                // It goes on taking work, also after a refusal or a fault.
+                // The transaction goes on taking work, also after a refusal or a fault.
                 self.ledger.put(number, Stage::Working(transaction));
                 Response::Worked(worked)
             }
@@ -155,8 +160,8 @@ impl<C: Speak, T: Speak> Manager<C, T> {
         }
     }
 
-    /// Has the stores of a transaction vote, and keeps the vote as its stage. The answer is a refusal if the
-    /// transaction wasn't begun or takes no more work.
+    /// Has the stores of a transaction vote, answers the vote, and keeps it as the transaction's stage. The answer is a
+    /// refusal if the transaction wasn't begun or takes no more work.
     fn prepare<R: Wait>(&mut self, rt: &R, number: u64) -> Response
         ensures { IsRefused (whole_of self.old) (Call.Prepare number) result (whole_of self.new)
             ⊎ HasVoted C.view number (whole_of self.old) result (whole_of self.new) }
@@ -172,8 +177,8 @@ impl<C: Speak, T: Speak> Manager<C, T> {
         }
     }
 
-    /// Decides that a transaction commits, or answers that its number is closed. The answer is a refusal if its vote
-    /// isn't Ready.
+    /// Decides that a transaction commits, or answers that its number is closed. The answer is a refusal if the
+    /// transaction wasn't begun, has no vote of Ready, or is over.
     fn decide(&mut self, number: u64) -> Response
         ensures { IsRefused (whole_of self.old) (Call.Decide number) result (whole_of self.new)
             ⊎ IsDecided number (whole_of self.old) result (whole_of self.new) }
@@ -181,10 +186,11 @@ impl<C: Speak, T: Speak> Manager<C, T> {
         match self.ledger.take_ready(number) {
             Ok(prepared) => {
                 let decided = self.decisions.decide(&prepared);
-                // It stays Ready, decided or not, so that it can be finished.
+                // The transaction stays Ready, decided or not, so that it can be finished.
                 self.ledger.put(number, Stage::Ready(prepared));
                 match decided {
                     Ok(()) => Response::Decided,
+                    // The only error. The number was given to this transaction, so a recovery has closed it.
                     Err(_) => Response::Closed,
                 }
             }
@@ -192,8 +198,8 @@ impl<C: Speak, T: Speak> Manager<C, T> {
         }
     }
 
-    /// Ends a transaction that was voted on, as its vote and the decisions say; it is over then, however it ended.
-    /// The answer is a refusal if it has no vote to finish.
+    /// Ends a transaction that was voted on, as its vote and the decisions say, and answers how it ended. It is
+    /// over then, also if it ended as Unfinished. The answer is a refusal if it wasn't begun or has no vote to finish.
     fn finish<R: Wait>(&mut self, rt: &R, number: u64) -> Response
         ensures { IsRefused (whole_of self.old) (Call.Finish number) result (whole_of self.new)
             ⊎ IsFinished C.view number (whole_of self.old) result (whole_of self.new) }
@@ -207,8 +213,8 @@ impl<C: Speak, T: Speak> Manager<C, T> {
         }
     }
 
-    /// Rolls back a transaction that takes work; it is over then, however it ended. The answer is a refusal if it
-    /// wasn't begun or takes no more work.
+    /// Rolls back a transaction that takes work, and answers how it ended. It is over then, also if it ended as
+    /// Unfinished. The answer is a refusal if it wasn't begun or takes no more work.
     fn abandon<R: Wait>(&mut self, rt: &R, number: u64) -> Response
         ensures { IsRefused (whole_of self.old) (Call.Abandon number) result (whole_of self.new)
             ⊎ IsAbandoned C.view number (whole_of self.old) result (whole_of self.new) }
@@ -220,14 +226,15 @@ impl<C: Speak, T: Speak> Manager<C, T> {
         }
     }
 
-    /// Has the coordinator recover.
+    /// Has the coordinator recover, and answers its report or why it failed.
     fn recover<R: Wait>(&mut self, rt: &R, alloc: Global) -> Response
         ensures { HasRecovered C.view (whole_of self.old) result (whole_of self.new) }
     {
         Response::Recovered(self.coordinator.recover(rt, alloc, &mut self.decisions))
     }
 
-    /// Gives a statement to the other client's session of a store, and returns its answer, or `UnknownStore`.
+    /// Gives a statement to the other client's session of a store, and answers the session's reply or fault;
+    /// `UnknownStore` if there is no such store.
     fn at<R: Wait>(&mut self, rt: &R, store: u64, statement: &Statement) -> Response
         ensures { IsRefused (whole_of self.old) (Call.At store statement.now) result (whole_of self.new)
             ⊎ HasReplied T.view store statement.now (whole_of self.old) result (whole_of self.new) }
@@ -241,7 +248,8 @@ impl<C: Speak, T: Speak> Manager<C, T> {
         }
     }
 
-    /// Has the other client of each store list what is prepared there.
+    /// Has the other client of each store list what is prepared there. Errors: `NoMemory` if the list of answers has no
+    /// room; then no session got a statement.
     fn show<R: Wait>(&mut self, rt: &R, alloc: Global) -> Result<Response, NoMemory>
         ensures answers { IfOk result (λ response. IsShown T.view (whole_of self.old) response (whole_of self.new)) }
         ensures nothing { OnErr result (whole_of self.new ≡ whole_of self.old) }
@@ -252,7 +260,8 @@ impl<C: Speak, T: Speak> Manager<C, T> {
 }
 
 impl<S: Speak, T: Speak> Manager<Fused<S>, T> {
-    /// Has the coordinator's session in a store pass on `calls` more calls, and then fail; or answers `UnknownStore`.
+    /// Has the coordinator's session in a store pass on `calls` more calls, and then fail; `UnknownStore` if there is
+    /// no such store.
     fn fail(&mut self, store: u64, calls: u64) -> Response
         ensures { IsRefused (whole_of self.old) (Call.Fail store calls) result (whole_of self.new)
             ⊎ IsLimited store calls (whole_of self.old) result (whole_of self.new) }
@@ -279,8 +288,8 @@ impl<S: Speak, T: Speak> Manager<Fused<S>, T> {
     /// Carries a call out, and returns its response.
     ///
     /// `call`: as `read_call` returns it. A call that the table of refusals refuses changes nothing. After
-    /// `FAIL` the coordinator's session in that store passes on so many calls; after `STOP` each passes on
-    /// 2^64 - 1, and nothing is open in any store.
+    /// `FAIL` the coordinator's session in its store passes on as many calls as it says; after `STOP` each of the
+    /// coordinator's sessions passes on 2^64 - 1, and the coordinator has nothing open in any store.
     /// Errors: `NoMemory` if a transaction can't be kept or a list of answers has no room.
     /// After an error no session got a statement, and nothing changed.
     /// May return `NoMemory`. May wait: no number of tries is promised.

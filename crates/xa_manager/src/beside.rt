@@ -17,8 +17,8 @@ use xa_server::Reply;
 use xa_session::Fault;
 use xa_xid::{NoMemory, Statement};
 
-/// What each other client's session answers to `XA RECOVER CONVERT XID`. Room for the answers is taken before
-/// the first is asked, so after `NoMemory` none got a statement.
+/// What the other client's session of each store answers to `XA RECOVER CONVERT XID`, or its fault, from store 0 on.
+/// Room for the answers is taken before the first session is asked, so after `NoMemory` no session got a statement.
 fn listed_beside<S: Beside, R: Wait>(
     rt: &R,
     alloc: Global,
@@ -44,8 +44,8 @@ fn listed_beside<S: Beside, R: Wait>(
 }
 
 impl<S: Beside, T: Speak> Manager<Fused<S>, T> {
-    /// Gives a statement to the other client's session of a store, which the coordinator's session there holds.
-    /// Returns its answer, or `UnknownStore`.
+    /// Gives a statement to the other client's session of a store, which the coordinator's session there holds, and
+    /// answers the other client's reply or fault; `UnknownStore` if there is no such store.
     fn at_beside<R: Wait>(&mut self, rt: &R, store: u64, statement: &Statement) -> Response
         ensures { IsRefused (whole_of self.old) (Call.At store statement.now) result (whole_of self.new)
             ⊎ HasRepliedBeside S.view S.other store statement.now (whole_of self.old) result (whole_of self.new) }
@@ -59,7 +59,8 @@ impl<S: Beside, T: Speak> Manager<Fused<S>, T> {
         }
     }
 
-    /// Has the other client of each store, whose session the coordinator's holds, list what is prepared there.
+    /// Has the other client of each store, whose session the coordinator's holds, list what is prepared there. Errors:
+    /// `NoMemory` if the list of answers has no room; then no session got a statement.
     fn show_beside<R: Wait>(&mut self, rt: &R, alloc: Global) -> Result<Response, NoMemory>
         ensures answers { IfOk result (λ response. IsShownBeside S.view S.other (whole_of self.old) response
             (whole_of self.new)) }
@@ -96,6 +97,7 @@ impl<S: Beside, T: Speak> Manager<Fused<S>, T> {
         match call {
             Call::At { store, statement } => Ok(self.at_beside(rt, *store, statement)),
             Call::Show => self.show_beside(rt, alloc),
+            // No other call speaks to another client's session, so `answer` carries it out as it is.
             _ => self.answer(rt, alloc, call),
         }
     }

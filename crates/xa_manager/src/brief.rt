@@ -12,13 +12,13 @@ use xa_coordinator::{Decision, Ending, WorkFault};
 use xa_lines::Answer;
 use xa_server::Reply;
 
-/// An answer of at most 64 bytes, all of which `Answer::Short` has room for.
+/// An answer of fixed words, with its line feed. Each has at most 64 bytes; `Answer::Short` has room for 160.
 pub(crate) fn short_answer(text: &[u8]) -> Answer
     requires { length text.now ≤ 64 }
     ensures { bytes_of result ≡ text.now }
 {
     let mut bytes = ArrayVec::new();
-    // 64 bytes fit, so nothing is refused.
+    // 64 bytes fit, so this never fails.
     let _ = bytes.try_extend_from_slice(text);
     Answer::Short(bytes)
 }

@@ -12,7 +12,7 @@ use std::sync::Wait;
 use xa_coordinator::{Fused, Speak};
 use xa_lines::{Answer, LineServer};
 
-/// Room for most answers, in bytes; only values and lists need more. It is taken before a call is carried out: if it
+/// Room for each answer but the lists of `AT` and `SHOW`, in bytes. It is taken before a call is carried out: if it
 /// can't be had, the call isn't carried out.
 pub(crate) const ANSWER_ROOM: usize = 256;
 

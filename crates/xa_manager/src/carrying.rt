@@ -1,4 +1,4 @@
-//! Carrying calls out, one after another.
+//! Carrying calls out, one after another, and limiting the coordinator's sessions.
 ghost use Rattle.std.specs.Prelude.{◌≡◌, List, All, OnOk};
 ghost use Rattle.xa_manager.specs.Calls.{IsWritten};
 ghost use Rattle.xa_manager.specs.Managed.{whole_of};
@@ -42,9 +42,9 @@ pub fn is_unanswered(response: &Response) -> bool
     }
 }
 
-/// Carries calls out. Each statement that they give a session has to be answered.
+/// Carries calls out, in order, until a response tells that a session didn't answer a statement (`is_unanswered`).
 ///
-/// The sessions have no limit that the calls reach. Errors: `NoMemory`, also if a statement wasn't answered.
+/// The sessions must have no limit that the calls reach. Errors: `NoMemory`, also if a statement wasn't answered.
 pub fn carry_out<R: Wait>(
     rt: &R,
     alloc: Global,
@@ -65,7 +65,7 @@ pub fn carry_out<R: Wait>(
     Ok(())
 }
 
-/// Lets the coordinator's session in store k answer `limits[k]` more calls, for each of the limits.
+/// Lets the coordinator's session in store k answer `limits[k]` more calls and then fail, for each of the limits.
 pub fn limit_each<R: Wait>(
     rt: &R,
     alloc: Global,
@@ -81,7 +81,7 @@ pub fn limit_each<R: Wait>(
             store: store as u64,
             calls: limits[store],
         };
-        // It only says that the session is limited, or that there is no such store, and isn't shown.
+        // The response only says that the session is limited, or that there is no such store, and isn't shown.
         let _response = manager.answer_beside(rt, alloc, &call)?;
     }
     Ok(())

@@ -38,7 +38,8 @@ impl CountedStore {
         self.store.server()
     }
 
-    /// Notes that memory was refused if a statement wasn't answered, which in an unbounded store has no other cause.
+    /// Notes that memory was refused if a statement wasn't answered: an unbounded store has no other fault. What was
+    /// noted once stays noted. `answered`: whether the store answered the statement.
     fn note(&mut self, answered: bool)
         ensures store { self.new.store ≡ self.old.store }
         ensures refused { answered ≡ false → self.new.starved ≡ true }

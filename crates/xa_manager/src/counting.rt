@@ -11,8 +11,8 @@ use std::alloc::Global;
 use std::sync::Wait;
 use xa_xid::NoMemory;
 
-/// How many statements the coordinator's session of each store is given if these calls are carried out on so many new
-/// stores.
+/// How many statements the coordinator's session of each store is given if these calls are carried out on `stores` new
+/// stores. Errors: `NoMemory`, also if a statement wasn't answered.
 fn given_after<R: Wait>(
     rt: &R,
     alloc: Global,
@@ -44,16 +44,17 @@ fn differences(alloc: Global, after: &[u64], before: &[u64]) -> Result<Vec<u64>,
 {
     let mut more = Vec::new(alloc);
     for place in 0..after.len() {
-        // Both lists have a number for each store, so the 0 isn't taken. The lines before go alike in both runs, so no
-        // number is less than the one before, and nothing is cut off; but no contract says that runs go alike.
+        // Both lists have a number for each store, so the 0 isn't taken. For `after` the lines of `before` come first
+        // and go alike, so no number is less than the one before, and nothing is cut off; but no contract says that.
         let was = number_or_zero(before, place);
         more.push(after[place].saturating_sub(was))?;
     }
     Ok(more)
 }
 
-/// How many calls of sessions each line makes in each store: how many more statements the lines up to it give a
-/// session than those before it do, each time on new stores.
+/// How many calls of sessions each line makes in each store: how many more statements the coordinator's session there
+/// is given by the lines up to and with this one than by the lines before it, each time on new stores. Errors:
+/// `NoMemory`, also if a statement wasn't answered.
 pub fn calls_made<R: Wait>(
     rt: &R,
     alloc: Global,
@@ -69,7 +70,7 @@ pub fn calls_made<R: Wait>(
         → MakesCalls stores calls.now place there) }
 {
     let mut made = Vec::new(alloc);
-    // Before the first line that is 0 in each store.
+    // Before the first line no session was given a statement: a 0 for each store.
     let mut before = given_after(rt, alloc, &calls[..0], stores)?;
     for place in 0..calls.len() {
         let after = given_after(rt, alloc, &calls[..place + 1], stores)?;

@@ -62,7 +62,7 @@ impl Ledger {
         let _last = self.stages.pop();
     }
 
-    /// The place of a transaction in the list, if it was begun.
+    /// The place of the transaction of this number in the list. None if no transaction of this number was begun.
     #[tactic(auto, unfolding(crate::specs::Ledger::stage_of))]
     fn place(&self, number: u64) -> Option<usize>
         ensures some { IfSome result (λ place. number ≡ place + 1) }
@@ -77,7 +77,8 @@ impl Ledger {
         Some((number - 1) as usize)
     }
 
-    /// Takes out the stage of a transaction, if it was begun. Its place then says that it is over.
+    /// Takes out the stage of the transaction of this number, and leaves `Over` in its place. None, and nothing
+    /// changes, if no transaction of this number was begun.
     #[tactic(auto, unfolding(crate::specs::Ledger::stage_of, crate::specs::Ledger::with_stage))]
     fn take(&mut self, number: u64) -> Option<Stage>
         ensures taken { result ≡ stage_of self.old number }
@@ -103,7 +104,7 @@ impl Ledger {
         self.stages[place] = stage;
     }
 
-    /// Takes out a transaction that takes work. Its place then says that it is over.
+    /// Takes out a transaction that takes work. The ledger then says that it is over.
     ///
     /// `number`: the transaction's, any below 2^64. Errors: the response `UnknownTransaction` if it wasn't
     /// begun, `WrongStage` if it takes no more work.

@@ -18,7 +18,7 @@ use xa_server::{Reply, XaError};
 use xa_session::Fault;
 use xa_xid::NoMemory;
 
-/// Appends a word and a number.
+/// Appends a word as it is, its space included, and a number in digits.
 fn push_numbered(text: &mut Vec<u8>, word: &[u8], number: u64) -> Result<(), NoMemory>
     ensures { OnOk result (text.new.items ≡ text.old.items ++ (word.now ++ decimal number)) }
 {
@@ -26,7 +26,7 @@ fn push_numbered(text: &mut Vec<u8>, word: &[u8], number: u64) -> Result<(), NoM
     push_number(text, number)
 }
 
-/// Appends a word and a count.
+/// Appends a word as it is, its spaces included, and a count of a recovery's report in digits.
 fn push_count(text: &mut Vec<u8>, word: &[u8], count: u128) -> Result<(), NoMemory>
     ensures { OnOk result (text.new.items ≡ text.old.items ++ (word.now ++ decimal count)) }
 {
@@ -42,6 +42,7 @@ fn push_fault(text: &mut Vec<u8>, fault: &Fault) -> Result<(), NoMemory>
     match fault {
         Fault::Full => text.extend_from_slice(b"log full"),
         Fault::NoMemory => text.extend_from_slice(b"out of memory"),
+        // `execute` tries again after these two, so no call of a manager ends with them.
         Fault::Overtaken { .. } => text.extend_from_slice(b"overtaken"),
         Fault::Busy => text.extend_from_slice(b"busy"),
     }
@@ -97,6 +98,7 @@ fn push_worked(
             text.extend_from_slice(b"FAULT: ")?;
             push_fault(text, fault)
         }
+        // `XA START` was refused, so no branch was started.
         Err(WorkFault::Refused(error)) => {
             text.extend_from_slice(b"NOT STARTED: ")?;
             push_refusal(alloc, text, *error)
@@ -194,7 +196,7 @@ fn push_replied(
     }
 }
 
-/// Appends a store's number, and below it the answer of its other client.
+/// Appends a line with a store's number, and below it the answer of its other client, with a line feed.
 fn push_store(
     alloc: Global,
     text: &mut Vec<u8>,
@@ -205,7 +207,7 @@ fn push_store(
 {
     push_numbered(text, b"STORE ", store)?;
     text.extend_from_slice(b"\n")?;
-    // It is the answer to `XA RECOVER CONVERT XID`.
+    // It is the answer to `XA RECOVER CONVERT XID`, so identifiers are written in digits.
     push_replied(alloc, text, true, answer)?;
     text.extend_from_slice(b"\n")
 }
@@ -253,8 +255,8 @@ fn push_numbers(
     Ok(())
 }
 
-/// Appends the lines `UNDECIDED`, `DECIDED` and `CLOSED`, each with the numbers of the transactions that are so. The
-/// last one has no line feed.
+/// Appends the lines `UNDECIDED`, `DECIDED` and `CLOSED`, each with the numbers of the transactions in that state. The
+/// last line has no line feed: `write_into` adds it.
 fn push_decisions(text: &mut Vec<u8>, decisions: &[Decision]) -> Result<(), NoMemory>
     ensures { OnOk result (text.new.items ≡ text.old.items ++ decisions_text decisions.now) }
 {
@@ -266,8 +268,8 @@ fn push_decisions(text: &mut Vec<u8>, decisions: &[Decision]) -> Result<(), NoMe
     push_numbers(text, Decision::Closed, decisions)
 }
 
-/// Appends a response of more than few words, without a line feed. Those of few words don't come here: `few_words`
-/// has their answers.
+/// Appends a response of more than few words, without the line feed at its end; nothing for `Silent`. Those of few
+/// words don't come here: `few_words` has their answers.
 fn push_response(
     alloc: Global,
     text: &mut Vec<u8>,
@@ -320,7 +322,7 @@ fn write_into(
     Ok(text)
 }
 
-/// Writes the text of a response, each of its lines with a line feed. A response to no call has an empty
+/// Writes the text of a response, each of its lines with a line feed. `Silent`, the response to no call, has an empty
 /// text.
 ///
 /// `room`: an empty text, which may have room already. `decisions`: as they are after the call.

@@ -1,4 +1,5 @@
-//! Reading lines as calls.
+//! Reading lines as calls. A line that can't be read is the call `Unread`: with the byte at which its statement is
+//! wrong, or with 0 if another part of the line is.
 ghost use Rattle.std.specs.Prelude.{◌≡◌, Some, None, MatchOption};
 ghost use Rattle.xa_lines.specs.Script.{first_word, behind_word, number_of_word};
 ghost use Rattle.xa_manager.specs.Calls.{lone_number, takes_rows, alone as alone_call, work_of, at_of, fail_of};
@@ -64,7 +65,7 @@ fn alone(call: Call, rest: &[u8]) -> Call
 }
 
 /// The call of a line WORK n k STATEMENT, by what stands behind WORK. If it can't be read, `Unread`: with the byte of
-/// STATEMENT at which that is wrong, or 0 if anything else is.
+/// STATEMENT at which its text is wrong, or 0 if anything else is.
 #[tactic(auto, unfolding(crate::specs::Calls::work_of))]
 fn work(text: &[u8]) -> Call
     ensures call { result ≡ work_of text.now }
@@ -94,7 +95,7 @@ fn work(text: &[u8]) -> Call
 }
 
 /// The call of a line AT k STATEMENT, by what stands behind AT. If it can't be read, `Unread`: with the byte of
-/// STATEMENT at which that is wrong, or 0 if k is.
+/// STATEMENT at which its text is wrong, or 0 if k is.
 #[tactic(auto, unfolding(crate::specs::Calls::at_of))]
 fn at(text: &[u8]) -> Call
     ensures call { result ≡ at_of text.now }
@@ -128,8 +129,8 @@ fn fail(text: &[u8]) -> Call
     }
 }
 
-/// Reads a call that is about no transaction, by its first word and the text after that word and its blanks. `Unread`
-/// if the word names none.
+/// Reads a call that names no transaction. `word`: its first word. `rest`: what comes after the word and the blanks
+/// behind it. `Unread` if the word names no such call, or if `rest` doesn't fit the call.
 #[tactic(auto, unfolding(crate::specs::Calls::plain_call))]
 fn plain(word: &[u8], rest: &[u8]) -> Call
     ensures call { result ≡ plain_call word.now rest.now }
@@ -196,7 +197,8 @@ fn abandon(text: &[u8]) -> Call
     }
 }
 
-/// Reads a call by its first word and the text after that word and its blanks. `Unread` if the word names none.
+/// Reads a call. `word`: its first word. `rest`: what comes after the word and the blanks behind it. `Unread` if the
+/// word names no call, or if `rest` doesn't fit the call.
 #[tactic(auto, unfolding(crate::specs::Calls::call_named))]
 fn named(word: &[u8], rest: &[u8]) -> Call
     ensures call { result ≡ call_named word.now rest.now }
@@ -220,7 +222,7 @@ fn named(word: &[u8], rest: &[u8]) -> Call
 /// Reads a line as a call.
 ///
 /// `line`: without its line feed. Words are separated by blanks. A line of blanks, and one whose first byte
-/// that isn't blank is `#`, is no call. A line that can't be read is the call `Unread`.
+/// that isn't blank is `#`, is no call: `Silent`. A line that can't be read is the call `Unread`.
 /// Takes no memory. Doesn't wait.
 /// Own rule: docs/COORDINATOR.md#calls.
 #[tactic(auto, unfolding(crate::specs::Calls::call_of))]

@@ -22,7 +22,7 @@ pub enum Response {
     Begun(u64),
     /// All numbers were given.
     NumbersSpent,
-    /// What work did.
+    /// What the coordinator's `work` returned.
     Worked(Result<Reply, WorkFault>),
     /// What the stores voted.
     Voted(VoteAnswer),
@@ -36,7 +36,7 @@ pub enum Response {
     Limited,
     /// A new coordinator has replaced the old one.
     Stopped,
-    /// What a recovery did.
+    /// What a recovery did, or why it failed.
     Recovered(Result<Report, RecoverFault>),
     /// The answer of another client's session, with identifiers in digits if `convert`.
     Replied {

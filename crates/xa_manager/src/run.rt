@@ -33,7 +33,8 @@ fn open_store(alloc: Global, capacity: u64) -> Result<(Store, Pass, Pass), NoMem
     let Ok((store, mut passes)) = Store::open(alloc, capacity, 2) else {
         return Err(AllocError);
     };
-    // There is one for each of the two sessions, in their order, so the last one is session 2's.
+    // There is one pass for each of the two sessions, in their order, so the last one is session 2's. The error never
+    // comes.
     let (Some(second), Some(first)) = (passes.pop(), passes.pop()) else {
         return Err(AllocError);
     };
@@ -78,7 +79,7 @@ pub fn open_stores(
     Ok((stores, firsts, seconds))
 }
 
-/// A session of each store, of the pass at the store's place.
+/// A session of each store, made of the pass at the store's place. Errors: `NoMemory` if an allocation fails.
 fn connect_each<'a>(
     alloc: Global,
     stores: &'a [Store],
@@ -92,7 +93,7 @@ fn connect_each<'a>(
 {
     let mut sessions = Vec::new(alloc);
     for pass in passes {
-        // So many passes came before this one, which is of the store at the same place.
+        // Each pass before this one has become a session, so their number is this pass's place, and its store's.
         let store = &stores[sessions.len()];
         // Only an allocation can fail here: the pass is of this store.
         let Ok(session) = store.connect(pass) else {
@@ -117,7 +118,8 @@ fn fuse_each<S: Speak + Drop>(alloc: Global, sessions: Vec<S>) -> Result<Vec<Fus
     Ok(fused)
 }
 
-/// Makes a manager over 1 to 16 stores. Nothing has begun, nothing is open, and no session fails.
+/// Makes a manager over 1 to 16 stores. Nothing has begun, nothing is open, and each session of the coordinator passes
+/// on 2^64 - 1 calls.
 ///
 /// `stores`, and the passes of their sessions 1 and 2, are as `open_stores` returns them.
 /// Errors: `NoMemory` if an allocation fails; the passes are gone then.

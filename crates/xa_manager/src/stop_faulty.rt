@@ -29,8 +29,8 @@ fn is_refusal(response: &Response) -> bool
     }
 }
 
-/// Appends `LINE`, the number, and why the line of this number is refused. `decisions` isn't shown in a refusal;
-/// `write_response` wants it for other answers.
+/// Appends `LINE`, the number, and why the line of this number, from 1, is refused. `response` is that refusal.
+/// `decisions` isn't shown in a refusal; `write_response` wants it for other answers.
 fn push_cause(
     faults: &mut Vec<u8>,
     alloc: Global,
@@ -92,8 +92,9 @@ fn carry_line<R: Wait>(
     Ok(())
 }
 
-/// Carries all calls out on so many new stores, and returns the text for those that are refused: an empty one if none
-/// is.
+/// Carries all calls out on `stores` new stores, and returns a line `LINE n: CAUSE` for each that is refused
+/// (`is_refusal`; a refusal by a store isn't meant): an empty text if none is. Errors: `NoMemory`, also if memory was
+/// refused for a statement.
 pub fn faulty_lines<R: Wait>(
     rt: &R,
     alloc: Global,
@@ -118,7 +119,8 @@ pub fn faulty_lines<R: Wait>(
             &calls[place],
         )?;
     }
-    // If memory was refused in a store, a line may seem faulty for that alone. Then this fails, too.
+    // If memory was refused in a store, a line may seem faulty for that alone. Then `fed_stores` fails, and no text is
+    // returned.
     let _stores = fed_stores(alloc, manager)?;
     Ok(faults)
 }

@@ -16,10 +16,10 @@ ghost use Rattle.xa_manager.specs.Scripts.{calls_of};
 ghost use Rattle.xa_manager.specs.Stops.{IsStopText, IsShown};
 
 /// States what the coordinator's sessions have added after calls, none of them `RECOVER`, and a completed
-/// recovery.
+/// recovery, if memory was refused for no statement.
 ///
-/// Everything that they ever added goes with the decisions as they are then, and none of the coordinator's
-/// branches is prepared.
+/// Everything that they ever added goes with the decisions as they are then (`GoesWith`), and none of the
+/// coordinator's branches is prepared.
 /// Own rule: docs/COORDINATOR.md#stops.
 pub fn recovery_keeps_to_decisions()
     // Proved (coordinator, recovery-keeps-to-decisions): In any run of a manager's calls over unbounded stores that
@@ -36,10 +36,10 @@ pub fn recovery_keeps_to_decisions()
 {}
 
 /// States that each transaction is in all stores in which it has a branch, or in none, after calls, none of them
-/// `RECOVER`, and a completed recovery.
+/// `RECOVER`, and a completed recovery, if memory was refused for no statement.
 ///
 /// A decided one was committed in each; one that isn't decided in none, or by ONE PHASE in the only store in
-/// which it has a branch. The condition is that no call has another client end a branch of the coordinator's
+/// which it has a branch. Another condition is that no call has another client end a branch of the coordinator's
 /// naming.
 /// Own rule: docs/COORDINATOR.md#stops.
 pub fn transactions_stand_whole_or_not_at_all()

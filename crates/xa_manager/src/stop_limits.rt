@@ -5,8 +5,8 @@ ghost use Rattle.xa_manager.specs.Stops.{limits_for as limits_of};
 use std::alloc::Global;
 use xa_xid::NoMemory;
 
-/// How many of the first `calls` calls of a line go to each store. `made` has how many go there in all; they
-/// go to the stores in ascending order.
+/// How many of the first `calls` calls of sessions of a line go to each store. `made` has for each store how many of
+/// all its calls go there; they go to the stores in ascending order.
 pub fn limits_for(alloc: Global, made: &[u64], calls: u64) -> Result<Vec<u64>, NoMemory>
     ensures { IfOk result (λ limits. limits.items ≡ limits_of made.now calls) }
 {

@@ -33,7 +33,7 @@ fn key_there(there: u64, statement: &Statement, store: u64) -> Option<Key>
     }
 }
 
-/// The key that a call names in a store. None if it names none there.
+/// The key that a call names in `store`. None if it names none there.
 fn key_named(call: &Call, store: u64) -> Option<Key>
     ensures { result ≡ key_of_call call.now store }
 {
@@ -47,6 +47,7 @@ fn key_named(call: &Call, store: u64) -> Option<Key>
             store: there,
             statement,
         } => key_there(*there, statement, store),
+        // Only WORK and AT have a statement.
         _ => None,
     }
 }
@@ -64,7 +65,7 @@ fn add_key(found: &mut BTreeSet<Key>, key: Option<Key>) -> Result<(), NoMemory>
     }
 }
 
-/// The keys that calls name in a store, in order.
+/// The keys that calls name in `store`, as a set: each once, ascending.
 fn set_of_keys(alloc: Global, calls: &[Call], store: u64) -> Result<BTreeSet<Key>, NoMemory>
     ensures { IfOk result (λ found. keys found ≡ keys_of_calls calls.now store) }
 {

@@ -7,8 +7,8 @@ use crate::{Call, Stop};
 use std::alloc::{AllocError, Global};
 use xa_xid::NoMemory;
 
-/// Whether the coordinator carries the call out: it isn't another client's, nor a blank line or a comment. An `Unread`
-/// counts too, but stops are shown only of a script without one; `FAIL`, `STOP`, `RECOVER` and `SHOW` are read as
+/// Whether the coordinator carries the call out: it isn't another client's, nor a blank line or a comment. True of an
+/// `Unread`, too, but stops are shown only of a script without one; `FAIL`, `STOP`, `RECOVER` and `SHOW` are read as
 /// `Unread` there.
 fn is_own(call: &Call) -> bool
     ensures { result ≡ is_own_call call.now }
@@ -32,7 +32,8 @@ fn total(made: &[u64]) -> Result<u64, NoMemory>
     Ok(sum)
 }
 
-/// Adds the stops in a line that makes so many calls: one before each call, or one if it makes none.
+/// Adds the stops in the line at `place`, from 0, which makes `calls` calls of sessions: one before each call, or one
+/// if it makes none.
 fn add_stops(stops: &mut Vec<Stop>, place: usize, calls: u64) -> Result<(), NoMemory>
     ensures { OnOk result (stops.new.items ≡ stops.old.items ++ stops_below place (stop_count calls)) }
 {
@@ -43,7 +44,8 @@ fn add_stops(stops: &mut Vec<Stop>, place: usize, calls: u64) -> Result<(), NoMe
     Ok(())
 }
 
-/// Adds the stops in a line. `made` has how many calls of sessions it makes in each store.
+/// Adds the stops in the line at `place`, from 0. `call` is the line's call; if the coordinator doesn't carry it out,
+/// there are none. `made` has how many calls of sessions the line makes in each store.
 fn add_line_stops(
     stops: &mut Vec<Stop>,
     place: usize,
@@ -60,7 +62,8 @@ fn add_line_stops(
     add_stops(stops, place, calls)
 }
 
-/// The stops of a script. `made` has for each line how many calls it makes in each store.
+/// The stops of a script, line by line. `calls` has the call of each line. `made` has for each line how many calls of
+/// sessions it makes in each store.
 pub fn stops_in(alloc: Global, calls: &[Call], made: &[Vec<u64>]) -> Result<Vec<Stop>, NoMemory>
     requires { length made.now ≡ length calls.now }
     ensures { IfOk result (λ stops. stops.items ≡ stops_of calls.now (map (λ one. one.items) made.now)) }

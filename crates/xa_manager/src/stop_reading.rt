@@ -8,7 +8,8 @@ use std::alloc::Global;
 use xa_lines::{LINE_BYTES, split_line};
 use xa_xid::NoMemory;
 
-/// The call, but unread if it is one that stops a coordinator or looks at it: `FAIL`, `STOP`, `RECOVER`, `SHOW`.
+/// The call, but `Unread` if it is `FAIL`, `STOP`, `RECOVER` or `SHOW`: a script whose stops are shown has none of
+/// these, since at each stop a coordinator is stopped and recovers anyway. 0: no statement is wrong.
 fn taken(call: Call) -> Call
     requires { IsWritten call }
     ensures call { result ≡ taken_of call }
@@ -23,7 +24,8 @@ fn taken(call: Call) -> Call
     }
 }
 
-/// The call of a line of a script.
+/// The call of a line of a script. `Unread` also for a line of more than 65,536 bytes, and for a call that `taken`
+/// doesn't take.
 #[tactic(auto, unfolding(xa_lines::specs::Received::received_line))]
 fn call_in(line: &[u8]) -> Call
     ensures call { result ≡ call_of_line line.now }

@@ -12,7 +12,7 @@ use xa_lines::push_number;
 use xa_server::Server;
 use xa_xid::{Bytes, Key, NoMemory, with_part};
 
-/// Appends a value, or that there is none, to a text.
+/// Appends a value in canonical form to a text; `NONE` if there is none.
 fn with_value(mut text: Vec<u8>, value: Option<Bytes>) -> Result<Vec<u8>, NoMemory>
     ensures { IfOk result (λ longer. longer.items ≡ text.items ++ value_text value) }
 {
@@ -25,7 +25,8 @@ fn with_value(mut text: Vec<u8>, value: Option<Bytes>) -> Result<Vec<u8>, NoMemo
     }
 }
 
-/// Appends the line of a row to a text: its store, its key, and its committed value.
+/// Appends the line `ROW k KEY VALUE` to a text: the store's number, the key, and its committed value in `server`, the
+/// store's state.
 fn with_row(mut text: Vec<u8>, store: u64, server: &Server, key: &Key) -> Result<Vec<u8>, NoMemory>
     ensures { IfOk result (λ longer. longer.items ≡ text.items ++ row_line store server.now key.now) }
 {
@@ -39,7 +40,7 @@ fn with_row(mut text: Vec<u8>, store: u64, server: &Server, key: &Key) -> Result
     Ok(text)
 }
 
-/// Appends the lines of a store's rows to a text.
+/// Appends to a text the line of each of the rows with these keys in a store. `server`: the store's state.
 fn with_rows(text: Vec<u8>, store: u64, server: &Server, keys: &[Key]) -> Result<Vec<u8>, NoMemory>
     ensures { IfOk result (λ longer. longer.items ≡ text.items ++ flat_map (row_line store server.now) keys.now) }
 {
@@ -50,7 +51,8 @@ fn with_rows(text: Vec<u8>, store: u64, server: &Server, keys: &[Key]) -> Result
     Ok(longer)
 }
 
-/// Appends the lines of the rows of each store. `keys` has the keys of those rows, store by store.
+/// Appends the lines of the rows of each store to a text, from store 0 on. `keys` has a list for each store: the keys
+/// of its rows that are shown.
 pub fn with_rows_of_each(
     text: Vec<u8>,
     stores: &[CountedStore],

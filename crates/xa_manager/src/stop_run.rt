@@ -130,7 +130,7 @@ fn shown_stops<R: Wait>(
     Ok(text)
 }
 
-/// Makes the text of every stop of a script of calls, or of its faulty lines.
+/// Makes the text of every stop of a script of calls; or, if calls are refused, only of these faulty lines.
 ///
 /// `text`: the script. `stores`: how many unbounded stores there are, in `[1, 16]`, which hold nothing at
 /// first.

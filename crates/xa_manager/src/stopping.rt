@@ -46,7 +46,8 @@ fn recover<R: Wait>(
     manager.answer_beside(rt, alloc, &Call::Recover)
 }
 
-/// Stops the coordinator, has a new one recover, and returns its answer.
+/// Stops the coordinator, has a new one recover, and returns the text of what the new one answers. Errors: `NoMemory`,
+/// also if a session didn't answer a statement of the recovery.
 fn recovered<R: Wait>(
     rt: &R,
     alloc: Global,
@@ -64,7 +65,8 @@ fn recovered<R: Wait>(
     write_response(alloc, Vec::new(alloc), manager.decisions(), &response)
 }
 
-/// Appends an answer and the rows to a text. `keys` is as of `with_lines`.
+/// Appends an answer and the lines of rows to a text. `keys` has a list for each store: the keys of its rows that are
+/// shown.
 fn with_shown(
     mut text: Vec<u8>,
     answer: &[u8],
@@ -79,8 +81,9 @@ fn with_shown(
     with_rows_of_each(text, stores, keys)
 }
 
-/// Stops the coordinator, has a new one recover, and appends its answer and the rows to a text. Errors: `NoMemory`,
-/// also if memory was ever refused for a statement in one of these stores. `keys` is as of `with_lines`.
+/// Stops the coordinator, has a new one recover, and appends the new one's answer and the lines of rows to a text.
+/// `keys` has a list for each store: the keys of its rows that are shown. Errors: `NoMemory`, also if memory was ever
+/// refused for a statement in one of these stores.
 fn with_recovery<R: Wait>(
     rt: &R,
     alloc: Global,
@@ -101,8 +104,9 @@ fn with_recovery<R: Wait>(
     Ok(longer)
 }
 
-/// Appends what a recovery leaves after these lines to a text. They are carried out on new stores, as many as `keys`
-/// has lists: the keys of the rows that are shown of each store.
+/// Carries `calls` out on new stores, stops the coordinator, and appends to a text what a recovery leaves: its answer
+/// and the lines of rows. `keys` has a list for each store, the keys of its rows that are shown: so there are as many
+/// stores as lists. Errors: `NoMemory`, also if a session didn't answer a statement.
 pub fn with_lines<R: Wait>(
     rt: &R,
     alloc: Global,
@@ -124,10 +128,11 @@ pub fn with_lines<R: Wait>(
     Ok(longer)
 }
 
-/// Appends to a text what a recovery leaves if the coordinator was stopped in the line at a place, after so many
-/// calls in each store as `limits` has. `keys` is as of `with_lines`.
+/// Appends to a text what a recovery leaves if the coordinator was stopped in the line at `place`, from 0. `calls` has
+/// the call of each line. `limits` has for each store how many calls its session passed on in that line before the
+/// stop. `keys` has for each store the keys of its rows that are shown.
 ///
-/// Errors: `NoMemory`, also if a session answered each call of the line, so that it wasn't cut short.
+/// Errors: `NoMemory`, also if each call of sessions in the line was answered, so that the line wasn't cut short.
 fn with_cut_line<R: Wait>(
     rt: &R,
     alloc: Global,
@@ -162,8 +167,9 @@ fn with_cut_line<R: Wait>(
     Ok(longer)
 }
 
-/// Appends what a recovery leaves after a stop to a text. `made` has how many calls of sessions the stop's line makes
-/// in each store. `keys` is as of `with_lines`.
+/// Appends what a recovery leaves after a stop to a text. `calls` has the call of each line. `made` has how many
+/// calls of sessions the stop's line makes in each store. `keys` has for each store the keys of its rows that are
+/// shown.
 pub fn with_stop<R: Wait>(
     rt: &R,
     alloc: Global,

@@ -1,9 +1,9 @@
 -- Ways that are counted by their numbers.
 --     Chosen           as many of a list as were counted, no two of which have come to the same
---     chosen_none      of none
+--     chosen_none      before the first way none is chosen
 --     chosen_same, chosen_new      a number is noted, and no more are chosen;  one more is, whose number is new
---     chosen_differ    so many of the list differ
---     wide_next        more than allowed of those that a turn leads to
+--     chosen_differ    the list has as many ways that differ as were counted
+--     wide_next        one more turn leads to more ways than allowed that differ
 use Rattle.std.proofs.Common.{◌≡◌, ◌≢◌, ℕ, ◌+◌, ◌<◌, Bool, true, false, not, cond, List, [], ◌∷◌, length, get_or, take}
 use Rattle.std.proofs.Common.{refl, ap, sym, ◌∙◌, subst, arith}
 use Rattle.std.specs.List.{All}
@@ -112,8 +112,8 @@ pub chosen_differ : (known : List Way) (keys : List (List ℕ)) (marks : BTreeSe
 chosen_differ known keys marks count c =
     record { many = c.chosen; counted = c.counted; differ = c.differ; among = c.among }
 
--- if the list of what the first ways lead to has more than allowed that differ, one more turn of all ways leads to
--- more
+-- if the ways to which one more turn of the first ways leads have more than allowed that differ, one more turn of all
+-- ways leads to more than allowed that differ (`IsWideNext`)
 pub wide_next : (lines : List Told) (ways list same : List Way) (limit count : ℕ)
     → IsNextOf lines (take count ways) list → same ≡ list → IsSpread limit same
     → IsWideNext lines ways limit

@@ -1,4 +1,4 @@
--- Outcomes of ways, each once.
+-- Answers and states of lines, one line more; and outcomes of ways, each once.
 use Rattle.std.proofs.Common.{◌≡◌, ◌≢◌, ℕ, ◌+◌, ◌<◌, ◌≤◌, List, [], ◌∷◌, ◌++◌, length, take, drop, get_or, sym, ap, ◌∙◌}
 use Rattle.std.proofs.Common.{subst, inl, inr, append_assoc}
 use Rattle.std.specs.List.{All, concat}
@@ -16,7 +16,8 @@ use Rattle.xa_orders.specs.Ends.{text_from, IsOutcomeAdded, AreOutcomes}
 use Rattle.xa_orders.proofs.Lists.{any_left, any_push, any_weaker, any_with, any_both, pairwise_push, pairwise_front}
 use Rattle.xa_orders.proofs.Lists.{at_most_trans}
 
--- the loop over lines: the answer of one more is written
+-- what is written for the lines from a place on is the answer to the one there, and then what is written for the
+-- others
 pub told_text-more : (state : State) (lines : List Told) (index : ℕ) (line : Told) → index < length lines
     → line ≡ get_or lines index line
     → told_text state (drop index lines)
@@ -99,7 +100,7 @@ module _ (text_of : Way → List ℕ) (front : List Way) (way : Way) (old : List
       (λ one any. any_left (λ w. (one.order.items ≡ w.order.items) × (one.text.items ≡ text_of w)) front
       (way ∷ []) any) old are.each
 
-  -- each outcome so far comes before the way
+  -- the order of an outcome of one of the ways before this one precedes this way's order
   before_way : (one : Outcome) → IsOf text_of front one → Precedes one.order.items way.order.items
   before_way one any =
       any_with (λ w. Precedes w.order.items way.order.items)
@@ -158,7 +159,8 @@ module _ (text_of : Way → List ℕ) (front : List Way) (way : Way) (old : List
       subst (AreOutcomes text_of (front ++ way ∷ [])) (sym added.4)
       (outcome_added text added.0 text_is added.1 added.2 added.3)
 
--- the loop over ways: the outcome of one more is added
+-- the loop over ways: after the outcome of one more is added, unless it was there, the outcomes are those of the ways
+-- so far
 pub outcome_step : (text_of : Way → List ℕ) (ways : List Way) (old new : List Outcome) (index : ℕ) (way : Way)
     (text : List ℕ) → index < length ways
     → way ≡ get_or ways index way
@@ -179,7 +181,7 @@ outcomes_none text_of outcomes none =
     subst (AreOutcomes text_of []) (sym none)
     (record { each = All-nil (IsOf text_of []); all = All-nil (HasOutcome text_of []); once = tt; ascending = tt })
 
--- the outcomes of all ways are those of all orders
+-- the outcomes of the ways in which each line has had its turn are those of all orders (`IsExplored`)
 pub all_explored : (parts : Parts) (first : List ℕ) (ways same : List Way) (outcomes : List Outcome)
     → first ≡ told_text no_state parts.before
     → same ≡ ways

@@ -94,7 +94,8 @@ from_more lines front way number new (inr own) = inr (own.0, omega (arith, own.1
 
 module _ (lines : List Told) (front : List Way) (way : Way) (number : ℕ) (old : List Way)
     (half : IsHalfway lines front way number old) where
-  -- each way that was found by sessions below the number was found by those below the next one
+  -- each way of the list was found by a turn of the ways before this one, or of this way by a session below the next
+  -- number
   more_each : All (IsFrom lines front way (number + 1)) old
   more_each = All-weaker (IsFrom lines front way number) (IsFrom lines front way (number + 1))
       (from_more lines front way number) old half.each
@@ -117,7 +118,8 @@ module _ (lines : List Told) (front : List Way) (way : Way) (number : ℕ) (old 
           absurd (none-some config (sym (none (subst IsSession same is)) ∙ ap (turn lines (config_of way)) (sym same)
           ∙ at))
 
-  -- if its turn leads to a configuration that the list has, `IsHalfway` holds of the list up to the next number
+  -- if the turn of this number's session leads to a configuration that the list has, `IsHalfway` holds of the list up
+  -- to the next number
   halfway_there : (next : Way) → AllPrecede front way → IsTurn lines number way next
       → Any (λ one. config_of one ≡ config_of next) old
       → IsHalfway lines front way (number + 1) old
@@ -144,7 +146,8 @@ module _ (lines : List Told) (front : List Way) (way : Way) (number : ℕ) (old 
           ))
           old half.each there
 
-  -- if the way to which its turn leads is added, `IsHalfway` holds of the new list up to the next number
+  -- if the way to which the turn of this number's session leads is added, `IsHalfway` holds of the new list up to the
+  -- next number
   halfway_added : (next : Way) → AllPrecede front way → IsTurn lines number way next
       → IsHalfway lines front way (number + 1) (old ++ next ∷ [])
   halfway_added next precede is_turn = record {
@@ -222,7 +225,7 @@ reached_more lines base count session way new reached is_turn = record {
       is_turn.leads);
 }
 
--- ways with one turn more are reached with one turn more
+-- ways with one turn more than ways that are reached are reached with one turn more
 pub each_reached : (lines : List Told) (base : Config) (count : ℕ) (ways list : List Way)
     → All (IsReached lines base count) ways
     → All (λ new. Any (λ way. (session : ℕ) × IsTurn lines session way new) ways) list
@@ -297,7 +300,8 @@ level_first lines base list one is came none =
     all [] config count_is leads = inl (came ∙ sym leads, inl none)
     all (first ∷ rest) config count_is leads = absurd (omega (arith, count_is))
 
--- one way of the level more: the turns that follow it are added to the next level
+-- the loop over ways: after the turns of one more are added, the list is what one more turn of the ways so far leads
+-- to
 pub level_step : (lines : List Told) (ways list new : List Way) (index : ℕ) (way : Way) → index < length ways
     → way ≡ get_or ways index way
     → IsAscending order_of ways
@@ -312,7 +316,7 @@ level_step lines ways list new index way below at ascending step next =
     (pairwise_front (λ one other. Precedes (order_of one) (order_of other)) ways index way below ascending))
     next)
 
--- if one more turn of a level leads to more ways than allowed that differ, orders of one length do
+-- if one more turn of a level leads to more ways than allowed that differ, so do orders of one length (`IsWide`)
 pub wide_level : (lines : List Told) (base : Config) (count limit : ℕ) (ways same : List Way)
     → IsLevel lines base count ways → same ≡ ways
     → IsWideNext lines same limit

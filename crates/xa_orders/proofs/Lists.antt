@@ -21,7 +21,7 @@ module _ {A : Type 0} where
   any_push P [] y p = inl p
   any_push P (x ∷ xs) y p = inr (any_push P xs y p)
 
-  -- if one property follows from another that one element of a list has, one has it
+  -- if an element of a list has a property from which another follows, one has the other
   pub any_weaker : (P Q : A → Type 0) → ((x : A) → P x → Q x) → (xs : List A) → Any P xs → Any Q xs
   any_weaker P Q weaker [] any = absurd any
   any_weaker P Q weaker (x ∷ xs) (inl p) = inl (weaker x p)

@@ -15,7 +15,7 @@ use Rattle.xa_orders.specs.declared.outcome.Outcome.{Outcome}
 use Rattle.xa_orders.specs.Scripts.{Reading, read_more, read_lines, sessions_text, outcome_lines, outcomes_text}
 use Rattle.xa_orders.specs.Scripts.{IsExploredText, AppendsExplored, AppendsExploredPrefix, AfterExploreFault}
 
--- the loop over lines: one more was cut off and read
+-- the loop over lines: one more was cut off and read, and those behind it are left to read
 pub read_lines_cut : (read : Reading) (number : ℕ) (text line rest : List ℕ) → lines_of text ≡ line ∷ lines_of rest
     → read_lines read number (lines_of text) ≡ read_lines (read_more read number line) (number + 1) (lines_of rest)
 unfolding read_lines
@@ -29,7 +29,7 @@ read_lines_end read number [] empty = refl
 read_lines_end read number (x ∷ xs) empty =
     absurd (let none : length (x ∷ xs) ≡ 0 = grind (arith, common_steps) in omega arith)
 
--- the loop over an order: the number of one session more is written
+-- the loop over an order: the number of one session more is written, and those behind it are left
 pub sessions_step : (order : List ℕ) (index session : ℕ) (whole out one two : List ℕ) → index < length order
     → session ≡ get_or order index session
     → one ≡ out ++ codes " " → two ≡ one ++ decimal session
@@ -50,7 +50,7 @@ pub sessions_end : (order : List ℕ) (index : ℕ) → length order ≤ index �
 unfolding sessions_text
 sessions_end order index past = ap sessions_text (drop_all index order past)
 
--- the loop over outcomes: the text of one more is written
+-- the loop over outcomes: the text of one more is written, and those behind it are left
 pub outcomes_step : (outcomes : List Outcome) (index number : ℕ) (one : Outcome) (whole out more : List ℕ)
     → index < length outcomes
     → one ≡ get_or outcomes index one → number ≡ index + 1
@@ -77,7 +77,7 @@ read_whole P None rest given read end p = tt
 read_whole P (Some x) None given read end p = absurd read
 read_whole P (Some x) (Some y) given read end p = subst P (sym (read ∙ ap (λ l. given ++ l) end ∙ append-nil given)) p
 
--- the input was read and the whole text was written: what `explore` promises after Ok
+-- if the input was read and the whole text was written, what `explore` promises after Ok holds
 pub explored_written : (limit : ℕ) (result : Result Ended ScriptFault) (ended : Ended) (text given : List ℕ)
     (input rest old new : Option (List ℕ))
     → Consumes input rest given → IsAtEnd rest → IsExploredText given limit ended text
@@ -88,7 +88,7 @@ explored_written limit (Ok e) ended text given input rest old new read end is sa
     (text, subst (λ x. IsExploredText given limit x text) (sym same) is, written)
 explored_written limit (Err fault) ended text given input rest old new read end is same written = tt
 
--- writing failed: a prefix of the text was written, which is what `explore` promises after that fault
+-- if the input was read, and writing failed after a prefix of the text, what `explore` promises after that fault holds
 pub explored_faulted : (limit : ℕ) (result : Result Ended ScriptFault) (ended : Ended) (text given : List ℕ)
     (input rest old new : Option (List ℕ))
     → Consumes input rest given → IsAtEnd rest → IsExploredText given limit ended text

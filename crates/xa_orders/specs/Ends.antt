@@ -19,8 +19,8 @@ IsOutcomeAdded order text old new =
     ⊎ ((next : Outcome) × (next.order.items ≡ order) × (next.text.items ≡ text) × All (λ one. one.text.items ≢ text) old
     × (new ≡ old ++ next ∷ []))
 
--- each outcome is that of a way; each way has one with an order that is at most its own; and none is there
--- twice
+-- each outcome is that of a way; each way has one with an order that is at most its own; none is there twice; and the
+-- orders ascend
 pub record AreOutcomes (text_of : Way → List ℕ) (ways : List Way) (outcomes : List Outcome) : Type 0 where
   pub each : All (λ one. Any (λ way. (one.order.items ≡ way.order.items) × (one.text.items ≡ text_of way)) ways)
       outcomes

@@ -6,7 +6,7 @@
 --                          turns lead, with its least order
 --     IsTurn, IsNextOf     a way is another one with one more turn;  ways are what one more turn leads to, each
 --                          configuration with its least order
---     IsTurnAdded          the way to which a session's turn leads is added
+--     IsTurnAdded          the way to which a session's turn leads is added, unless one with its configuration is there
 --     AreDifferent         no two ways of a list have come to the same
 --     HasDifferent         a list has so many ways of which no two have come to the same
 --     IsSpread             it has more than allowed of which no two have come to the same
@@ -57,14 +57,14 @@ Covers lines number way list =
     → turn lines (config_of way) session ≡ Some config
     → HasBy list config (way.order.items ++ session ∷ [])
 
--- each of the list is one of the ways with one more turn; the list has what each turn of each of the ways leads to;
--- and its orders ascend
+-- each of the list is one of the ways with one more turn; of each turn of each of the ways the list has what it leads
+-- to, with an order that is at most that one; and its orders ascend
 pub record IsNextOf (lines : List Told) (ways list : List Way) : Type 0 where
   pub each : All (λ new. Any (λ way. (session : ℕ) × IsTurn lines session way new) ways) list
   pub all : All (λ way. Covers lines 17 way list) ways
   pub ascending : IsAscending order_of list
 
--- the order of each of the list comes before this way's
+-- the order of each way of the list comes before this way's
 abbrev pub AllPrecede : List Way → Way → Type 0
 AllPrecede ways way = All (λ one. Precedes one.order.items way.order.items) ways
 
@@ -72,14 +72,14 @@ AllPrecede ways way = All (λ one. Precedes one.order.items way.order.items) way
 abbrev pub AddsUnlessThere : List Way → Way → List Way → Type 0
 AddsUnlessThere old one new = (Any (λ way. config_of way ≡ config_of one) old × (new ≡ old)) ⊎ (new ≡ old ++ one ∷ [])
 
--- the session has no turn, and the list is as it was; or the way to which its turn leads is added, unless the list
--- has a way with its configuration
+-- there is no such session, or it has no line left, and the list is as it was; or the way to which its turn leads is
+-- added, unless the list has a way with its configuration
 abbrev pub IsTurnAdded : List Told → Way → ℕ → List Way → List Way → Type 0
 IsTurnAdded lines way session old new =
     ((IsSession session → turn lines (config_of way) session ≡ None) × (new ≡ old))
     ⊎ ((next : Way) × IsTurn lines session way next × AddsUnlessThere old next new)
 
--- the only way before all lines
+-- the list is one way: no turn is taken yet, and its configuration is that before all lines side by side
 abbrev pub IsOpening : List Told → State → List Way → Type 0
 IsOpening lines state ways =
     (one : Way) × (ways ≡ one ∷ []) × (config_of one ≡ opening lines state) × (one.order.items ≡ [])
@@ -95,20 +95,20 @@ pub record HasDifferent (count : ℕ) (ways : List Way) : Type 0 where
   pub differ : AreDifferent many
   pub among : All (λ one. Any (λ way. way ≡ one) ways) many
 
--- the list has more ways than allowed of which no two have come to the same
+-- the list has more ways than `limit` of which no two have come to the same
 pub record IsSpread (limit : ℕ) (ways : List Way) : Type 0 where
   pub count : ℕ
   pub over : limit < count
   pub different : HasDifferent count ways
 
--- one more turn leads to more ways than allowed, no two of which have come to the same
+-- one more turn leads to more ways than `limit`, no two of which have come to the same
 pub record IsWideNext (lines : List Told) (ways : List Way) (limit : ℕ) : Type 0 where
   pub many : List Way
   pub over : limit < length many
   pub differ : AreDifferent many
   pub each : All (λ new. Any (λ way. (session : ℕ) × IsTurn lines session way new) ways) many
 
--- orders of some length lead to more ways than allowed, no two of which have come to the same
+-- orders of some length lead to more ways than `limit`, no two of which have come to the same
 pub record IsWide (lines : List Told) (base : Config) (limit : ℕ) : Type 0 where
   pub count : ℕ
   pub many : List Way

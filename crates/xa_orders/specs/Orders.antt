@@ -56,7 +56,7 @@ opening lines state = record { state = state; answers = replicate (length lines)
 abbrev pub is_left : ℕ → Told × List ℕ → Bool
 is_left session pair = (pair.0.session == session) && is_empty_line pair.1
 
--- the place of the session's first line that wasn't carried out
+-- the place of the session's first line that wasn't carried out; None if all were
 abbrev pub next_place : ℕ → List Told → List (List ℕ) → Option ℕ
 next_place session lines answers = position (is_left session) (zip lines answers)
 

@@ -35,7 +35,7 @@ pub record Reading : Type 0 where
   pub later : List Told
   pub faults : List ℕ
 
--- what is read before the first line. Until a line BESIDE comes, lines count as side by side
+-- what is read before the first line: nothing. Until a line BESIDE comes, lines are taken as side by side
 abbrev pub nothing_read : Reading
 nothing_read = record { stage = First; before = []; beside = []; later = []; faults = [] }
 
@@ -43,11 +43,12 @@ nothing_read = record { stage = First; before = []; beside = []; later = []; fau
 abbrev pub fault_text : ℕ → ℕ → List ℕ
 fault_text number place = codes "LINE " ++ decimal number ++ codes " " ++ syntax_text place ++ codes "\n"
 
--- the line of this number can't be read
+-- what was read, with the text of one more faulty line: that of this number, at this place in it
 abbrev pub blamed : Reading → ℕ → ℕ → Reading
 blamed read number place = record read { faults = read.faults ++ fault_text number place }
 
--- a line BESIDE: the lines so far are carried out before. A second one, or one after AFTER, is faulty
+-- a line BESIDE: the lines so far are carried out before those side by side. A second one, or one after AFTER, is
+-- faulty
 abbrev pub with_beside : Stage → Reading → ℕ → Reading
 with_beside First read number = record read { stage = Beside; before = read.beside; beside = [] }
 with_beside Beside read number = blamed read number 0
@@ -59,13 +60,14 @@ with_after First read number = record read { stage = After }
 with_after Beside read number = record read { stage = After }
 with_after After read number = blamed read number 0
 
--- a session's line, in the part that is read: side by side, or behind AFTER
+-- what was read, with a session's line added to the part of this stage: after AFTER the last one, else that side by
+-- side
 abbrev pub with_told : Stage → Reading → Told → Reading
 with_told First read told = record read { beside = read.beside ++ told ∷ [] }
 with_told Beside read told = record read { beside = read.beside ++ told ∷ [] }
 with_told After read told = record read { later = read.later ++ told ∷ [] }
 
--- the line, if its text was read as a statement; else its fault
+-- what was read, with this line, if its text is a statement; else with its fault
 abbrev pub with_statement : Reading → ℕ → Told → Result Statement ℕ → Reading
 with_statement read number told (Ok statement) = with_told read.stage read told
 with_statement read number told (Err place) = blamed read number place
@@ -124,7 +126,8 @@ outcomes_text number (one ∷ outcomes) = outcome_lines number one ++ outcomes_t
 abbrev pub explored_text : List Outcome → List ℕ
 explored_text outcomes = codes "OUTCOMES " ++ decimal (length outcomes) ++ codes "\n" ++ outcomes_text 1 outcomes
 
--- all outcomes are written; or UNDECIDED, and orders of one length lead to more ways than allowed
+-- Done: all outcomes are written. Undecided: UNDECIDED is written, and orders of one length lead to more ways than
+-- `limit`. Faulty doesn't come
 abbrev pub IsPartsText : Parts → ℕ → Ended → List ℕ → Type 0
 IsPartsText parts limit Done text =
     (outcomes : List Outcome) × IsExplored parts outcomes × (text ≡ explored_text outcomes)
@@ -159,8 +162,8 @@ AppendsExploredPrefix limit script old new =
 abbrev pub IsFaultOfExploring : List ℕ → ScriptFault → Type 0
 IsFaultOfExploring script fault = fault ≡ NoMemory
 
--- what a fault leaves in the writer: a prefix of the text if a write failed, else nothing. Exploring has no
--- fault of a race
+-- what a fault leaves in the writer: a prefix of the text if a write failed, else nothing. Exploring has no fault of a
+-- race, so `Full`, `GateShut` and `ThreadRefused` don't come
 abbrev pub AfterExploreFault : ℕ → ScriptFault → Option (List ℕ) → Option (List ℕ) → Option (List ℕ) → Type 0
 AfterExploreFault limit Write input old new = IfSome input (λ script. AppendsExploredPrefix limit script old new)
 AfterExploreFault limit Full input old new = ⊥

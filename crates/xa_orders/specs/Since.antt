@@ -10,6 +10,6 @@ use Rattle.xa_orders.specs.declared.done.Done.{Done}
 abbrev pub state_after : State → Done → State
 state_after state done = after state done.session done.statement
 
--- the state after all that was carried out, in order
+-- the state after all statements of the list were carried out in this state, in order
 abbrev pub state_since : State → List Done → State
 state_since state since = fold state_after state since

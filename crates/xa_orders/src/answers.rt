@@ -29,7 +29,8 @@ impl Model for Answers {
     ghost view = { λ answers. answers.texts.items };
 }
 
-/// The place of the session's first line that has no text. None if there is none.
+/// The place of the session's first line that has no text. None if there is none. `texts` has the text of each line, in
+/// the same order.
 fn first_left(lines: &[Line<'_>], texts: &[SharedText], session: SessionNo) -> Option<usize>
     ensures place { result ≡ position (λ pair. (pair.0.session == session) && (length pair.1 == 0))
         (zip lines.now texts.now) }
@@ -40,7 +41,8 @@ fn first_left(lines: &[Line<'_>], texts: &[SharedText], session: SessionNo) -> O
         && text.text().is_empty())
 }
 
-/// The place of the session's first line that wasn't carried out, which has no text. None if there is none.
+/// The place of the session's first line that wasn't carried out, and so has an empty text in `texts`. None if there is
+/// none.
 fn next_place(lines: &[Line<'_>], texts: &[SharedText], session: SessionNo) -> Option<usize>
     ensures place { result ≡ place_of_next session lines.now texts.now }
     ensures line { IfSome result (λ place. place < length lines.now) }
@@ -57,7 +59,7 @@ pub fn is_same_text(left: &[u8], right: &[u8]) -> bool
     left == right
 }
 
-/// Whether two lists are known to have the same texts. It never says so of different ones.
+/// Whether two lists are known to have the same texts, in the same order. Never true of different lists.
 fn is_same_texts(left: &[SharedText], right: &[SharedText]) -> bool
     ensures { result ≡ true → left.now ≡ right.now }
 {
@@ -83,7 +85,7 @@ fn copy_of_texts(alloc: Global, texts: &[SharedText]) -> Result<Vec<SharedText>,
     Ok(copy)
 }
 
-/// Adds each of the texts to a mark.
+/// Returns `mark` with each of the texts added, in order.
 fn with_texts(mark: u64, texts: &[SharedText]) -> u64
     ensures { result ≡ fold with_text_of mark texts.now }
 {
@@ -149,7 +151,7 @@ impl Answers {
         is_same_texts(self.texts.as_slice(), other.texts.as_slice())
     }
 
-    /// Adds all texts to a mark. Answers that turn the same mark into different ones differ.
+    /// Returns `mark` with all texts added. If two answers turn the same mark into different ones, they differ.
     pub fn add_to(&self, mark: u64) -> u64
         ensures { result ≡ fold with_text_of mark self.now }
     {
@@ -176,7 +178,8 @@ impl Answers {
         requires { place < length self.old }
         ensures { self.new ≡ slice_set self.old place text }
     {
-        // By exclusive or, so that the order in which lines are answered doesn't matter. Each is answered once.
+        // By exclusive or, so that the order in which lines are answered doesn't matter. Each is answered once, so no
+        // older text has to be taken out of the mark.
         self.mark ^= with(place as u64, text.mark());
         self.texts[place] = text;
     }

@@ -22,8 +22,8 @@ fn mark_of(way: &Way, keys: &[Key]) -> Result<u64, NoMemory>
     }
 }
 
-/// How many ways of the list are known to differ, each from each other: as many as their answers and the
-/// committed values of these rows give different numbers.
+/// How many ways of the list are known to differ, each from each other: as many as there are different numbers
+/// (`mark_of`) made of their answers and of the committed values of these rows.
 fn count_different(alloc: Global, known: &[Way], keys: &[Key]) -> Result<usize, NoMemory>
     ensures different { IfOk result (λ count. HasDifferent count known.now) }
     ensures within { IfOk result (λ count. count ≤ length known.now) }
@@ -42,9 +42,9 @@ fn count_different(alloc: Global, known: &[Way], keys: &[Key]) -> Result<usize, 
 /// Tells whether more than `limit` ways of the list are known to differ, each from each other. `keys` are those of
 /// the rows that lines write.
 ///
-/// `most`: a list that is no longer isn't looked through, since no more than `limit` of its ways are known to differ.
-/// It begins as `limit`, and grows if ways of the list have the same number. Until it begins anew, ways are only added
-/// to the list.
+/// `most`: a list of at most so many ways isn't looked through, since no more than `limit` of its ways are known to
+/// differ. The caller begins with `limit`; `most` grows each time that a longer list turns out to have at most `limit`
+/// different ways. Until the caller begins anew, it only adds ways to the list.
 /// May return `NoMemory`.
 pub fn is_wide(
     alloc: Global,
@@ -55,7 +55,7 @@ pub fn is_wide(
 ) -> Result<bool, NoMemory>
     ensures { IfOk result (λ wide. wide ≡ true → IsSpread limit known.now) }
 {
-    // A list of at most this length can't have more different ways than the limit, so it isn't counted.
+    // In a list of at most this length no more than `limit` ways can be known to differ, so they aren't counted.
     if known.len() <= *most {
         return Ok(false);
     }
@@ -63,7 +63,7 @@ pub fn is_wide(
     if limit < different {
         return Ok(true);
     }
-    // Each way that is added makes at most one more number, so up to this length they aren't more than the limit. If
+    // Each way that is added makes at most one more number, so up to this length there are at most `limit` numbers. If
     // the sum were cut, no list could be longer than it.
     *most = known.len().saturating_add(limit - different);
     Ok(false)

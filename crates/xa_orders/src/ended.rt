@@ -5,7 +5,8 @@
 pub enum Ended {
     /// All outcomes are written.
     Done,
-    /// More ways were found than are allowed, so not all outcomes are known.
+    /// More ways that have carried out equally many lines are known to differ than are allowed, so not all outcomes are
+    /// known.
     Undecided,
     /// The script has faulty lines, which are written instead.
     Faulty,

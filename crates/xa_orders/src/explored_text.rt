@@ -8,7 +8,7 @@ use std::alloc::Global;
 use xa_lines::push_number;
 use xa_xid::{NoMemory, SessionNo};
 
-/// Appends the sessions of an order.
+/// Appends the session numbers of an order, each after a blank.
 fn push_sessions(text: &mut Vec<u8>, order: &[SessionNo]) -> Result<(), NoMemory>
     ensures { OnOk result (text.new.items ≡ text.old.items ++ sessions_text order.now) }
 {
@@ -19,7 +19,7 @@ fn push_sessions(text: &mut Vec<u8>, order: &[SessionNo]) -> Result<(), NoMemory
     Ok(())
 }
 
-/// Appends the outcome of this number.
+/// Appends an outcome, with this number: its text, and behind it the order that gives it.
 fn push_outcome(text: &mut Vec<u8>, number: u64, one: &Outcome) -> Result<(), NoMemory>
     ensures { OnOk result (text.new.items ≡ text.old.items ++ outcome_lines number one.now) }
 {

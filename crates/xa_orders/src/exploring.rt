@@ -43,7 +43,7 @@ pub fn explore(
 {
     let mut server = Server::new(alloc);
     let mut first = Vec::new(alloc);
-    // `first` is then what the lines before are answered, and `server` is as they leave it.
+    // After this, `first` is what the lines before are answered, and `server` is as they leave it.
     push_told(alloc, &mut first, &mut server, before)?;
     match every_way(alloc, beside, written, server, limit)? {
         None => Ok(None),

@@ -6,7 +6,7 @@ use xa_xid::NoMemory;
 
 /// At which places of a list the ways of each fingerprint are, as a chain of places for each fingerprint.
 ///
-/// Every way at such a place is compared before it counts as the same. So a poor fingerprint costs time and
+/// Every way at such a place is compared before it is taken for the same. So a poor fingerprint costs time and
 /// changes no result.
 #[derive(Drop)]
 pub struct FingerprintIndex {

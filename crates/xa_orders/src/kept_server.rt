@@ -1,4 +1,4 @@
-//! Servers that are kept as statements that lead to them.
+//! Servers that are kept as themselves, or as statements that lead to them.
 ghost use Rattle.std.specs.Prelude.{◌≡◌, true, IfOk, OnOk, IfSome};
 ghost use Rattle.xa_orders.specs.Since.{state_since};
 
@@ -9,7 +9,7 @@ use std::sync::Arc;
 use xa_server::Server;
 use xa_xid::NoMemory;
 
-/// A server, kept as another one that several share and the statements that it carried out since. A contract
+/// A server, kept as itself, or as another one that several share and the statements that lead from there. A contract
 /// sees its state.
 #[derive(Drop)]
 pub struct KeptServer {
@@ -31,7 +31,7 @@ impl Model for KeptServer {
     ghost view = { λ kept. state_since kept.base.value kept.since.items };
 }
 
-/// Has a server carry out statements that another server in the same state carried out.
+/// Has a server carry out these statements, in order.
 fn carry_out_all(server: &mut Server, since: &[Done]) -> Result<(), NoMemory>
     ensures { OnOk result (server.new ≡ state_since server.old since.now) }
 {

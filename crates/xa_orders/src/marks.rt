@@ -15,7 +15,8 @@ const MULTIPLIER: u64 = 0x9e37_79b9_7f4a_7c15;
 pub fn with(mark: u64, word: u64) -> u64
     ensures { result ≡ with_word mark word }
 {
-    // One is added since a 0 would stay 0, and the shift lets high bits change low ones.
+    // One is added since a 0 would stay 0, and the shift lets high bits change low ones. The last step loses nothing,
+    // as the highest 29 bits stay.
     let product = (mark ^ word).wrapping_add(1).wrapping_mul(MULTIPLIER);
     product ^ (product >> 29)
 }
@@ -37,7 +38,7 @@ pub fn mark_of_text(text: &[u8]) -> u64 {
     with_text(0, text)
 }
 
-/// Adds a value, or that there is none, to a mark.
+/// Adds a value to a mark: a 0 if there is none, else a 1 and the text. So an empty text isn't taken for no value.
 pub fn with_value(mark: u64, value: &Option<Bytes>) -> u64
     ensures { result ≡ with_value_of mark value.now }
 {
@@ -47,7 +48,7 @@ pub fn with_value(mark: u64, value: &Option<Bytes>) -> u64
     }
 }
 
-/// Adds the committed values of these rows to a mark.
+/// Adds the committed values of these rows in `server` to a mark, in the order of `keys`.
 pub fn with_values(mark: u64, server: &Server, keys: &[Key]) -> u64
     ensures { result ≡ fold (with_key server.now) mark keys.now }
 {

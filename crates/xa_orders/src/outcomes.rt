@@ -35,7 +35,7 @@ pub fn push_told(
     Ok(())
 }
 
-/// What all lines are answered on this way: those before, which is `first`, those side by side, and the later ones.
+/// What all lines are answered on this way: those before (`first`), those side by side, and the later ones.
 fn text_of(alloc: Global, first: &[u8], way: &Way, later: &[Line<'_>]) -> Result<Vec<u8>, NoMemory>
     ensures { IfOk result (λ text. text.items ≡ text_from first.now later.now way.now) }
 {

@@ -12,7 +12,8 @@ use xa_server::{BranchEntry, HeldRow, Phase, Server};
 use xa_statement::read_statement;
 use xa_xid::{Key, NoMemory, SessionNo, Statement};
 
-/// The greatest number of statements as which a server is kept: more would take long to carry out again.
+/// The greatest number of statements as which a server is kept. They are carried out again whenever the server is
+/// needed, so more would take too long.
 const MOST: usize = 64;
 
 /// Keeps servers as statements that lead to them from one server, which all share.
@@ -21,7 +22,7 @@ const MOST: usize = 64;
 /// memory, and changes no result.
 #[derive(Drop)]
 pub struct Packing {
-    /// The server before all lines.
+    /// The server with which the search begins: no line side by side is carried out yet.
     base: Arc<Server>,
     /// A session that has no branch in that server, if there is one.
     free: Option<SessionNo>,
@@ -44,7 +45,7 @@ fn free_session(branches: &[BranchEntry]) -> Option<SessionNo> {
     None
 }
 
-/// Whether the statement gives a branch one of these holds on a row.
+/// Whether the statement gives a branch one of these holds: it reads, writes or deletes the row as the hold says.
 fn holds_one(rows: &[HeldRow], statement: &Statement) -> bool {
     rows.iter()
         .any(|row| Wanted::hold(row).is_done_by(statement))
@@ -112,8 +113,8 @@ impl Packing {
         Ok(())
     }
 
-    /// Adds statements that give each row its value in `server`, if that isn't the one in the shared server. The
-    /// session has no branch, so they take effect at once.
+    /// Adds statements that give each row that a line writes its value in `server`, if that isn't its value in the
+    /// shared server. The session has no branch, so they take effect at once.
     fn add_rows(
         &self,
         since: &mut Vec<Done>,
@@ -156,6 +157,7 @@ impl Packing {
         branch: &BranchEntry,
     ) -> Result<(), NoMemory> {
         let xid = &branch.xid;
+        // In the order in which a session gives them: start, work, end, prepare.
         self.add(since, session, &Wanted::Start(xid))?;
         let rows = server.rows_of(self.alloc, xid)?;
         self.add_holds(since, session, rows.as_slice())?;
@@ -190,8 +192,8 @@ impl Packing {
         Ok(since)
     }
 
-    /// The server, kept as few statements. None if no session is free, they are too many, or they aren't known to lead
-    /// to it.
+    /// The server `own`, kept as few statements. None if no session is free to give them, if they are too many, or if
+    /// they aren't known to lead to it.
     fn packed(&self, own: &Server) -> Result<Option<KeptServer>, NoMemory>
         ensures { IfOk result (λ found. IfSome found (λ packed. packed ≡ own.now)) }
     {
@@ -199,7 +201,7 @@ impl Packing {
             return Ok(None);
         };
         let since = self.since(free, own)?;
-        // More statements would take too long to carry out again at each look.
+        // More statements would take too long to carry out again whenever the server is needed.
         if since.len() > MOST {
             return Ok(None);
         }
@@ -220,6 +222,7 @@ impl Packing {
         ensures { OnOk result (server.new ≡ server.old) }
     {
         let found = match server.own() {
+            // It is kept as statements already.
             None => None,
             Some(own) => self.packed(own)?,
         };

@@ -24,9 +24,10 @@ pub struct Explored {
     pub text: Vec<u8>,
 }
 
-/// Explores the script of this text.
+/// Explores the script of this text. Returns how that ended, and what is written for it.
 ///
-/// If more than `limit` ways that have carried out equally many lines are known to differ, the end is `Undecided`.
+/// If a line is faulty, the end is `Faulty`, and the text is that of the faulty lines. Otherwise, if more than `limit`
+/// ways that have carried out equally many lines are known to differ, the end is `Undecided`.
 /// Errors: `NoMemory` if an allocation failed.
 /// May return `NoMemory`. Doesn't wait.
 /// Own rule: docs/COMMANDS.md#explore.

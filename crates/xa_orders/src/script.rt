@@ -71,8 +71,8 @@ impl<'a> Script<'a> {
         }
     }
 
-    /// Notes that the line of this number is faulty. `place` is the byte of its statement at which that goes wrong,
-    /// from 0; it is 0 if the line has no statement.
+    /// Notes that the line of this number is faulty. `place` is the byte of its statement at which reading fails, from
+    /// 0; it is 0 if the line names no session, or is a BESIDE or AFTER that may not come there.
     fn blame(&mut self, number: u64, place: u64) -> Result<(), NoMemory>
         ensures { OnOk result (read_kept self.new ≡ blamed (read_kept self.old) number place) }
     {
@@ -125,6 +125,7 @@ impl<'a> Script<'a> {
             (record { session = session; text = text.entry.now })) }
     {
         match self.stage {
+            // If a line BESIDE follows, `take_beside` moves these lines to those that are carried out first.
             Stage::First => {
                 self.beside.push(Line::new(session, text))?;
                 Ok(())

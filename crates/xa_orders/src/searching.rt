@@ -11,7 +11,7 @@ use std::alloc::Global;
 use xa_server::Server;
 use xa_xid::{Key, NoMemory};
 
-/// The only way before all lines.
+/// The list of the only way on which no line is carried out yet.
 fn opening_ways(alloc: Global, lines: &[Line<'_>], server: Server) -> Result<Vec<Way>, NoMemory>
     ensures { IfOk result (λ ways. IsOpening lines.now server ways.items) }
 {
@@ -39,6 +39,7 @@ pub fn every_way(
 {
     let mut keeper = Keeper::new(alloc, &server, lines, written)?;
     let mut ways = opening_ways(alloc, lines, server)?;
+    // Each level carries out one more line, so after as many levels all lines are carried out.
     for _ in 0..lines.len() {
         match next_level(alloc, &mut keeper, lines, ways.as_slice(), limit)? {
             None => return Ok(None),

@@ -65,7 +65,7 @@ impl SharedText {
         self.shared.mark
     }
 
-    /// Tells whether it is known to be this text.
+    /// Tells whether the shared text is known to be the same as `text`.
     pub fn is(&self, text: &[u8]) -> bool
         ensures { result ≡ true → self.now ≡ text.now }
     {

@@ -1,6 +1,6 @@
-//! The part of a script that is read.
+//! The part of a script that is being read.
 
-/// The part of a script that is read.
+/// The part of a script that is being read.
 #[derive(Clone, Copy, Debug, PartialEq, Eq)]
 pub enum Stage {
     /// No line `BESIDE` and no line `AFTER` was read yet.

@@ -5,7 +5,7 @@ use crate::shared_text::SharedText;
 use std::alloc::Global;
 use xa_xid::NoMemory;
 
-/// The greatest number of texts that are kept: to look through more would take longer than it saves.
+/// The greatest number of texts that are kept: to compare a new one with more would take longer than it saves.
 const MOST: usize = 64;
 
 /// The first `MOST` different texts that came, each kept once, so that ways share them.
@@ -14,7 +14,7 @@ pub struct Texts {
     known: Vec<SharedText>,
 }
 
-/// The text of the list that is known to be the same. None if there is none.
+/// One more owner of the list's first text that is known to be this one. None if there is none.
 fn same_in(known: &[SharedText], text: &[u8]) -> Result<Option<SharedText>, NoMemory>
     ensures { IfOk result (λ found. IfSome found (λ same. same ≡ text.now)) }
 {

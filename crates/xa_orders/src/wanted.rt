@@ -21,7 +21,7 @@ pub enum Wanted<'a> {
 }
 
 impl<'a> Wanted<'a> {
-    /// Returns what gives a row this value, or takes its value away.
+    /// Returns what gives a row this value, or takes its value away if `value` is None.
     pub fn value(key: &'a Key, value: &'a Option<Bytes>) -> Wanted<'a> {
         match value {
             Some(text) => Wanted::Value(key, text),
@@ -29,7 +29,8 @@ impl<'a> Wanted<'a> {
         }
     }
 
-    /// Returns what gives a branch this hold on a row.
+    /// Returns what gives a branch this hold on a row: to read the row, to give it the value, or to take its value
+    /// away.
     pub fn hold(row: &'a HeldRow) -> Wanted<'a> {
         match &row.hold {
             Hold::Shared => Wanted::Read(&row.key),
@@ -38,7 +39,7 @@ impl<'a> Wanted<'a> {
         }
     }
 
-    /// Tells whether the statement does it.
+    /// Tells whether the statement does what is wanted: it is of the wanted kind, and has the same key, value or xid.
     pub fn is_done_by(&self, statement: &Statement) -> bool {
         match self {
             Wanted::Value(row, text) => {

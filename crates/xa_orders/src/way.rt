@@ -48,8 +48,8 @@ impl Way {
         packing.pack(&mut self.server)
     }
 
-    /// Tells whether both are known to have come to the same. The other way's server has to be kept as
-    /// itself, else the answer is no.
+    /// Tells whether both are known to have come to the same: to the same answers and the same server. The server of
+    /// `other` has to be kept as itself, else the answer is no.
     ///
     /// May return `NoMemory`.
     pub fn is_same(&self, other: &Way) -> Result<bool, NoMemory>
@@ -59,6 +59,7 @@ impl Way {
             return Ok(false);
         }
         match other.server.own() {
+            // `other` is a new way, compared before it is packed, so this doesn't come up.
             None => Ok(false),
             Some(server) => self.server.is_like(server),
         }

@@ -15,8 +15,8 @@ use std::alloc::Global;
 use xa_server::Server;
 use xa_xid::{NoMemory, SessionNo};
 
-/// How many ways at the end of a list have servers that are kept as themselves: a way that comes again is
-/// mostly among the last.
+/// How many ways at the end of a list have servers that are kept as themselves, which are compared faster: a way that
+/// comes again is mostly among the last.
 const WHOLE: usize = 256;
 
 /// Whether the list has this place, and the way there is known to have come to the same as `one`.
@@ -29,7 +29,8 @@ fn is_at(known: &[Way], place: usize, one: &Way) -> Result<bool, NoMemory>
     }
 }
 
-/// Whether a way of the list, of this fingerprint, is known to have come to the same as `one`.
+/// Whether a way of the list is known to have come to the same as `one`, which has this fingerprint. Only ways of the
+/// same fingerprint are compared, the last one first.
 fn is_known(
     known: &[Way],
     index: &FingerprintIndex,
@@ -54,12 +55,13 @@ fn is_known(
     Ok(false)
 }
 
-/// Keeps the last way that has `WHOLE` others after it in less memory.
+/// Packs the way that has exactly `WHOLE` others after it, if there is one: its server is then kept in less memory, if
+/// that is possible. This is called after each way that is added, so it was called for the ways before that one.
 fn pack_before(known: &mut Vec<Way>, packing: &Packing) -> Result<(), NoMemory>
     ensures { OnOk result (known.new.items ≡ known.old.items) }
 {
     let count = known.len();
-    // All of them are among the last.
+    // No way has `WHOLE` others after it.
     if count <= WHOLE {
         return Ok(());
     }
@@ -70,7 +72,7 @@ fn pack_before(known: &mut Vec<Way>, packing: &Packing) -> Result<(), NoMemory>
     }
 }
 
-/// Adds a way, unless one that is there is known to have come to the same.
+/// Adds the way `one`, unless a way of the list is known to have come to the same.
 fn add(known: &mut Vec<Way>, keeper: &mut Keeper, one: Way) -> Result<(), NoMemory>
     ensures { OnOk result (AddsUnlessThere known.old.items one known.new.items) }
 {

@@ -85,7 +85,7 @@ all_there parts runs came outcomes old new explored counted =
     All-weaker (HasCome parts) (Contains (map (λ (one : Outcome). one.text.items) outcomes))
     (λ t come. came_listed parts outcomes t explored come) came counted.raced.each
 
--- what is written if all outcomes are listed: how often each came, and how many there are
+-- if all outcomes are listed, what is written tells how often each came, and how many there are
 text_of_all : (parts : Parts) (runs : ℕ) (came : List (List ℕ)) (outcomes : List Outcome) (old new : List CameTally)
     (text : List ℕ) → IsExplored parts outcomes → texts_of old ≡ map (λ one. one.text.items) outcomes
     → IsCounted parts runs came old new → text ≡ counted_head new ++ codes " OF " ++ decimal (length new)
@@ -101,7 +101,7 @@ text_of_all parts runs came outcomes old new text explored listed counted is =
     (head_is came new counted.tallied)
     ∙ ap (λ (l : List (List ℕ)). seen_text came l) same
 
--- what is written if all outcomes are listed, as `IsSeenOfAll` states it
+-- if all outcomes are listed, what is written is as `IsSeenOfAll` states it
 seen_all : (parts : Parts) (runs : ℕ) (came : List (List ℕ)) (outcomes : List Outcome) (old new : List CameTally)
     (text : List ℕ) → IsExplored parts outcomes → texts_of old ≡ map (λ one. one.text.items) outcomes
     → IsCounted parts runs came old new → text ≡ counted_head new ++ codes " OF " ++ decimal (length new)
@@ -115,7 +115,7 @@ seen_all parts runs came outcomes old new text explored listed counted is = reco
   text_is = text_of_all parts runs came outcomes old new text explored listed counted is;
 }
 
--- what is written if all outcomes are listed, as `IsSeenOf` states it
+-- if all outcomes are listed, what is written is as `IsSeenOf` states it
 seen_of_all : (parts : Parts) (runs : ℕ) (came : List (List ℕ)) (outcomes : List Outcome)
     (old new : List CameTally) (text : List ℕ) → IsExplored parts outcomes
     → texts_of old ≡ map (λ one. one.text.items) outcomes
@@ -127,14 +127,15 @@ seen_of_all parts runs came outcomes old new text explored listed counted is = r
   text_is = inl (text_of_all parts runs came outcomes old new text explored listed counted is);
 }
 
--- what is written if not all outcomes can be listed: how often each text came
+-- if not all outcomes can be listed, what is written tells how often each text came
 text_of_some : (parts : Parts) (runs : ℕ) (came : List (List ℕ)) (old new : List CameTally) (text : List ℕ)
     → IsCounted parts runs came old new → text ≡ counted_head new ++ codes "\n"
     → text ≡ some_seen_text came (texts_of new)
 text_of_some parts runs came old new text counted is =
     is ∙ ap (λ h. h ++ codes "\n") (head_is came new counted.tallied)
 
--- what is written if there are too many ways to list all outcomes, and the list was empty at first: `IsSeenOfSome`
+-- if there are too many ways to list all outcomes, and the list was empty at first, what is written is as
+-- `IsSeenOfSome` states it
 seen_some : (parts : Parts) (runs : ℕ) (came : List (List ℕ)) (old new : List CameTally) (text : List ℕ)
     → IsWide parts.beside (base_of parts) ways_limit → old ≡ []
     → IsCounted parts runs came old new
@@ -152,7 +153,7 @@ seen_some parts runs came old new text wide empty counted is =
       text_is = text_of_some parts runs came old new text counted is;
     }
 
--- what is written if not all outcomes can be listed, as `IsSeenOf` states it
+-- if not all outcomes can be listed, what is written is as `IsSeenOf` states it
 seen_of_some : (parts : Parts) (runs : ℕ) (came : List (List ℕ)) (old new : List CameTally) (text : List ℕ)
     → IsCounted parts runs came old new → text ≡ counted_head new ++ codes "\n" → IsSeenOf came text
 seen_of_some parts runs came old new text counted is = record {
@@ -161,7 +162,7 @@ seen_of_some parts runs came old new text counted is = record {
   text_is = inr (text_of_some parts runs came old new text counted is);
 }
 
--- what is written, whether or not all outcomes are known, as `IsPartsCome` states it
+-- whether or not all outcomes are known, what is written is as `IsPartsCome` states it
 pub come_either : (parts : Parts) (runs : ℕ) (came : List (List ℕ)) (known : Bool) (old new : List CameTally)
     (text : List ℕ) → AreFirst parts known old → IsCounted parts runs came old new → text ≡ counted_text known new
     → IsPartsCome parts runs text
@@ -170,7 +171,7 @@ come_either parts runs came true old new text first counted is =
 come_either parts runs came false old new text first counted is =
     inr (seen_some parts runs came old new text first.0 first.1 counted is)
 
--- what is written, whether or not all outcomes are known, as `IsSeenOf` states it
+-- whether or not all outcomes are known, what is written is as `IsSeenOf` states it
 pub seen_either : (parts : Parts) (runs : ℕ) (came : List (List ℕ)) (known : Bool) (old new : List CameTally)
     (text : List ℕ) → AreFirst parts known old → IsCounted parts runs came old new → text ≡ counted_text known new
     → IsSeenOf came text

@@ -17,7 +17,7 @@ use Rattle.xa_races.specs.declared.came_tally.CameTally.{CameTally}
 use Rattle.xa_races.specs.Came.{times, came_text, came_texts, count_seen, ComesBefore}
 use Rattle.xa_races.specs.Tallied.{texts_of, once_if, counted_up, Tallied, tallies_text}
 
--- two lists of bytes that are apart don't pass the test
+-- different lists of bytes aren't equal by the test
 pub apart_bytes : (one other : List ℕ) → one ≢ other → pointwise nat_eq one other ≡ false
 apart_bytes one other apart = by (pointwise nat_eq one other) refl
   where
@@ -36,7 +36,7 @@ times_none text (one ∷ came) none =
     add_none : (n : ℕ) → n ≡ 0 → 0 + n ≡ 0
     add_none n is = omega arith
 
--- how often a text came, after one more came
+-- after one more text came, a text came as often as before, and once more if it is that one
 pub times_push : (text one : List ℕ) (came : List (List ℕ))
     → times text (came ++ one ∷ []) ≡ times text came + once_if one text
 times_push text one came = sum_by_push (λ (o : List ℕ). cond (pointwise nat_eq o text) 1 0) came one

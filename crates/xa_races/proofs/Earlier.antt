@@ -37,7 +37,8 @@ unfolding state_after
 state_over base [] second = refl
 state_over base (entry ∷ first) second = state_over (after base entry.session entry.statement) first second
 
--- a front of two lists that is longer than the first: all of the first, and a front of the second
+-- a front of two lists, one behind the other, that has at least the first, is all of the first, and then a front of
+-- the second
 take_over : (first second : List Entry) (place : ℕ) → length first ≤ place
     → take place (first ++ second) ≡ first ++ take (place - length first) second
 take_over [] second place low = ap (λ n. take n second) (omega arith)

@@ -28,7 +28,7 @@ use Rattle.xa_races.specs.declared.long_run.LongRun.{LongRun}
 use Rattle.xa_races.specs.declared.long_outcome.LongOutcome.{LongOutcome}
 use Rattle.xa_races.proofs.Statements.{own_part}
 
--- a place of a list, counted from another on
+-- what stands at a place of a list stands in the rest of the list from `from` on at the place counted from there
 pub get_drop : (from place : ℕ) (list : List Entry) → from ≤ place
     → slice_get (drop from list) (place - from) ≡ slice_get list place
 get_drop zero place list low = let same : place - 0 ≡ place = omega arith in ap (slice_get list) same
@@ -39,19 +39,19 @@ get_drop (suc from) (suc place) (entry ∷ list) low =
     let e : suc place - suc from ≡ place - from = omega arith in
     ap (slice_get (drop from list)) e ∙ get_drop from place list (omega (arith, low))
 
--- what holds of each mapped element holds of each element's image
+-- if `P` holds of each element of a mapped list, it holds of the image of each element of the list
 pub all_of_mapped : {A B : Type 0} (P : B → Type 0) (f : A → B) (xs : List A) → All P (map f xs) → All (λ x. P (f x)) xs
 all_of_mapped P f [] all = All-nil (λ x. P (f x))
 all_of_mapped P f (x ∷ xs) all = All-cons (λ y. P (f y)) x xs (All-head P (f x) (map f xs) all)
     (all_of_mapped P f xs (All-tail P (f x) (map f xs) all))
 
--- how many entries there are from a place on
+-- from a place on there are as many entries as the length, less the place
 pub length_drop : (from : ℕ) (list : List Entry) → length (drop from list) ≡ length list - from
 length_drop zero list = omega arith
 length_drop (suc from) [] = omega arith
 length_drop (suc from) (entry ∷ list) = let rest = length_drop from list in omega (arith, rest)
 
--- what holds of each element's image holds of each mapped element
+-- if `P` holds of the image of each element of a list, it holds of each element of the mapped list
 pub all_mapped : {A B : Type 0} (P : B → Type 0) (f : A → B) (xs : List A) → All (λ x. P (f x)) xs → All P (map f xs)
 all_mapped P f [] all = All-nil P
 all_mapped P f (x ∷ xs) all = All-cons P (f x) (map f xs) (All-head (λ y. P (f y)) x xs all)
@@ -73,7 +73,7 @@ lists_within whole limit from raced all =
     (λ one listed. All-weaker (IsListed whole limit) (IsWithin (drop from whole) limit from)
     (listed_within whole limit from) one.said.added.items listed) raced all
 
--- what is known of each second stands beside it
+-- what holds of each second element may be added to what holds of pairs
 pub zip_with : {A B : Type 0} (R : A → B → Type 0) (P : B → Type 0) (xs : List A) (ys : List B) → AllZip R xs ys
     → AllByRecursion P ys
     → AllZip (λ x y. R x y × P y) xs ys
@@ -91,7 +91,7 @@ zip_beside R P [] (y ∷ ys) zip all = absurd zip
 zip_beside R P (x ∷ xs) [] zip all = absurd zip
 zip_beside R P (x ∷ xs) (y ∷ ys) zip all = ((zip.0, all.0), zip_beside R P xs ys zip.1 all.1)
 
--- what holds of each pair gives what holds of its second element
+-- if what holds of each pair gives `P` of its second element, `P` holds of each second element
 pub zip_second : {A B : Type 0} (R : A → B → Type 0) (P : B → Type 0) → ((a : A) (b : B) → R a b → P b)
     → (xs : List A) (ys : List B) → AllZip R xs ys
     → AllByRecursion P ys
@@ -162,7 +162,8 @@ module _ (gate : ℕ → ℕ → Bool → Type 0) (from : ℕ) (runs : List Long
     (went : AllZip (λ run one. HasRaced gate run.session run.lines.items one) runs raced)
     (none : All (λ one. one.fault ≡ None) raced)
     (settles : Settles from raced outcome) where
-  -- what is known of each run and of what its thread returned, side by side
+  -- each run raced without a fault, as its thread returned it, and what the last session has seen has all that the
+  -- run's session knows
   all : AllZip (λ run one. (HasRaced gate run.session run.lines.items one × (one.fault ≡ None))
       × IsTakenIn (seen_by_last outcome.sessions.items) (known_in one.session))
       runs raced

@@ -1,7 +1,7 @@
 -- The sessions of a new store.
 --     all_more, numbered_more     one session more
 --     numbered, numbers_are       that sessions are numbered, as what each is and as one list
---     last_none                   no session has seen anything, so neither has the last
+--     IsNew, last_none, base_none     no session has seen anything, so neither has the last;  their state is empty
 --     holds_none                  each has seen all of nothing
 use Rattle.std.proofs.Common.{◌≡◌, ℕ, ◌+◌, List, [], ◌∷◌, ◌++◌, length, map, refl, ap, sym, ◌∙◌, subst, arith}
 use Rattle.std.specs.List.{All}

@@ -13,7 +13,7 @@ use Rattle.xa_store.proofs.Gathering.{zip_through, all_kept}
 use Rattle.xa_races.specs.Long.{known_in, Keeps, HoldsAll}
 use Rattle.xa_races.proofs.Statements.{own_part}
 
--- a session and what it is after it met another
+-- what a session is after it met another one: of the same store, and with what it knows changed as `MeetsFirst` says
 abbrev pub Meets : EndlessSession → EndlessSession → Type 0
 Meets old new = (new.store.value ≡ old.store.value) × MeetsFirst (known_in old) (known_in new)
 
@@ -38,7 +38,7 @@ stays_through old now new s t =
           (known_in new) s.adds_nothing t.adds_nothing;
     }
 
--- the loop over elements: one more has changed as the relation says
+-- if all elements have changed as a transitive relation says, and then one changes so again, all still have
 pub zip_set : {S : Type 0} (R : S → S → Type 0) → ((a b c : S) → R a b → R b c → R a c)
     → (before now : List S) (index : ℕ) (new d : S) → index < length now
     → AllZip R before now → R (get_or now index d) new → AllZip R before (set now index new)

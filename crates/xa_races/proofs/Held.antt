@@ -27,7 +27,8 @@ raced_on gate rows lines text is = record {
   text_is = is.text_is;
 }
 
--- the first lists are those of the first sessions
+-- if the list at each index has the statements of session `index + session`, the first `count` lists are those of the
+-- sessions from `session` on
 pub lists_from : (session : ℕ) (lines : List (List ℕ)) (count : ℕ) (lists : List (Vec Statement Global))
     → ((index : ℕ) → part_at (map (λ list. list.items) lists) index ≡ statements_of (index + session) lines)
     → AreListsFrom session lines (map (λ list. list.items) (take count lists))

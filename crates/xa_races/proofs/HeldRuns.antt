@@ -39,7 +39,7 @@ pub passed_on : {A : Type 0} (P : ScriptFault → Type 0) (result : Result A Scr
 passed_on {A} P result passed cause is same p =
     subst (λ (r : Result A ScriptFault). IfErr r P) (sym is) (subst P (sym same) p)
 
--- a race of sessions that fails, as a failed race of their lines
+-- what makes a race of runs fail (`EndsLong`) makes a race of their sessions' lines fail (`EndsBeside`)
 pub ends_beside : (gate : ℕ → ℕ → Bool → Type 0) (capacity : ℕ) (renews : Bool) (from : ℕ) (lines : List Told)
     (before : List EndlessSession) (runs : List LongRun) → AreRunsOf 1 lines before runs → length before ≤ 16
     → AreNumbered 1 before → All (λ session. HoldsAll (seen_by_last before) (known_in session)) before
@@ -68,8 +68,8 @@ ends_same gate capacity renews base new lines others f state same ends =
     subst (λ (s : State). EndsBeside gate capacity renews s others f) state
     (subst (λ (l : List Told). EndsBeside gate capacity renews base l f) same ends)
 
--- if all input was read, and a fault of the races of what was read has its cause, it has it for all that the reader
--- had
+-- if all input was read, and a fault that was passed on has its cause in the races of what was read, it has it in the
+-- races of all that the reader had
 pub ends_read : {A : Type 0} (gate : ℕ → ℕ → Bool → Type 0) (capacity : ℕ) (renews : Bool)
     (result : Result A ScriptFault) (passed cause : ScriptFault) (input rest : Option (List ℕ)) (slice given : List ℕ)
     → result ≡ Err passed
@@ -93,7 +93,7 @@ of_open gate capacity base lines never fault.Full of ends = absurd cc
 of_open gate capacity base lines never fault.GateShut of ends = absurd (never ends.session ends.line ends.shut.shut)
 of_open gate capacity base lines never fault.ThreadRefused of ends = inr refl
 
--- the state after a race is what a session of that store has seen in the end
+-- the state of an opened store with at least one session is that after all that the last of its sessions has seen
 pub left_in : (opened : Opened) (rows : ℕ) → opened.store.value.log.rows ≡ rows → 1 ≤ length opened.sessions.items
     → IsLeftIn rows (base_of opened)
 left_in opened rows rows_are some = record {
@@ -105,7 +105,8 @@ left_in opened rows rows_are some = record {
   state_is = refl;
 }
 
--- the three parts of a script, each with its answers, are one race's text
+-- the answers of the three parts of a script, of which the middle one raced at the gate, are the text of one race
+-- held
 pub held_whole : (gate : ℕ → ℕ → Bool → Type 0) (capacity : ℕ) (renews : Bool) (parts : Parts)
     (base first behind : State) (one answers two three : List ℕ) → base ≡ no_state
     → one ≡ told_text base parts.before
@@ -142,7 +143,7 @@ held_next gate capacity renews runs parts came text held once = record {
   each = All-push (IsHeldOnce gate capacity renews parts) came text held.each once;
 }
 
--- all input was read and the races were held: what is written is what they gave, or a prefix if writing failed
+-- if all input was read, the races were held, and what they gave was written, what the job promises after Ok holds
 pub held_written : {A : Type 0} (gate : ℕ → ℕ → Bool → Type 0) (capacity : ℕ) (renews : Bool) (runs : ℕ)
     (result : Result A ScriptFault) (came : List (List ℕ)) (text given : List ℕ) (input rest old new : Option (List ℕ))
     → Consumes input rest given → IsAtEnd rest

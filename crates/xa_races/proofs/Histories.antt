@@ -1,10 +1,13 @@
 -- A history from a place on, and what a session has left to say there.
 --     Said              a statement, and what it was answered
+--     entries_of-other  a session's entries behind an entry of another session
+--     statements_in, answers_in     what a session's lines say;  what they were answered
 --     Remains           the session's lines that are left explain its entries from the place on
 --     Drained           the first line that is left doesn't stand at the place without entering there
 --     skipped, entering, waiting      what is left behind a line that doesn't enter;  behind one that enters;  behind
 --                                     another session's entry
---     due               the session of the next entry has a line left at the place
+--     enters_there      a line that enters at the place is the entry there
+--     Due, due          the session of the next entry has a line left at the place
 --     ended             at the end of the history no line is left
 use Rattle.std.proofs.Common.{◌≡◌, ◌≢◌, ℕ, zero, suc, ◌+◌, ◌-◌, ◌≤◌, Bool, true, false, cond, Some, List, [], ◌∷◌}
 use Rattle.std.proofs.Common.{length, map, drop, refl, ap, sym, ◌∙◌, subst}
@@ -28,14 +31,14 @@ pub record Said : Type 0 where
   pub statement : Statement
   pub answer : Answer
 
--- the session's entries of a history whose first entry is its own: that one, and then those of the rest
+-- if a history's first entry is the session's own, the session's entries are that one, and then those of the rest
 entries_of-own : (session : ℕ) (entry : Entry) (list : List Entry) → entry.session ≡ session
     → entries_of session (entry ∷ list) ≡ entry ∷ entries_of session list
 entries_of-own session entry list own =
     ap (λ b. cond b (entry ∷ entries_of session list) (entries_of session list))
     (ap (λ (n : ℕ). is_of session (record entry { session = n })) own ∙ same_test session)
 
--- a session's entries of a history whose first entry is another session's: those of the rest
+-- if a history's first entry is another session's, the session's entries are those of the rest
 pub entries_of-other : (session : ℕ) (entry : Entry) (list : List Entry) → entry.session ≢ session
     → entries_of session (entry ∷ list) ≡ entries_of session list
 entries_of-other session entry list apart =
@@ -49,7 +52,8 @@ from_place [] place entry is = absurd (none-some entry is)
 from_place (x ∷ xs) zero entry is = ap (λ e. e ∷ xs) (same_Some x entry is)
 from_place (x ∷ xs) (suc place) entry is = from_place xs place entry is
 
--- the session's entries from a place on, if the entry there is its own: that one, then those from the next place
+-- if the entry at a place is the session's own, its entries from there on are that one, and then those from the next
+-- place on
 own_from : (history : List Entry) (place session : ℕ) (entry : Entry) → slice_get history place ≡ Some entry
     → entry.session ≡ session
     → entries_of session (drop place history) ≡ entry ∷ entries_of session (drop (suc place) history)
@@ -57,7 +61,7 @@ own_from history place session entry is own =
     ap (entries_of session) (from_place history place entry is)
     ∙ entries_of-own session entry (drop (suc place) history) own
 
--- the session's entries from a place on, if the entry there is another session's: those from the next place
+-- if the entry at a place is another session's, the session's entries from there on are those from the next place on
 other_from : (history : List Entry) (place session : ℕ) (entry : Entry) → slice_get history place ≡ Some entry
     → entry.session ≢ session
     → entries_of session (drop place history) ≡ entries_of session (drop (suc place) history)

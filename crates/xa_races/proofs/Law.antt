@@ -3,6 +3,7 @@
 --     raced_leads      turns lead to what lines that raced were answered
 --     one_line         one line that raced is answered as a run answers it
 --     came_given       what came of parts is given by an order
+--     came_outcome, came_listed     it is the text of an explored outcome;  it is among their texts
 use Rattle.std.proofs.Common.{◌≡◌, ℕ, suc, ◌+◌, ◌≤◌, ◌==◌, ◌&&◌, Bool, true, false, not, cond, Option, Some, None, List}
 use Rattle.std.proofs.Common.{[], ◌∷◌, ◌++◌, length, map}
 use Rattle.std.proofs.Common.{refl, ap, sym, ◌∙◌, subst, inl, inr, arith, append-nil}

@@ -25,7 +25,7 @@ use Rattle.xa_races.specs.LongRace.{IsNewRun, AreNewRuns, AllAnswered, AllLetIn,
 use Rattle.xa_races.specs.declared.long_run.LongRun.{LongRun}
 use Rattle.xa_races.specs.declared.long_outcome.LongOutcome.{LongOutcome}
 
--- one session and its run more, in a race over a new store
+-- the new runs of a store, and one more with the next number, are new runs of the store
 pub new_more : (store : EndlessStore) (n m : ℕ) (lists : List (List Statement)) (runs : List LongRun)
     (statements : List Statement) (run : LongRun)
     → AreNewRuns store n lists runs → m ≡ length lists + n → IsNewRun store m statements run

@@ -14,7 +14,7 @@ use Rattle.xa_races.specs.Race.{fault_place, fault_text, faults_text, session_in
 use Rattle.xa_races.specs.Race.{statements_of}
 use Rattle.xa_races.specs.Outcome.{entry_text, entries_text, placed_text, session_text, answers_text}
 
--- what is written for the faulty lines of a text: for the first line, and then for the rest
+-- what is written for the faulty lines of a text is what is written for the first line, and then for the rest
 pub faults_text-line : (number : ℕ) (text line rest : List ℕ) → lines_of text ≡ line ∷ lines_of rest
     → faults_text number (lines_of text) ≡ fault_text number (fault_place (line_of line))
     ++ faults_text (number + 1) (lines_of rest)
@@ -28,7 +28,7 @@ faults_text-end number [] empty = refl
 faults_text-end number (x ∷ xs) empty =
     absurd (let none : length (x ∷ xs) ≡ 0 = grind (arith, common_steps) in omega arith)
 
--- the greatest session of a text: that of the first line, or of the rest
+-- the greatest session of a text is that of the first line or of the rest, whichever is greater
 pub last_session-line : (text line rest : List ℕ) → lines_of text ≡ line ∷ lines_of rest
     → last_session (lines_of text) ≡ max (session_in (line_of line)) (last_session (lines_of rest))
 unfolding last_session
@@ -40,13 +40,13 @@ unfolding last_session lines_of
 last_session-end [] empty = refl
 last_session-end (x ∷ xs) empty = absurd (let none : length (x ∷ xs) ≡ 0 = grind (arith, common_steps) in omega arith)
 
--- an element, if there is one, in front of a list
+-- putting an element, if there is one, in front of a list is putting the list behind that element or nothing
 cons_option-list : {A : Type 0} (first : Option A) (rest : List A)
     → cons_option first rest ≡ option_to_list first ++ rest
 cons_option-list None rest = refl
 cons_option-list (Some x) rest = refl
 
--- a session's statements of a text: that of the first line, if it gives one, and then those of the rest
+-- a session's statements of a text are that of the first line, if it gives one, and then those of the rest
 pub statements_of-line : (session : ℕ) (text line rest : List ℕ) → lines_of text ≡ line ∷ lines_of rest
     → statements_of session (lines_of text) ≡ option_to_list (statement_by session (line_of line))
     ++ statements_of session (lines_of rest)
@@ -63,7 +63,8 @@ statements_of-end session [] empty = refl
 statements_of-end session (x ∷ xs) empty =
     absurd (let none : length (x ∷ xs) ≡ 0 = grind (arith, common_steps) in omega arith)
 
--- the text of two lists of entries: the second's places go on from the first's
+-- the text of two lists of entries is that of the first, and then that of the second, whose places go on from the
+-- first's
 entries_text-append : (place : ℕ) (entries more : List Entry)
     → entries_text place (entries ++ more) ≡ entries_text place entries ++ entries_text (place + length entries) more
 unfolding entries_text
@@ -142,7 +143,8 @@ pub session_text-none : (session : ℕ) (statements : List Bool) (answers : List
 unfolding session_text
 session_text-none session statements answers = refl
 
--- the text of two lists of sessions' answers: the second's numbers go on from the first's
+-- the text of two lists of sessions' answers is that of the first, and then that of the second, whose numbers go on
+-- from the first's
 answers_text-append : (session : ℕ) (lines : List (List ℕ)) (answers more : List (List Answer))
     → answers_text session lines (answers ++ more) ≡ answers_text session lines answers
     ++ answers_text (session + length answers) lines more
@@ -210,7 +212,8 @@ module _ {S : Type 0} (answers_of : S → List Answer) where
       ∙ ap (λ text. answers_text 1 lines (map answers_of (take i all)) ++ text)
       (answers_text-one session lines (answers_of answers))
 
--- what is left of a whole, when one more piece was taken off and put behind what was there
+-- if one more piece is taken off what is left of a whole and put behind what was there, the whole is still what is
+-- there and what is left
 pub moved : {A : Type 0} (whole before now left piece rest : List A) → whole ≡ before ++ left → left ≡ piece ++ rest
     → now ≡ before ++ piece
     → whole ≡ now ++ rest
@@ -221,7 +224,7 @@ moved whole before now left piece rest w l n =
 pub moved_whole : {A : Type 0} (whole now left : List A) → whole ≡ now ++ left → left ≡ [] → now ≡ whole
 moved_whole whole now left w none = sym (w ∙ ap (λ t. now ++ t) none ∙ append-nil now)
 
--- a text got one more piece, which is the next of what it gets
+-- if a text that has got what is done gets one more piece, it has got what is done with that piece
 pub grown : {A : Type 0} (begin before now done piece longer : List A) → before ≡ begin ++ done → now ≡ before ++ piece
     → longer ≡ done ++ piece
     → now ≡ begin ++ longer

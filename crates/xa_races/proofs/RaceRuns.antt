@@ -25,7 +25,7 @@ pub length_mapped : {A B : Type 0} (f : A → B) (xs : List A) → length (map f
 length_mapped f [] = refl
 length_mapped f (x ∷ xs) = ap suc (length_mapped f xs)
 
--- what holds of each mapped element holds of each element's image
+-- if `P` holds of each element of a mapped list, it holds of the image of each element of the list
 pub all_of_mapped : {A B : Type 0} (P : B → Type 0) (f : A → B) (xs : List A) → All P (map f xs) → All (λ x. P (f x)) xs
 all_of_mapped P f [] all = All-nil (λ x. P (f x))
 all_of_mapped P f (x ∷ xs) all = All-cons (λ y. P (f y)) x xs (All-head P (f x) (map f xs) all)
@@ -139,7 +139,7 @@ get_or-any [] index d e below = absurd (omega arith)
 get_or-any (x ∷ xs) zero d e below = refl
 get_or-any (x ∷ xs) (suc index) d e below = get_or-any xs index d e (omega (arith, below))
 
--- the list at a place of what f gives of each
+-- if each list is mapped, the list at a place is the mapped one of that place
 pub part_at-map : {V A B : Type 0} (items : V → List A) (f : A → B) (lists : List V) (index : ℕ)
     → part_at (map (λ list. map f (items list)) lists) index ≡ map f (part_at (map items lists) index)
 part_at-map items f [] index = refl

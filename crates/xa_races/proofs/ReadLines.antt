@@ -33,7 +33,7 @@ empty_more items lists new one now none empty index =
     (map_push items lists one ∙ ap (λ l. map items lists ++ l ∷ []) none)
     ∙ part_at-more (map items lists) index ∙ empty index
 
--- an item is put behind the list at a place
+-- if an item is put behind the list at a place, that list gains it, and the others gain nothing
 pub gains_at : {V A : Type 0} (items : V → List A) (lists : List V) (place : ℕ) (list d : V) (x : A)
     → place < length lists
     → items list ≡ items (get_or lists place d) ++ x ∷ []
@@ -55,7 +55,7 @@ gains_at items (one ∷ lists) (suc place) list d x below is (suc index) =
 same_place : (session index : ℕ) → 1 ≤ session → (session - 1 == index) ≡ (session == index + 1)
 same_place session index some = grind (arith, nat_tests)
 
--- a statement put behind a session's list: that session gains it, and the others gain nothing
+-- if a statement is put behind a session's list, that session gains it, and the others gain nothing
 pub gains : {V : Type 0} (items : V → List Statement) (lists new : List V) (session place : ℕ) (list d : V)
     (statement : Statement) → 1 ≤ session
     → place ≡ session - 1 → place < length lists → new ≡ slice_set lists place list
@@ -93,7 +93,8 @@ takes_unread (Ok value) number session text place old new unread listed greatest
       (sym (given_nothing (session == index + 1) (read_of text) place unread));
 }
 
--- what was read of a script, and what is left
+-- what was read of a script before line `number` (`given`) and what is left (`rest`) have together its faults, its
+-- greatest session and each session's statements
 pub record IsReadUpTo (script rest : List ℕ) (number : ℕ) (given : RaceScript) : Type 0 where
   pub faults : faults_text 1 (lines_of script) ≡ given.faults.items ++ faults_text number (lines_of rest)
   pub greatest : last_session (lines_of script) ≡ max given.greatest (last_session (lines_of rest))

@@ -27,7 +27,7 @@ well_after First read number well = record { before = well.before; beside = well
 well_after Beside read number well = record { before = well.before; beside = well.beside; later = well.later }
 well_after After read number well = record { before = well.before; beside = well.beside; later = well.later }
 
--- a statement that was read is added to its part
+-- adding a statement that was read to its part keeps all lines of the parts readable
 well_told : (stage : Stage) (read : Reading) (told : Told) → IsReadLine told → IsWell read
     → IsWell (with_told stage read told)
 well_told First read told one well =
@@ -37,7 +37,8 @@ well_told Beside read told one well =
 well_told After read told one well =
     record { before = well.before; beside = well.beside; later = All-push IsReadLine read.later told well.later one }
 
--- a text that can't be read as a statement is a fault, and is added to no part
+-- a line with a statement keeps all lines of the parts readable: a text that can't be read is a fault, and is added
+-- to no part
 well_statement : (read : Reading) (number : ℕ) (told : Told) (result : Result Statement ℕ) → read_of told.text ≡ result
     → IsWell read
     → IsWell (with_statement read number told result)
@@ -67,7 +68,7 @@ well_more read number line well =
     (either (is_word (codes "AFTER") line) (with_after read.stage read number) (with_line read number (line_of line))
     (well_after read.stage read number well) (well_line read number (line_of line) well)))
 
--- all lines, one after another: the parts have only lines that can be read
+-- reading lines, one after another, keeps all lines of the parts readable
 well_lines : (lines : List (List ℕ)) (read : Reading) (number : ℕ) → IsWell read → IsWell (read_lines read number lines)
 unfolding read_lines
 well_lines [] read number well = well

@@ -67,8 +67,8 @@ module _ {L C : Type 0} (spoken : L → Said) (state_of : C → State) (Stands G
       (new : ℕ → List L) (later : C) → Ready place new later → Drained spoken base history place session (new session)
       → ((other : ℕ) → other ≢ session → new other ≡ lines other) → Goes new later
 
-  -- a session's first line stands at the place and doesn't enter there: it has its turn, and the rest of the session's
-  -- lines are drained
+  -- a session's first line that stands at the place and doesn't enter there has its turn: turns lead to the end, if
+  -- they do so from where the rest of the session's lines is still to be drained
   skip_one : (place session : ℕ) → IsSession session → (line : L) (rest : List L) (lines : ℕ → List L)
       (config : C) → lines session ≡ line ∷ rest
       → Ready place lines config → (spoken line).answer.place ≡ place
@@ -95,7 +95,8 @@ module _ {L C : Type 0} (spoken : L → Said) (state_of : C → State) (Stands G
       (λ last end there drained others. go last end there drained
       (λ other apart. others other apart ∙ lines_other lines session other rest apart)))
 
-  -- a session with a first line: it is drained if the line enters or stands at a later place; else the line is skipped
+  -- turns lead to the end from where a session has a first line, if they do so once the session is drained: it is
+  -- already, if the line enters or stands at a later place; else the line is skipped
   drain_by : (place session : ℕ) → IsSession session → (line : L) (rest : List L) (lines : ℕ → List L)
       (config : C) → lines session ≡ line ∷ rest
       → Ready place lines config
@@ -114,8 +115,8 @@ module _ {L C : Type 0} (spoken : L → Said) (state_of : C → State) (Stands G
             (λ other else'. refl)
       ]
 
-  -- the lines of a session that stand at the place and don't enter there have their turns, until the session is
-  -- drained
+  -- turns lead to the end if they do so once a session is drained: those of its lines that stand at the place and
+  -- don't enter there have their turns before
   drain : (place session : ℕ) → IsSession session → (own : List L) (lines : ℕ → List L) (config : C)
       → lines session ≡ own → Ready place lines config
       → Leads place session lines → Goes lines config
@@ -141,7 +142,8 @@ module _ {L C : Type 0} (spoken : L → Said) (state_of : C → State) (Stands G
         (above session is (omega arith))
   ]
 
-  -- the sessions up to `count` are drained one after another, if those above are drained already
+  -- turns lead to the end if they do so once all sessions are drained: those up to `count` are drained one after
+  -- another, those above are already
   drain_all : (place count : ℕ) → count ≤ 16 → (lines : ℕ → List L) (config : C) → Ready place lines config
       → ((session : ℕ) → IsSession session → count < session
       → Drained spoken base history place session (lines session))
@@ -155,7 +157,8 @@ module _ {L C : Type 0} (spoken : L → Said) (state_of : C → State) (Stands G
       (λ new later there own others. drain_all place count (omega arith) new later there
       (drained_above place count lines new above own others) go)
 
-  -- all sessions are drained at a place: the line that is the entry there has its turn, and the next place is reached
+  -- if all sessions are drained at a place, turns lead to the end if they do so from the next place on: the line that
+  -- is the entry at the place has its turn
   enter : (place : ℕ) (entry : Entry) → slice_get history place ≡ Some entry → IsSession entry.session
       → (lines : ℕ → List L) (config : C)
       → Ready place lines config
@@ -189,7 +192,7 @@ module _ {L C : Type 0} (spoken : L → Said) (state_of : C → State) (Stands G
         stands = stands;
       }))
 
-  -- at the end of the history, once all sessions are drained, no line is left
+  -- at the end of the history, once all sessions are drained, no line is left, so this is the end
   done : (place : ℕ) → place ≡ length history → (lines : ℕ → List L) (config : C) → Ready place lines config
       → ((session : ℕ) → IsSession session → Drained spoken base history place session (lines session))
       → Goes lines config

@@ -86,7 +86,7 @@ module _ (gate : ℕ → ℕ → Bool → Type 0) (before : Known) (now new : En
       }
   stops_at ThreadRefused below given store way is = absurd is
 
--- a session that stops at a statement has seen no less
+-- a session that stops at a statement has seen no less than before
 pub halts_begins : (gate : ℕ → ℕ → Bool → Type 0) (place : ℕ) (statement : Statement) (fault : RaceFault)
     (now new : EndlessSession)
     → HaltsAt gate place statement fault now new → Begins (known_in now).seen (known_in new).seen
@@ -96,7 +96,7 @@ halts_begins gate place statement (Full session line) now new is = absurd is
 halts_begins gate place statement NoMemory now new is = is.failed.fails.advances.seen
 halts_begins gate place statement ThreadRefused now new is = absurd is
 
--- more is seen than the answer's place, so the statement was logged
+-- if a session has seen more than the entries before its answer's place, the statement was logged
 pub entered_where_longer : (statement : Statement) (answer : Answer) (old new : Known)
     → IsAnswered no_state statement answer old new
     → answer.place < length new.seen → enters (state_at no_state new.seen answer.place) old.number statement ≡ true

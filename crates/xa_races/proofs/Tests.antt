@@ -33,15 +33,15 @@ below_test : (m n : ℕ) → m < n → nat_lt m n ≡ true
 below_test m n below = grind (arith, nat_tests)
 
 module _ {A : Type 0} (p : A → Bool) where
-  -- the first of the list passes: its place is 0
+  -- if the first of a list passes, the first place that passes is 0
   pub first_passes : (x : A) (xs : List A) → p x ≡ true → position_or_len p (x ∷ xs) ≡ 0
   first_passes x xs passes = ap (λ b. cond (not b) (1 + prefix_len (λ y. not (p y)) xs) 0) passes
 
-  -- the first of the list doesn't pass: the place is one more than in the rest
+  -- if the first of a list doesn't pass, the first place that passes is one more than in the rest
   pub first_fails : (x : A) (xs : List A) → p x ≡ false → position_or_len p (x ∷ xs) ≡ 1 + position_or_len p xs
   first_fails x xs fails = ap (λ b. cond (not b) (1 + prefix_len (λ y. not (p y)) xs) 0) fails
 
-  -- a place that is within the list is found
+  -- if the first place that passes is within the list, it is found
   pub position_is : (xs : List A) (place : ℕ) → position_or_len p xs ≡ place → place < length xs
       → position p xs ≡ Some place
   position_is xs place is below =

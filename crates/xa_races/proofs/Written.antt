@@ -16,7 +16,7 @@ read_whole P None rest given read end p = tt
 read_whole P (Some x) None given read end p = absurd read
 read_whole P (Some x) (Some y) given read end p = subst P (sym (read ∙ ap (λ l. given ++ l) end ∙ append-nil given)) p
 
--- the input was read and the whole text was written: what the job promises after Ok
+-- if the input was read and the whole text was written, what the job promises after Ok holds
 pub runs_written : (runs : ℕ) (result : Result Ended ScriptFault) (ended : Ended) (text given : List ℕ)
     (input rest old new : Option (List ℕ))
     → Consumes input rest given → IsAtEnd rest → IsRunsText runs given ended text
@@ -27,7 +27,7 @@ runs_written runs (Ok e) ended text given input rest old new read end is same wr
     (text, subst (λ x. IsRunsText runs given x text) (sym same) is, written)
 runs_written runs (Err fault) ended text given input rest old new read end is same written = tt
 
--- writing failed: a prefix of the text was written, which is what the job promises after that fault
+-- if writing failed and a prefix of the text was written, what the job promises after that fault holds
 pub runs_cut : (renews : Bool) (runs : ℕ) (result : Result Ended ScriptFault) (ended : Ended) (text given : List ℕ)
     (input rest old new : Option (List ℕ))
     → Consumes input rest given → IsAtEnd rest → IsRunsText runs given ended text
@@ -38,7 +38,8 @@ runs_cut renews runs (Err f) ended text given input rest old new read end is cau
     subst (λ x. AfterRunsFault renews runs x input old new) (sym cause)
     (read_whole (λ t. AppendsRunsPrefix runs t old new) input rest given read end (ended, text, is, prefix))
 
--- all input was read, and the races ended by a fault: nothing was written, which is what the job promises then
+-- if all input was read, the races ended with a fault and nothing was written, what the job promises after that fault
+-- holds
 pub runs_ended : (renews : Bool) (runs : ℕ) (f : ScriptFault) (given : List ℕ) (input rest old : Option (List ℕ))
     → Consumes input rest given → IsAtEnd rest
     → Keeps old old
@@ -59,7 +60,8 @@ keeps_same : (known : Option (List ℕ)) → Keeps known known
 keeps_same None = tt
 keeps_same (Some text) = refl
 
--- a race failed: nothing was written, and the fault has a cause that the job's clauses name
+-- if a race failed with a cause that the job's clauses name, and nothing was written, what the job promises after
+-- that fault holds
 pub runs_failed : (renews : Bool) (runs : ℕ) (result : Result Ended ScriptFault) (passed cause : ScriptFault)
     (given : List ℕ)
     (input rest old : Option (List ℕ)) → result ≡ Err passed → passed ≡ cause → Consumes input rest given → IsAtEnd rest

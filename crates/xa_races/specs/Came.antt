@@ -82,7 +82,8 @@ pub record HaveCome (parts : Parts) (runs : ℕ) (came : List (List ℕ)) : Type
   pub count : length came ≡ runs
   pub each : All (HasCome parts) came
 
--- the list has each outcome of the parts once, in the order of exploring; each text that came is in it
+-- the text is `seen_text` of what came in so many races and of a list that has each outcome of the parts once, in the
+-- order of exploring; each text that came is in that list
 pub record IsSeenOfAll (parts : Parts) (runs : ℕ) (text : List ℕ) : Type 0 where
   pub outcomes : List Outcome
   pub came : List (List ℕ)
@@ -91,7 +92,8 @@ pub record IsSeenOfAll (parts : Parts) (runs : ℕ) (text : List ℕ) : Type 0 w
   pub listed : All (Contains (map (λ one. one.text.items) outcomes)) came
   pub text_is : text ≡ seen_text came (map (λ one. one.text.items) outcomes)
 
--- there are too many ways to know all outcomes; the list has those that came, each once, ascending
+-- the text is `some_seen_text` of what came in so many races and of a list of just that, each text once, ascending;
+-- there are too many ways (`ways_limit`) to know all outcomes
 pub record IsSeenOfSome (parts : Parts) (runs : ℕ) (text : List ℕ) : Type 0 where
   pub listed : List (List ℕ)
   pub came : List (List ℕ)

@@ -1,7 +1,7 @@
 -- What the program keeps of a race of lines.
 --     list_at            the list at a place
 --     answers_of         the answers of a session
---     AreWithin          lines of the sessions up to a number
+--     AreWithin          lines of the sessions from 1 to a number, and of none above 16
 --     AreNumbered        sessions of consecutive numbers
 --     numbers_from       so many consecutive numbers
 --     AreRunsOf          the runs of these sessions
@@ -24,7 +24,7 @@ list_at (list ∷ lists) (suc index) = list_at lists index
 abbrev pub answers_of : List (List Answer) → ℕ → List Answer
 answers_of lists session = list_at lists (session - 1)
 
--- the lines are of sessions from 1 to a number, which is at most 16
+-- each line's session is from 1 to 16, and isn't above this number
 abbrev pub AreWithin : ℕ → List Told → Type 0
 AreWithin sessions lines = All (λ told. IsSession told.session × (told.session ≤ sessions)) lines
 

@@ -68,8 +68,9 @@ pub record AreRead (parts : Parts) : Type 0 where
   pub beside : All IsReadLine parts.beside
   pub later : All IsReadLine parts.later
 
--- lines raced, beginning in the state `base`; this was written for each, and `new` is the state after them.
--- One history explains what each session was answered to its statements, and leads to that state
+-- lines of sessions 1 to 16, each of which can be read, raced, beginning in the state `base`; this was written for
+-- each, and `new` is the state after them. One history, of these sessions alone, explains what each session was
+-- answered to its statements, and leads to that state
 pub record IsRaced (base : State) (lines : List Told) (texts : List (List ℕ)) (new : State) : Type 0 where
   pub history : List Entry
   pub answers : ℕ → List Answer

@@ -4,7 +4,7 @@
 --     AllOpened        the gate can let in each line
 --     IsRacedBy        lines raced at a gate, with room for so many entries
 --     GivesRacedBy     the same as one text
---     IsLeftIn         a state is what some sessions of a store with so many rows have seen in the end
+--     IsLeftIn         a state is that after all that the last of some sessions has seen; their store has so many rows
 --     IsHeldOnce       a text is what all lines were answered in one race of the parts
 --     AreHeld          so many races gave these texts, one text each
 --     IsSeenOf         what is written for the texts that came
@@ -46,7 +46,7 @@ abbrev pub AllOpened : (ℕ → ℕ → Bool → Type 0) → List Told → Type 
 AllOpened gate lines =
     (session : ℕ) → IsSession session → LetsIn gate session (length (statements_of session lines))
 
--- lines raced at a gate that can let in each of them, with room for so many entries
+-- lines raced at a gate that can let in each of them, with room for what they added, as `FitsIn` says
 pub record IsRacedBy (gate : ℕ → ℕ → Bool → Type 0) (capacity : ℕ) (renews : Bool) (base : State) (lines : List Told)
     (texts : List (List ℕ)) (new : State) : Type 0 where
   pub raced : IsRaced base lines texts new
@@ -89,7 +89,7 @@ pub record IsSeenOf (came : List (List ℕ)) (text : List ℕ) : Type 0 where
   pub all : All (Contains listed) came
   pub text_is : (text ≡ seen_text came listed) ⊎ (text ≡ some_seen_text came listed)
 
--- if no line is faulty, the writer got what is written for so many races that were held so
+-- if no line is faulty, the writer got what is written for so many races, which were held as `AreHeld` says
 abbrev pub AppendsHeldRuns : (ℕ → ℕ → Bool → Type 0) → ℕ → Bool → ℕ → List ℕ → Option (List ℕ) → Option (List ℕ)
     → Type 0
 AppendsHeldRuns gate capacity renews runs script old new = IsWellRead script

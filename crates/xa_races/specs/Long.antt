@@ -10,7 +10,7 @@
 --     EndsAt          all statements were answered, or the run stopped
 --     HasRaced        a session before its run, and what its thread returns
 --     AreOfOne        sessions of one log
---     Keeps           a session that met others
+--     Keeps           a session is of its store, and has added nothing
 --     HoldsAll        a session has seen a history, and has its own entries there
 --     IsListed        an entry that was added is in the history
 --     seen_by_last    what the last of some sessions has seen
@@ -59,9 +59,9 @@ pub record WantsMemory (gate : ℕ → ℕ → Bool → Type 0) (place : ℕ) (s
   pub opened : gate (known_in old).number place true
   pub failed : HasFailed old.store.value.log statement NoMoreMemory new.member.replica old.member.pass new.member.pass
 
--- the gate stopped the run, and the fault names the session and the statement that isn't answered; or there is no
--- memory. No history is full, and no statement needs a thread. `place` is the line, counted from 0 in the session's own
--- statements
+-- at GateShut the gate can have stopped the run, and the fault names the session and the statement that isn't answered;
+-- at NoMemory there is no memory. No history is full, and no statement needs a thread. `place` is the line, counted
+-- from 0 in the session's own statements
 abbrev pub HaltsAt : (ℕ → ℕ → Bool → Type 0) → ℕ → Statement → RaceFault → EndlessSession → EndlessSession → Type 0
 HaltsAt gate place statement (GateShut session line) old new =
     (session ≡ (known_in old).number) × (line ≡ place) × IsTurnedAway gate session line (known_in old) (known_in new)
@@ -77,8 +77,9 @@ EndsOne gate place statement (Ok answer) old new =
     IsLetIn gate no_state statement place answer (known_in old) (known_in new)
 EndsOne gate place statement (Err fault) old new = HaltsAt gate place statement fault old new
 
--- the answer is noted, and at most one entry: the session's own, at its place in what the session has seen. Whether an
--- entry is noted isn't said. The parameter `place` is the line, counted from 0 in the session's own statements
+-- the statement was answered as `IsLetIn` says, its answer is noted, and at most one entry: the session's own, at its
+-- place in what the session has seen. Whether an entry is noted isn't said. The parameter `place` is the line, counted
+-- from 0 in the session's own statements
 pub record SaysOne (gate : ℕ → ℕ → Bool → Type 0) (place : ℕ) (statement : Statement) (old new : EndlessSession)
     (before after : Said) : Type 0 where
   pub answer : Answer
@@ -151,8 +152,8 @@ pub record IsListed (history : List Entry) (limit : ℕ) (added : Added) : Type 
 abbrev pub seen_by_last : List EndlessSession → List Entry
 seen_by_last sessions = (last_known (map known_in sessions)).seen
 
--- after their threads have ended, the sessions have met. If each entry that was noted is at its place in what the last
--- one has seen, the outcome's history is that from the place `from` on
+-- after their threads have ended, the sessions have met, and the answers are those that were noted. If each entry that
+-- was noted is at its place in what the last session has seen, the outcome's history is that from the place `from` on
 pub record Settles (from : ℕ) (raced : List Raced) (outcome : LongOutcome) : Type 0 where
   pub taken : All (λ one. IsTakenIn (seen_by_last outcome.sessions.items) (known_in one.session)) raced
   pub keeps : AllZip (λ one session. Keeps one.session session) raced outcome.sessions.items

@@ -67,7 +67,8 @@ pub record IsShutIn (gate : ℕ → ℕ → Bool → Type 0) (lists : List (List
   pub found : slice_get lists index ≡ Some statements
   pub shut : IsShutAt gate no_state (newcomer (index + 1)) statements session line
 
--- there is no memory, no thread for one of the lists, or the gate can stop one of the sessions; no history is full
+-- why such a race fails. GateShut: the gate can stop one of the sessions. Of NoMemory nothing is said; ThreadRefused
+-- comes only if there is a list; no history is full
 abbrev pub BlamesRace : (ℕ → ℕ → Bool → Type 0) → List (List Statement) → RaceFault → Type 0
 BlamesRace gate lists (GateShut session line) = IsShutIn gate lists session line
 BlamesRace gate lists (Full session line) = ⊥

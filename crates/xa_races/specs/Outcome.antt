@@ -3,7 +3,7 @@
 -- `room` is `Some` number of entries for a race in one log, and `None` for a race over a store without an end, whose
 -- history has any length.
 --     history_text, answers_text   how a history and the answers are printed
---     AreAsked                     whether statements ask for identifiers in digits
+--     AreAsked                     whether statements ask for identifiers in hexadecimal
 --     outcome_text                 how an outcome is printed
 --     IsHeld                       what a race of runs in one log gives
 --     AreLists                     the statements of the sessions 1 to the last
@@ -51,18 +51,18 @@ entries_text place (entry ∷ entries) = entry_text place entry ++ entries_text 
 abbrev pub history_text : List Entry → List ℕ
 history_text history = codes "HISTORY " ++ decimal (length history) ++ codes "\n" ++ entries_text 0 history
 
--- session, place and reply of an answer; recovered identifiers are in digits if the statement asks for that
+-- session, place and reply of an answer; recovered identifiers are in hexadecimal if the statement asks for that
 abbrev pub placed_text : ℕ → Bool → Answer → List ℕ
 placed_text session convert answer =
     decimal session ++ codes " " ++ decimal answer.place ++ codes " " ++ reply_text convert answer.reply ++ codes "\n"
 
--- a session's answers, each with whether its statement asks for digits, as far as both lists go
+-- a session's answers, each with whether its statement asks for hexadecimal, as far as both lists go
 unfoldable pub session_text : ℕ → List Bool → List Answer → List ℕ
 session_text session (convert ∷ asked) (answer ∷ answers) =
     placed_text session convert answer ++ session_text session asked answers
 session_text session asked answers = []
 
--- whether each statement of each session asks for identifiers in digits, session 1 first
+-- whether each statement of each session asks for identifiers in hexadecimal, session 1 first
 abbrev pub AreAsked : List (List ℕ) → List (List Bool) → Type 0
 AreAsked lines asked = (index : ℕ) → part_at asked index ≡ map converts (statements_of (index + 1) lines)
 

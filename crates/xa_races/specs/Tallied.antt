@@ -26,7 +26,7 @@ texts_of tallies = map (λ one. one.text.items) tallies
 abbrev pub once_if : List ℕ → List ℕ → ℕ
 once_if one other = cond (pointwise nat_eq one other) 1 0
 
--- the tally after this text has come: one more if it is its own
+-- the tally after this text has come: one more if the text is the tally's own, else as many as before
 abbrev pub counted_up : List ℕ → CameTally → CameTally
 counted_up text one = record { text = one.text; came = one.came + once_if text one.text.items }
 
@@ -42,8 +42,9 @@ AreFirst parts true tallies =
     (outcomes : List Outcome) × IsExplored parts outcomes × (texts_of tallies ≡ map (λ one. one.text.items) outcomes)
 AreFirst parts false tallies = IsWide parts.beside (base_of parts) ways_limit × (tallies ≡ [])
 
--- races of the parts, which gave these texts, were counted. If all texts that came were listed before, none is added;
--- if the list was ascending, it still is; if it was empty, it has only what came
+-- so many races of the parts, which gave these texts, were counted: the new list says how often each came. If all texts
+-- that came were listed before, none is added; if the list was ascending, it still is; if it was empty, it has only
+-- what came
 pub record IsCounted (parts : Parts) (runs : ℕ) (came : List (List ℕ)) (old new : List CameTally) : Type 0 where
   pub raced : HaveCome parts runs came
   pub tallied : Tallied came new

@@ -6,7 +6,8 @@ use std::alloc::Global;
 use xa_lines::converts;
 use xa_xid::{NoMemory, Statement};
 
-/// Whether each of these statements asks for identifiers in digits, in order.
+/// For each of these statements, in order, whether it asks for identifiers in digits: `XA RECOVER CONVERT XID` alone
+/// does.
 fn asked_by(alloc: Global, statements: &[Statement]) -> Result<Vec<bool>, NoMemory>
     ensures { IfOk result (λ asked. asked.items ≡ map converts_of statements.now) }
 {
@@ -17,7 +18,7 @@ fn asked_by(alloc: Global, statements: &[Statement]) -> Result<Vec<bool>, NoMemo
     Ok(asked)
 }
 
-/// Tells of each statement of each list whether it asks for identifiers in digits.
+/// Tells of each statement of each list, in order, whether it asks for identifiers in digits.
 ///
 /// May return `NoMemory`. Doesn't wait.
 pub fn asked_of(alloc: Global, lists: &[Vec<Statement>]) -> Result<Vec<Vec<bool>>, NoMemory>

@@ -22,7 +22,7 @@ fn empty_places(alloc: Global, count: u64) -> Result<Vec<Option<Entry>>, NoMemor
     Ok(places)
 }
 
-/// Puts the entries of a session to their places; the first place is `from`.
+/// Puts the entries of a session into `places`, whose first one is the history's place `from`.
 fn place_each(places: &mut Vec<Option<Entry>>, from: u64, added: Vec<Added>)
     ensures count { length places.new.items ≡ length places.old.items }
     ensures only { (list : List EntryValue) (limit : ℕ)
@@ -32,14 +32,14 @@ fn place_each(places: &mut Vec<Option<Entry>>, from: u64, added: Vec<Added>)
 {
     for one in added {
         let Added { place, entry } = one;
-        // Every entry of the race has one of these places. That isn't known here, so another one would be left out.
+        // Every entry of the race has one of these places. That isn't known here; one with another would be left out.
         if place >= from && place - from < places.len() as u64 {
             places[(place - from) as usize] = Some(entry);
         }
     }
 }
 
-/// Puts the entries of all sessions to their places; the first place is `from`.
+/// Puts the entries of all sessions, a list for each, into `places`, whose first one is the history's place `from`.
 fn place_all(places: &mut Vec<Option<Entry>>, from: u64, lists: Vec<Vec<Added>>)
     ensures count { length places.new.items ≡ length places.old.items }
     ensures only { (list : List EntryValue) (limit : ℕ)

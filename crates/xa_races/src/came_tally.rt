@@ -1,6 +1,6 @@
 //! How often an outcome came.
 
-/// How often an outcome came.
+/// An outcome, and how often it came in races.
 #[derive(Drop)]
 pub struct CameTally {
     /// What all lines are answered.

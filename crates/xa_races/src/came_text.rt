@@ -35,14 +35,14 @@ fn push_all(text: &mut Vec<u8>, tallies: &[CameTally]) -> Result<(), NoMemory>
     Ok(())
 }
 
-/// How many of the list came.
+/// How many outcomes of the list came at least once.
 fn count_seen(tallies: &[CameTally]) -> u64
     ensures { result ≡ count_by (λ one. nat_lt 0 one.came) tallies.now }
 {
     tallies.iter().filter(|one| 0 < one.came).count() as u64
 }
 
-/// Appends the outcomes that came, and how many of the list did, without the line's end.
+/// Appends the outcomes that came, then "SEEN " and how many of the list came. The rest of that line is the caller's.
 fn push_seen(text: &mut Vec<u8>, tallies: &[CameTally]) -> Result<(), NoMemory>
     ensures { OnOk result
         (text.new.items ≡ ((text.old.items ++ tallies_text 1 tallies.now) ++ codes "SEEN ")
@@ -65,7 +65,7 @@ fn seen_of_all(alloc: Global, tallies: &[CameTally]) -> Result<Vec<u8>, NoMemory
     Ok(text)
 }
 
-/// Returns what is written if the list has only those that came.
+/// Returns what is written if the list has only the outcomes that came: these, and how many they are.
 fn seen_of_some(alloc: Global, tallies: &[CameTally]) -> Result<Vec<u8>, NoMemory>
     ensures { IfOk result (λ text. text.items ≡ counted_text false tallies.now) }
 {

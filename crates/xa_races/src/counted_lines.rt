@@ -41,7 +41,8 @@ fn all_runs(
 ///
 /// If `renews` is false, the lines have room for `capacity` entries, else for any number. Each session asks `gate`
 /// before each of its lines. Errors: `NoMemory`, `GateShut` and `ThreadRefused`, as the race returns them; `Full` if
-/// the lines add more entries than there is room for. May return `NoMemory`. Waits for its threads.
+/// the lines add more entries than there is room for. After an error the store is dropped. May return `NoMemory`. Waits
+/// for its threads.
 pub fn race_lines<G: Gate + Sync, R: Threads + Wait + Sync>(
     rt: &R,
     alloc: Global,
@@ -62,11 +63,11 @@ pub fn race_lines<G: Gate + Sync, R: Threads + Wait + Sync>(
     ensures cause { IfErr result (EndsBeside (G.may_answer gate.now) capacity renews (base_of opened) lines.now) }
 {
     let Opened { store, sessions } = opened;
-    // Entries that are there already aren't the race's: its history begins here.
+    // Entries that are there already aren't the race's: its history begins here. All sessions have seen them all.
     let from = count_seen(sessions.as_slice());
     let runs = all_runs(alloc, sessions, lines)?;
     let outcome = race_runs(rt, alloc, &store, from, runs, capacity, renews, gate)?;
-    // `race_runs` has compared the history's length with `capacity`; nothing else needs the history.
+    // If `capacity` limits the history, `race_runs` has compared its length; nothing else needs the history.
     let LongOutcome {
         history: _,
         answers,

@@ -49,7 +49,7 @@ fn enter(store: &Arc<EndlessStore>, number: u64) -> Result<EndlessSession, NoMem
     Ok(session)
 }
 
-/// The sessions 1 to `count`, of a new store.
+/// The sessions 1 to `count`, of a new store that has as many. May return `NoMemory`.
 fn enter_all(
     alloc: Global,
     store: &Arc<EndlessStore>,

@@ -63,7 +63,7 @@ fn sessions_of(script: &Script<'_>) -> u64
     greatest_of(script.later.as_slice(), beside)
 }
 
-/// Races the script once, in a store of its own, and writes what all lines are answered into an empty text.
+/// Races the script once, in a store of its own, and appends what all lines are answered to `text`, which is empty.
 ///
 /// The lines before are carried out one after another, then the lines side by side race, each session on its
 /// own thread, then the later lines are carried out one after another. The store's ring has `capacity` rows. If
@@ -102,7 +102,7 @@ fn race_into<G: Gate + Sync, R: Threads + Wait + Sync>(
     Ok(())
 }
 
-/// Races the script once, and returns what all lines are answered. Notes it in the course.
+/// Races the script once, returns what all lines are answered, and notes that text in the course.
 ///
 /// The store's ring has `capacity` rows, in `[1, 1024]`. If `renews` is false, the lines side by side have room for
 /// `capacity` entries, else for any number. Only for these lines `gate` is asked.

@@ -55,8 +55,8 @@ fn statements_by(
     Ok(statements)
 }
 
-/// Returns the statements of each of the sessions 1 to `count`, in order. Lines of greater sessions, and those whose
-/// text isn't read as a statement, are left out.
+/// Returns a list for each of the sessions 1 to `count`: the statements that it gives, in order. Lines of greater
+/// sessions, and those whose text isn't read as a statement, are left out.
 ///
 /// May return `NoMemory`.
 pub fn lists_of(
@@ -77,7 +77,7 @@ pub fn lists_of(
     Ok(lists)
 }
 
-/// Returns the greatest session of the lines, or `least` if that is greater.
+/// Returns the greatest session number of the lines, but at least `least`, also if there are no lines.
 pub fn greatest_of(lines: &[Line<'_>], least: u64) -> u64
     ensures least { least ≤ result }
     ensures within { least ≤ 16 → result ≤ 16 }

@@ -24,7 +24,8 @@ use xa_lines::ScriptFault;
 use xa_store::{Gate, Pass, Run, Store, race};
 use xa_xid::{NoMemory, Statement};
 
-/// The runs of these passes, each with its list of statements. Lists without a pass are left out.
+/// The runs of these passes, each with the list of statements at the same place. Lists without a pass are left out, and
+/// passes without a list.
 fn runs_of(
     alloc: Global,
     passes: Vec<Pass>,
@@ -63,8 +64,9 @@ fn entered(
     let Ok((store, mut passes)) = Store::open(alloc, capacity, greatest.max(1)) else {
         return Err(AllocError);
     };
-    // The session of a store whose script names none has no run.
+    // If the script names no session, the store's only one has no run.
     passes.truncate(greatest as usize);
+    // The lists of the sessions above `greatest` are empty. They have no pass, and are left out.
     let runs = runs_of(alloc, passes, lists)?;
     Ok((store, runs))
 }
@@ -96,7 +98,7 @@ fn hold_in_log<G: Gate + Sync, R: Threads + Wait + Sync>(
         → IsGiven lines (map (λ list. list.items) lists.items)
         → IfErr result (IsCaused (EndsInLog (G.may_answer gate.now) capacity lines)) }
 {
-    // This comes first, since the lists move into the runs.
+    // `asked` is made first, since the lists move into the runs.
     let asked = asked_of(alloc, lists.as_slice())?;
     let both = entered(alloc, greatest, lists, capacity)?;
     let (store, runs) = both;
@@ -139,7 +141,7 @@ fn hold_endless<G: Gate + Sync, R: Threads + Wait + Sync>(
         → IsGiven lines (map (λ list. list.items) lists.items)
         → IfErr result (IsCaused (EndsEndless (G.may_answer gate.now) lines)) }
 {
-    // This comes first, since the lists move into the race.
+    // `asked` is made first, since the lists move into the race.
     let asked = asked_of(alloc, lists.as_slice())?;
     // The lists of the sessions above `greatest` are empty, so these sessions aren't needed.
     lists.truncate(greatest as usize);

@@ -25,7 +25,7 @@ fn rank_in(lines: &[Line<'_>], session: SessionNo) -> usize
         .count()
 }
 
-/// The list at a place; an empty one if there is none.
+/// The list at `index`; an empty one if there are no more than `index` lists.
 fn list_of(answers: &[Vec<Answer>], index: usize) -> &[Answer]
     ensures { result.now ≡ list_at (map (λ list. list.items) answers.now) index }
 {
@@ -60,7 +60,8 @@ fn push_answer(
     text.extend_from_slice(b"\n")
 }
 
-/// Appends the answer at the place `rank` of the session's answers, if there is one.
+/// Appends the answer to a line: of `answers`, those of the line's session, the one at `rank`, from 0. Nothing if there
+/// are no more than `rank`.
 fn push_line(
     alloc: Global,
     text: &mut Vec<u8>,

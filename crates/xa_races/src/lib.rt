@@ -6,14 +6,15 @@
 //! `specs/Outcome.antt`, `src/racing.rt` and `src/holding.rt`.
 //!
 //! `hold_long_race` races lists of statements over a new store without an end, `race_on` those of sessions of a store
-//! that is there. Both return the history that explains the answers, from notes of what each session added, since the
-//! store keeps only the last entries. Read docs/RATTLE.md#races-without-an-end first, then `specs/Long.antt`,
-//! `src/saying.rt`, `src/meeting.rt` and `src/long_racing.rt`.
+//! that is there. Both return the answers, and the history that explains them, `race_on` only from where the race
+//! began. They put it together from notes of what each session added, since the store keeps only the last entries. Read
+//! docs/RATTLE.md#races-without-an-end first, then `specs/Long.antt`, `src/saying.rt`, `src/meeting.rt` and
+//! `src/long_racing.rt`.
 //!
-//! `runs_script` races a script many times, and counts which of its outcomes came. Each race has a store of its own.
-//! The lines before and the later lines are carried out one after another; those side by side race, each session on
-//! its own thread. The law in `src/counted_laws.rt` says that whatever comes is one of the outcomes that `xa_orders`
-//! explores. Read docs/COMMANDS.md#race-statistics, then `specs/CountedRaced.antt`, `specs/Came.antt` and
+//! `runs_script` races a script many times, and counts how often each of its outcomes came. Each race has a store of
+//! its own. The lines before and the later lines are carried out one after another; those side by side race, each
+//! session on its own thread. The law in `src/counted_laws.rt` says that whatever comes is one of the outcomes that
+//! `xa_orders` explores. Read docs/COMMANDS.md#race-statistics, then `specs/CountedRaced.antt`, `specs/Came.antt` and
 //! `src/runs.rt`.
 #![tactic(auto)]
 

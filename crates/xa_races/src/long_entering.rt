@@ -8,7 +8,8 @@ use std::sync::Arc;
 use xa_endless::EndlessStore;
 use xa_xid::{NoMemory, Statement};
 
-/// The run of the session of this number, of a new store that has such a session. May return `NoMemory`.
+/// The run in which the session of this number gives these lines. The store is new, and has such a session. May return
+/// `NoMemory`.
 fn enter(store: &Arc<EndlessStore>, number: u64, lines: Vec<Statement>) -> Result<LongRun, NoMemory>
     ensures { IfOk result (IsNewRun store.now.value number lines.items) }
 {

@@ -21,7 +21,7 @@ use xa_endless::{EndlessSession, EndlessStore};
 use xa_store::{Gate, RaceFault, run_all};
 use xa_xid::{NoMemory, Statement};
 
-/// A racer for a run, with room for what it will be answered and will add.
+/// A racer for a run, with room for an answer and an entry for each of its statements. None of them is there yet.
 fn ready<'g, G: Gate>(alloc: Global, run: LongRun, gate: &'g G) -> Result<Racer<'g, G>, NoMemory>
     ensures { IfOk result
         (λ racer. (racer.session ≡ run.session) × (racer.lines.items ≡ run.lines.items)
@@ -58,7 +58,7 @@ fn line_up<'g, G: Gate>(
     Ok(racers)
 }
 
-/// Returns how many entries the last of some sessions has seen; 0 if there is none.
+/// Returns how many entries the last session of the list has seen; 0 if the list is empty.
 ///
 /// Takes no memory. Doesn't wait.
 pub fn count_seen(sessions: &[EndlessSession]) -> u64
@@ -71,9 +71,10 @@ pub fn count_seen(sessions: &[EndlessSession]) -> u64
     sessions[sessions.len() - 1].seen()
 }
 
-/// Has the sessions meet, after their threads have ended, and puts the history from the place `from` on together.
+/// Has the sessions meet, after their threads have ended, and puts the history from the place `from` on together, of
+/// what they added. Returns it with the answers and the sessions.
 ///
-/// May return `NoMemory`; it is also returned if others added entries there.
+/// May return `NoMemory`; it is also returned if they have seen an entry there that none of them added.
 fn settle(alloc: Global, from: u64, raced: Vec<Raced>) -> Result<LongOutcome, NoMemory>
     requires { AreOfOne (map (λ one. one.session) raced.items) }
     ensures { IfOk result (Settles from raced.items) }
@@ -95,18 +96,19 @@ fn settle(alloc: Global, from: u64, raced: Vec<Raced>) -> Result<LongOutcome, No
     })
 }
 
-/// How many runs have a statement. A gate at which sessions wait for each other waits for no others.
+/// How many runs have a statement. A run without one never comes to the gate: others would wait for it there in vain.
 fn count_speakers(runs: &[LongRun]) -> u64 {
     runs.iter().filter(|run| !run.lines.is_empty()).count() as u64
 }
 
-/// Runs each of the runs on a thread of its own, and returns all answers and the entries that were added.
+/// Runs each of the runs on a thread of its own. Returns all answers, the entries that were added, and the sessions.
 ///
-/// The runs are of sessions of this store. `from` is how many entries its history has; nobody else may add to it
-/// meanwhile. Each run executes its statements in order, and asks the gate before each. Errors: `GateShut` if the gate
-/// stopped a run, `NoMemory` if an allocation failed, `ThreadRefused` if a run's thread couldn't be started. A refused
-/// thread, or memory that was missing outside of the runs, comes first; else the fault of the first run in the list
-/// that has one is returned. A history is never full. After an error the sessions are dropped. The other runs went on.
+/// The runs are of sessions of this store. `from` is how many entries the store's history has; nobody else may add to
+/// it meanwhile. Each run executes its statements in order, and asks the gate before each. Errors: `GateShut` if the
+/// gate stopped a run, `NoMemory` if an allocation failed, `ThreadRefused` if a run's thread couldn't be started. A
+/// refused thread, or memory that was missing to start the runs or to list what they return, comes first; then the
+/// fault of the first run in the list that has one; then memory that is missing to put the outcome together. `Full` is
+/// never returned. A fault of one run doesn't stop the others. After an error all sessions are dropped.
 /// May return `NoMemory`. Waits for its threads, which may wait: no number of tries is promised.
 /// Own rule: docs/RATTLE.md#races-without-an-end.
 pub fn race_on<G: Gate + Sync, R: Threads + Wait + Sync>(
@@ -131,7 +133,7 @@ pub fn race_on<G: Gate + Sync, R: Threads + Wait + Sync>(
     ensures fault { IfErr result (BlamesLong (G.may_answer gate.now) runs.items) }
 {
     // `store` is only for the contract: the sessions have it.
-    // The gate is told before any thread starts, as sessions may wait there for each other.
+    // The gate is told before any thread starts, as sessions may wait there for as many as are announced.
     gate.announce(count_speakers(runs.as_slice()));
     let racers = line_up(alloc, runs, gate)?;
     let raced = run_all(rt, alloc, racers)?;
@@ -144,9 +146,9 @@ pub fn race_on<G: Gate + Sync, R: Threads + Wait + Sync>(
 
 /// Races lists of statements over a new store without an end, each list by a session of its own on a thread of its own.
 ///
-/// The first list is that of session 1; there are at most 16. The store's ring has `rows` rows, in `[1, 65536]`: fewer
-/// than a race adds are enough, and a session that is behind gets over it by itself. Places count from the store's
-/// first entry, and the history that is returned has all entries. Errors and gate: as for `race_on`.
+/// The first list is that of session 1; there are at most 16. The store's ring has `rows` rows, in `[1, 65536]`. Fewer
+/// rows than the race adds entries are enough: a session that is behind goes on by itself. Places count from the
+/// store's first entry, and the history that is returned has all entries. Errors and gate: as for `race_on`.
 /// After an error everything is dropped.
 /// May return `NoMemory`. Waits for its threads, which may wait: no number of tries is promised.
 /// Own rule: docs/RATTLE.md#races-without-an-end.
@@ -172,5 +174,6 @@ pub fn hold_long_race<G: Gate + Sync, R: Threads + Wait + Sync>(
         return Err(RaceFault::NoMemory);
     };
     let runs = enter_all(alloc, &store, lists)?;
+    // The history of a new store has 0 entries.
     race_on(rt, alloc, &store, 0, runs, gate)
 }

@@ -9,8 +9,8 @@ ghost use Rattle.xa_races.specs.Long.{known_in, AreOfOne, Keeps, HoldsAll};
 
 use xa_endless::EndlessSession;
 
-/// Each of the others meets the last, which has then seen what each of them has. If it had seen all of that before, it
-/// sees no more, and its entries of each session's number are exactly that session's own.
+/// Each of the others meets the last, which has then seen what each of them has. If the last had seen all of that
+/// before, it sees no more, and what it has seen has of each of the others exactly that session's own entries.
 fn meet_each(others: &mut Vec<EndlessSession>, last: &mut EndlessSession)
     requires { All (λ session. log_of session.member.pass ≡ log_of last.old.member.pass) others.old.items }
     ensures others { AllZip (λ old new. (new.store.value ≡ old.store.value)
@@ -46,9 +46,9 @@ fn tell_each(others: &mut Vec<EndlessSession>, last: &mut EndlessSession)
 
 /// Has all sessions meet. What the last of them has seen then is the history that all of them have.
 ///
-/// The others meet the last one twice. After the first time it has seen the most, so the second adds nothing to that,
-/// and what is known of the others' entries is known of one and the same history. Then it tells the others what it has
-/// seen.
+/// The others meet the last one twice. After the first time the last has seen the most. So the second time adds nothing
+/// to what it has seen, and what is known of the others' entries is known of one and the same history. Then the last
+/// tells the others what it has seen.
 pub(crate) fn gather(sessions: &mut Vec<EndlessSession>)
     requires { AreOfOne sessions.old.items }
     ensures keeps { AllZip Keeps sessions.old.items sessions.new.items }
@@ -65,6 +65,6 @@ pub(crate) fn gather(sessions: &mut Vec<EndlessSession>)
     meet_each(sessions, &mut last);
     meet_each(sessions, &mut last);
     tell_each(sessions, &mut last);
-    // It was taken from there, so there is room for it.
+    // The last was taken out of this list, so there is room for it at its old place.
     sessions.push_reserved(last);
 }

@@ -23,7 +23,8 @@ pub(crate) struct Parts {
     pub(crate) added: Vec<Vec<Added>>,
 }
 
-/// Splits what the threads returned. Faults are left out: `first_fault` was asked for them before.
+/// Splits what the threads returned into three lists in the same order. Faults are left out: the caller has seen by
+/// `first_fault` that there are none.
 pub(crate) fn part(alloc: Global, raced: Vec<Raced>) -> Result<Parts, NoMemory>
     ensures sessions { IfOk result (λ parts. parts.sessions.items ≡ map (λ one. one.session) raced.items) }
     ensures answers { IfOk result (λ parts. parts.answers.items ≡ map (λ one. one.said.answers) raced.items) }

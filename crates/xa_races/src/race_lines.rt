@@ -36,8 +36,8 @@ fn no_lines(alloc: Global) -> Result<RaceScript, NoMemory>
     })
 }
 
-/// Appends what is written for the faulty line of this number. `place` is the byte of its statement at which that goes
-/// wrong, from 0; it is 0 if the line has no statement.
+/// Appends what is written for the faulty line of this number. `place` is the byte of its statement at which reading
+/// fails, from 0; it is 0 if the line names no session.
 fn push_fault(text: &mut Vec<u8>, number: u64, place: u64) -> Result<(), NoMemory>
     ensures { OnOk result (text.new.items ≡ text.old.items ++ fault_text number (Some place)) }
 {
@@ -64,7 +64,8 @@ fn push_statement(
     Ok(())
 }
 
-/// Takes the line of this number, which names a session: its statement, or what is written for its fault.
+/// Takes the line of this number, which names a session and has this text after it. Its statement goes to the session's
+/// list; if the text isn't read as one, what is written for that goes to the faults.
 fn take_given(
     given: &mut RaceScript,
     number: u64,
@@ -73,7 +74,7 @@ fn take_given(
 ) -> Result<(), NoMemory>
     ensures { OnOk result (TakesLine number (Given session text.now) given.old given.new) }
 {
-    // A line whose statement is faulty counts, too, but such a script isn't raced.
+    // The session of a faulty line may become the greatest, too. A script with such a line isn't raced.
     given.greatest = given.greatest.max(session.get());
     match read_statement(text) {
         Ok(statement) => push_statement(&mut given.lists, session, statement),

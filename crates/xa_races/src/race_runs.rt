@@ -14,7 +14,7 @@ use xa_endless::EndlessStore;
 use xa_lines::ScriptFault;
 use xa_store::{Gate, RaceFault};
 
-/// The fault that is returned for a race's fault.
+/// The fault that is returned for a race's fault. Which session and line `GateShut` and `Full` name is left out.
 fn script_fault(raced: RaceFault) -> ScriptFault
     ensures { result ≡ script_fault_of raced }
 {
@@ -26,7 +26,8 @@ fn script_fault(raced: RaceFault) -> ScriptFault
     }
 }
 
-/// Holds a race over a store whose history has `from` entries. `runs` and `gate` are as for `race_on`.
+/// Holds a race over a store whose history has `from` entries. `runs` and `gate` are as for `race_on`. If `renews` is
+/// true, the race may add any number of entries, else at most `capacity`.
 ///
 /// Errors: `Full` if `renews` is false and the race adds more than `capacity` entries; `NoMemory`, `GateShut` and
 /// `ThreadRefused` as `race_on` returns them.

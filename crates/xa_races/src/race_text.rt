@@ -74,14 +74,15 @@ fn push_session(
 ) -> Result<(), NoMemory>
     ensures { OnOk result (text.new.items ≡ text.old.items ++ session_text session asked.now answers.now) }
 {
-    // Each statement has an answer, so the lists are equally long. That isn't known here.
+    // Each statement has an answer, so the lists are equally long. That isn't known here; what one has more would be
+    // left out.
     for index in 0..asked.len().min(answers.len()) {
         push_answer(alloc, text, session, asked[index], &answers[index])?;
     }
     Ok(())
 }
 
-/// The list at a place; an empty one if there is none.
+/// The list at `index`; an empty one if there are no more than `index` lists.
 fn list_at(asked: &[Vec<bool>], index: usize) -> &[bool]
     ensures { result.now ≡ part_at (map (λ list. list.items) asked.now) index }
 {

@@ -35,17 +35,17 @@ pub(crate) struct Racer<'g, G> {
 pub struct Raced {
     pub(crate) session: EndlessSession,
     pub(crate) said: Said,
-    /// Why it stopped before its last statement, if it did.
+    /// The fault for which one of its statements wasn't answered. None if all were.
     pub(crate) fault: Option<RaceFault>,
 }
 
-/// How often a session tries to leave a checkpoint before it gives up. Most sessions have one for a few steps only, so
-/// mostly one is free long before that.
+/// How often a session calls `leave_checkpoint` before it gives up. Most sessions have a checkpoint for a few steps
+/// only, so mostly one can be had long before that.
 const TURNS: u64 = 1_000_000;
 
-/// Leaves a checkpoint at the end of what the session has seen; gives up after `TURNS` tries.
+/// Leaves a checkpoint that has replayed at least as much as the session; gives up after `TURNS` calls.
 ///
-/// A session tends checkpoints only while it answers. Without this last one, a session that is behind might find none
+/// A session tends checkpoints only after its answers. Without this last one, a session that is behind might find none
 /// to go on from.
 #[tactic(auto, using(crate::proofs::Statements::rests_itself, crate::proofs::Statements::rests_more))]
 fn leave_checkpoint(session: &mut EndlessSession)
@@ -53,7 +53,7 @@ fn leave_checkpoint(session: &mut EndlessSession)
     ensures rests { AddsNothing (known_of session.old.member.pass) (known_of session.new.member.pass) }
 {
     for _ in 0..TURNS {
-        // It fails while others have all checkpoints, and if memory is refused.
+        // The call returns false while others use the checkpoints, and if memory is refused.
         if session.leave_checkpoint() {
             return;
         }
@@ -77,7 +77,7 @@ impl<'g, G: Gate> Task for Racer<'g, G> {
     }
 
     /// Has the session say its statements, and returns it with what it was answered and has added. A fault is returned
-    /// beside these, so that each session comes back.
+    /// beside these, not as an error, so that each session comes back.
     fn work<R: Wait>(self, rt: &R) -> Result<Raced, RaceFault> {
         let Racer {
             mut session,

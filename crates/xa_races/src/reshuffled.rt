@@ -38,12 +38,13 @@ impl ReshuffledGate {
     fn turns(&self, session: SessionNo, line: u64) -> u32
         ensures { result < 64 }
     {
-        // When the race that runs was announced, `announce` counted the seed on to that of the next one.
+        // When the race that runs was announced, `announce` counted the seed on to that of the next one. At 2^64 both
+        // wrap around.
         let seed = self.seed.load(Ordering::SeqCst).wrapping_sub(1);
-        // Each session has a stream of its own, from which the word at its line is taken.
+        // Each session has a stream of its own, of which each of its lines has one word, in order.
         let mut stream = Pcg32::new(seed, session.get());
         stream.advance(line);
-        // As at `ShuffledGate`.
+        // As at `ShuffledGate`. 64 divides 2^32, so each number of turns is equally likely.
         stream.next_word() % 64
     }
 }
@@ -60,7 +61,7 @@ impl Gate for ReshuffledGate {
     }
 
     fn enter(&self, session: SessionNo, line: u64) -> bool {
-        // Only the first line waits here for the other sessions.
+        // Only the first line waits here for the other sessions. `TogetherGate` lets every session in.
         let opened = self.together.enter(session, line);
         // The session then steps aside for as many turns as the seed draws for this line.
         for _ in 0..self.turns(session, line) {

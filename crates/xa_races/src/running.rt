@@ -33,15 +33,17 @@ fn write_came<O: PieceWriter>(writer: &mut O, came: &Came) -> Result<Ended, Scri
 }
 
 /// Races a script `runs` times, and writes each outcome that came, with its number among all outcomes and how
-/// often it came; or only the script's faulty lines.
+/// often it came, and then how many of all outcomes came; or only the script's faulty lines. Returns `Faulty` if a line
+/// is faulty, else `Done`.
 ///
 /// The script is one for `xa_orders::explore_script`, and is read whole. `runs` is in `[1, 1000000]`. Each
 /// race has a store of its own. The lines before are carried out one after another, then the lines side by
 /// side race, each session on its own thread, then the later lines are carried out one after another. The log
 /// has room for `capacity` entries, in `[1, 1024]`, of the lines side by side; if `renews` is true, the log
-/// has no end, and its ring has as many rows. All races ask the same `gate`. If exploring finds more than 100,000 ways,
-/// outcomes have the numbers of the ascending list of those that came. Nothing is written before all races
-/// have ended. The writer isn't flushed.
+/// has no end, and its ring has as many rows. All races ask the same `gate`, before the lines side by side alone. If
+/// more than 100,000 ways that have carried out equally many lines are known to differ, not all outcomes are known:
+/// those that came are then numbered in ascending order, and only how many came is written. Nothing is written before
+/// all races have ended. The writer isn't flushed.
 /// Errors: `Read` if a read failed, or the script needs more than 2,097,152 reads; `TooLong` if the script
 /// has more than 1,048,576 bytes; `NoMemory` if an allocation failed; `Full`, only if `renews` is false,
 /// `GateShut` and `ThreadRefused` as the first race with a fault returns them; `Write` if a write failed or

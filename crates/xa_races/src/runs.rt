@@ -27,8 +27,8 @@ use xa_orders::{Ended, Outcome, Script, explore, read_script};
 use xa_store::Gate;
 use xa_xid::{Key, NoMemory};
 
-/// The limit for exploring the list of all outcomes: how many ways of one length may be known to differ. It is the
-/// program's usual limit for `explore`.
+/// The limit for exploring the list of all outcomes: how many ways that have carried out equally many lines may at most
+/// be known to differ. It is the program's usual limit for `explore`.
 const WAYS: usize = 100_000;
 
 /// How races of a script ended, and what is written for them.
@@ -41,7 +41,8 @@ pub struct Came {
 }
 
 /// Races the script `runs` times, and counts each outcome in `tallies` as it comes. `course`, empty at first, notes
-/// the same races. `capacity`, `renews` and `gate` are those of `runs_script`. Stops at the first race with a fault.
+/// the same races. `capacity`, `renews` and `gate` are those of `runs_script`. Stops at the first race with a fault,
+/// which is returned.
 fn count_runs<G: Gate + Sync, R: Threads + Wait + Sync>(
     rt: &R,
     alloc: Global,
@@ -82,7 +83,8 @@ fn copy_keys(alloc: Global, keys: &[Key]) -> Result<Vec<Key>, NoMemory> {
     Ok(copy)
 }
 
-/// All outcomes of the script; or None if more than `WAYS` ways of one length are known to differ.
+/// All outcomes of the script; or None if more than `WAYS` ways that have carried out equally many lines are known to
+/// differ.
 fn outcomes_of(alloc: Global, script: &Script<'_>) -> Result<Option<Vec<Outcome>>, NoMemory>
     ensures explored { IfOk result (λ found. IfSome found
         (λ outcomes. IsExplored (parts_of (read_kept script.now)) outcomes.items)) }
@@ -102,8 +104,8 @@ fn outcomes_of(alloc: Global, script: &Script<'_>) -> Result<Option<Vec<Outcome>
     )
 }
 
-/// The list that the outcomes of races are counted in, none of which came yet, and whether it has all outcomes of the
-/// script. If there are too many ways to know them, the list is empty, and the second part is false.
+/// The list in which the outcomes of races are counted, with a count of 0 each, and whether it has all outcomes of the
+/// script. If there are too many ways to know them (`outcomes_of`), the list is empty, and the second part is false.
 fn first_tallies(alloc: Global, script: &Script<'_>) -> Result<(Vec<CameTally>, bool), NoMemory>
     ensures none { IfOk result (λ first. All (λ one. one.came ≡ 0) first.0.items) }
     ensures first { IfOk result (λ first. AreFirst (parts_of (read_kept script.now)) first.1 first.0.items) }
@@ -118,7 +120,7 @@ fn first_tallies(alloc: Global, script: &Script<'_>) -> Result<(Vec<CameTally>, 
 }
 
 /// Races the script `runs` times, and returns what is written for these races. `course`, empty at first, notes them.
-/// `capacity`, `renews` and `gate` are those of `runs_script`. Stops at the first race with a fault.
+/// `capacity`, `renews` and `gate` are those of `runs_script`. Stops at the first race with a fault, which is returned.
 fn came_of<G: Gate + Sync, R: Threads + Wait + Sync>(
     rt: &R,
     alloc: Global,
@@ -157,7 +159,7 @@ fn came_of<G: Gate + Sync, R: Threads + Wait + Sync>(
     Ok(text)
 }
 
-/// What is read of a script. Each line of its parts has a statement.
+/// What `read_script` reads of a script. The contract adds that each line of its three parts has a statement.
 fn read_well(alloc: Global, text: &[u8]) -> Result<Script<'_>, NoMemory>
     ensures read { IfOk result (λ script. read_kept script ≡ script_read text.now) }
     ensures well { IfOk result (λ script. AreRead (parts_of (read_kept script))) }

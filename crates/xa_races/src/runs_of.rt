@@ -7,7 +7,8 @@ use std::alloc::Global;
 use xa_endless::EndlessSession;
 use xa_xid::{NoMemory, Statement};
 
-/// Returns the runs of these sessions, each with its list of statements. Lists without a session are left out.
+/// Returns the runs of these sessions, each with the list of statements at the same place. Lists without a session are
+/// left out, and sessions without a list.
 ///
 /// May return `NoMemory`.
 pub fn runs_of(

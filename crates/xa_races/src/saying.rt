@@ -42,7 +42,8 @@ fn answer_one<G: Gate, R: Wait>(
     }
 }
 
-/// Has the session say its statement at `line`, and notes what it was answered and what it added.
+/// Has the session say its statement at `line`, as `answer_one` does, and notes in `said` its answer and, if it was
+/// logged, its entry.
 ///
 /// Errors: those of `answer_one`; nothing is noted then.
 fn say_one<G: Gate, R: Wait>(
@@ -75,9 +76,11 @@ fn say_one<G: Gate, R: Wait>(
     Ok(())
 }
 
-/// Has a session say all of its statements, in order.
+/// Has a session say all of its statements, in order, and notes its answers and entries in `said`, which is empty at
+/// first and has room for all.
 ///
-/// Errors, at the first statement that isn't answered: `GateShut` if the gate stops the run there, `NoMemory`.
+/// Errors, at the first statement that isn't answered: `GateShut` if the gate stops the run there, `NoMemory`. What was
+/// noted of the statements before it stays.
 fn say_all<G: Gate, R: Wait>(
     rt: &R,
     session: &mut EndlessSession,
@@ -103,7 +106,8 @@ fn say_all<G: Gate, R: Wait>(
     Ok(())
 }
 
-/// Has a session say all of its statements, in order. Returns the fault at which it stopped, if it did.
+/// Has a session say all of its statements, in order, as `say_all` does. Returns the fault at which it stopped, or None
+/// if all were answered.
 pub(crate) fn say_out<G: Gate, R: Wait>(
     rt: &R,
     session: &mut EndlessSession,

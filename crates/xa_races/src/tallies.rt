@@ -13,7 +13,7 @@ use std::cmp::Ordering;
 use xa_orders::Outcome;
 use xa_xid::NoMemory;
 
-/// Returns the outcomes of a list, none of which came yet.
+/// Returns a tally with a count of 0 for each outcome of a list, in order.
 ///
 /// May return `NoMemory`.
 pub fn tallies_of(alloc: Global, outcomes: Vec<Outcome>) -> Result<Vec<CameTally>, NoMemory>
@@ -49,7 +49,8 @@ fn is_listed(tallies: &[CameTally], text: &[u8]) -> bool
     false
 }
 
-/// Whether one text comes before the other.
+/// Whether `one` comes before `other`: by the first byte that differs, or as a shorter beginning. False if they are the
+/// same.
 fn comes_before(one: &[u8], other: &[u8]) -> bool
     ensures before { result ≡ true → ComesBefore one.now other.now }
     ensures behind { result ≡ false → one.now ≢ other.now → ComesBefore other.now one.now }
@@ -61,7 +62,7 @@ fn comes_before(one: &[u8], other: &[u8]) -> bool
     }
 }
 
-/// How many of the list, from the first on, come before this text.
+/// The place of the first of the list whose text doesn't come before this one; the list's length if all do.
 fn place_of(tallies: &[CameTally], text: &[u8]) -> usize
     ensures within { result ≤ length tallies.now }
     ensures before { All (λ one. ComesBefore one.text.items text.now) (take result tallies.now) }
@@ -72,7 +73,7 @@ fn place_of(tallies: &[CameTally], text: &[u8]) -> usize
         → ComesBefore text.now one.text.items }
 {
     let mut place = 0;
-    // In a list that grows the texts ascend, so the place is behind all that come before this one.
+    // In a list that grows the texts ascend, so all texts that come before this one are before the place.
     while place < tallies.len() && comes_before(tallies[place].text.as_slice(), text) {
         place += 1;
     }
@@ -112,14 +113,14 @@ fn once_same(one: &[u8], other: &[u8]) -> u64
     if is_same(one, other) { 1 } else { 0 }
 }
 
-/// Counts the text once more, in each tally of it; the others stay.
+/// Adds 1 to the count of each tally with this text; the others stay.
 fn count_up(tallies: &mut Vec<CameTally>, text: &[u8])
     requires { All (λ one. one.came ≤ 1000000) tallies.old.items }
     ensures { tallies.new.items ≡ map (counted_up text.now) tallies.old.items }
 {
     for place in 0..tallies.len() {
         let more = once_same(text, tallies[place].text.as_slice());
-        // It was at most 1,000,000, so it doesn't overflow.
+        // It was at most 1,000,000, the most races of a script, so it doesn't overflow.
         tallies[place].came += more;
     }
 }

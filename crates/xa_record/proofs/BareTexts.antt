@@ -27,7 +27,7 @@ use Rattle.xa_record.proofs.TextsTold.{text-tells}
 first_of : (byte : ℕ) (text : List ℕ) → HasNoFeed (byte ∷ text) → not (byte == 10) ≡ true
 first_of byte text free = both_first (not (byte == 10)) (list_all (λ b. not (b == 10)) text) free
 
--- the bytes after the first have no line feed either
+-- if a text has no line feed, the bytes after its first have none either
 rest_of : (byte : ℕ) (text : List ℕ) → HasNoFeed (byte ∷ text) → HasNoFeed text
 rest_of byte text free = both_second (not (byte == 10)) (list_all (λ b. not (b == 10)) text) free
 
@@ -127,7 +127,8 @@ either : (b : Bool) (one two : LineSaid) → CallsBare one → CallsBare two →
 either true one two first second = first
 either false one two first second = second
 
--- what is said only if no text follows calls for a bare text or for none, if what is said does
+-- if what a line says calls for a bare text or for none, it still does where it is said only if no text follows
+-- (`alone`)
 alone_bare : (said : LineSaid) (text : List ℕ) → CallsBare said → CallsBare (alone said text)
 alone_bare said [] is = is
 alone_bare said (byte ∷ text) is = tt

@@ -18,7 +18,7 @@ use Rattle.xa_record.specs.Reading.{NumberedEvent}
 use Rattle.xa_record.specs.VerdictText.{with_call, effect_text, order_text}
 use Rattle.xa_record.proofs.Places.{text_at-kept}
 
--- the text of a session's last call, by its place
+-- if a session's last call has this place, the text that is kept for the session is the text of the call there
 pub text_of_last : (all : List NumberedEvent) (places : List (Option ℕ)) (session : ℕ) (place : Option ℕ)
     → slice_get places session ≡ Some place
     → slice_get (map (text_at all) places) session ≡ Some (text_at all place)
@@ -61,7 +61,8 @@ unfolding order_text
 moved_whole whole out calls numbered moves index past is =
     sym (is ∙ ap (λ m. out ++ order_text calls numbered m) (drop_all index moves past) ∙ append-nil out)
 
--- events from a place on, as the program keeps them: the one there, then those from the next place on
+-- the program's events from a place on, in the definitions' form, are the one there and then those from the next place
+-- on
 mapped : (numbered : List NumberedRead) (place : ℕ) (one : NumberedRead) → place < length numbered
     → one ≡ get_or numbered place one
     → drop place (map numbered_kept numbered) ≡ numbered_kept one ∷ drop (place + 1) (map numbered_kept numbered)
@@ -79,7 +80,8 @@ calls-followed all places place (Returns session shown) at = refl
 calls-followed all places place (ReturnsUnknown session) at = refl
 calls-followed all places place (Leaves session) at = refl
 
--- the loop over moves, in the program's form of the list: one event more was gone over
+-- the loop over moves, in the program's form of the list: after a move over the event at this place, whose call's
+-- place is noted, the lines left to write are those of the moves left
 pub moved_event_at : (out : List ℕ) (old new : LastCalls) (numbered : List NumberedRead) (place : ℕ)
     (one : NumberedRead) (moves : List Move)
     → place < length numbered → one ≡ get_or numbered place one

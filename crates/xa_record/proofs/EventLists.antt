@@ -12,7 +12,7 @@ use Rattle.xa_record.specs.Allowances.{no_kinds, kinds_after}
 use Rattle.xa_record.specs.Events.{IsEvent, AreEvents, AreEventsAfter, IsCallOf, AreCalls}
 use Rattle.xa_record.specs.Kept.{told_kept, numbered_kept}
 
--- the kinds that sessions called for last, once these events are seen
+-- the kinds of statements that sessions called for last, once these events are seen
 unfoldable pub kinds_through : List Event → List (Option StatementKind) → List (Option StatementKind)
 kinds_through [] kinds = kinds
 kinds_through (event ∷ events) kinds = kinds_through events (kinds_after event kinds)
@@ -24,7 +24,7 @@ unfolding kinds_through
 kinds_through-more [] event kinds = refl
 kinds_through-more (first ∷ events) event kinds = kinds_through-more events event (kinds_after first kinds)
 
--- before the loop over lines no events are right for no lines
+-- before the loop over lines: an empty list of events is right for an empty list of lines
 pub AreEvents-none : (allowances : List Allowance) (numbered : List NumberedRead) (events : List Event) → events ≡ []
     → AreEvents allowances (map numbered_kept (take 0 numbered)) events
 unfolding AreEventsAfter
@@ -38,7 +38,8 @@ pub kinds_through-none : (events : List Event) (kinds : List (Option StatementKi
 unfolding kinds_through
 kinds_through-none events kinds none is = is ∙ sym (ap (λ (l : List Event). kinds_through l no_kinds) none)
 
--- the loop's step: one line and one event more, right for the kinds that sessions called for last
+-- if events are right for lines, and an event for one line more, by the kinds that sessions called for last before it,
+-- the events with that one are right for the lines with that one
 pub AreEventsAfter-more : (allowances : List Allowance) (kinds : List (Option StatementKind))
     (numbered : List NumberedEvent) (events : List Event) (one : NumberedEvent)
     (event : Event) → AreEventsAfter allowances kinds numbered events
@@ -89,7 +90,8 @@ pub map-push : (list : List NumberedRead) (one : NumberedRead)
 map-push [] one = refl
 map-push (first ∷ list) one = ap (λ l. numbered_kept first ∷ l) (map-push list one)
 
--- the loop over lines: the event of one more is right for it
+-- the loop over lines: if an event is right for the next line, the events with that one are right for the lines up to
+-- it
 pub AreEvents-next : (allowances : List Allowance) (numbered : List NumberedRead) (events longer : List Event)
     (index : ℕ) (one : NumberedRead) (event : Event)
     (kinds : List (Option StatementKind)) → index < length numbered → one ≡ get_or numbered index one
@@ -108,7 +110,8 @@ AreEvents-next allowances numbered events longer index one event kinds within at
     subst P (sym upto) (subst Q (sym parts) (AreEventsAfter-more allowances no_kinds
     (map numbered_kept (take index numbered)) events (numbered_kept one) event are (subst R asked is)))
 
--- the kinds that sessions called for last, once one event more is seen
+-- the kinds that sessions called for last, changed by one event more, are those that they called for last once it is
+-- seen
 pub kinds_through-next : (events longer : List Event) (event : Event) (kinds next : List (Option StatementKind))
     → kinds ≡ kinds_through events no_kinds
     → next ≡ kinds_after event kinds → longer ≡ events ++ event ∷ [] → next ≡ kinds_through longer no_kinds

@@ -60,14 +60,15 @@ less-both m n = by (nat_lt m n) refl
 zero-less : (n : ℕ) → nat_lt 0 (suc n) ≡ true
 zero-less n = grind (arith, nat_tests)
 
--- how many rows are to come after several lines and one more, which counts as a row if some were
+-- the rows to come after lines and one more are those to come after the lines, as changed by that one (`due_after`)
 due-append : (due : ℕ) (lines : List (List ℕ)) (line : List ℕ)
     → rows_due due (lines ++ line ∷ []) ≡ due_after (rows_due due lines) line
 unfolding rows_due
 due-append due [] line = refl
 due-append due (one ∷ lines) line = due-append (due_after due one) lines line
 
--- what lines say (rows left out, of which `due` come first) after one line more
+-- with one line more, lines say what they said (rows left out, of which `due` come first), and then what that line
+-- says, unless it is in the place of a row
 said-append : (due : ℕ) (lines : List (List ℕ)) (line : List ℕ)
     → said_by due (lines ++ line ∷ []) ≡ said_by due lines ++ said_alone (rows_due due lines) line
 unfolding rows_due said_by
@@ -77,7 +78,7 @@ said-append due (one ∷ lines) line =
     ∙ sym (append_assoc (said_alone due one) (said_by (due_after due one) lines)
     (said_alone (rows_due (due_after due one) lines) line))
 
--- a session's presence after two lists of lines: begin the second with what the first leaves
+-- a session's presence after two lists of lines is the one after the second, begun with what the first leaves
 presence-append : (session : ℕ) (presence : Presence) (xs ys : List LineSaid)
     → presence_said_from session presence (xs ++ ys)
     ≡ presence_said_from session (presence_said_from session presence xs) ys
@@ -95,7 +96,7 @@ known-first : Known (replicate 17 Idle) []
 unfolding presence_said_from
 known-first session within = replicated 17 session Idle within
 
--- what can't happen leaves the session as it was, also if it is counted
+-- an event that can't happen leaves the session's presence as it was, even if the event is counted
 then-same : (presence : Presence) (told : Told) (fault : LineFault) → cause_of (Some presence) told ≡ Some fault
     → presence_then presence told ≡ presence
 then-same Idle (Calls session text) fault is = absurd (none-some _ is)
@@ -144,7 +145,7 @@ known-quiet presence said one none known session below =
     ∙ ap Some (sym (presence-append session Idle said (one ∷ [])
     ∙ ap (presence_by session (presence_said session said)) none))
 
--- the cause is the same, by what is kept and by what was said
+-- the cause why an event can't happen is the same by what is kept of sessions as by what was said
 cause-known : (presence : List Presence) (said : List LineSaid) (told : Told) → session_of told < 17
     → Known presence said → cause_of (slice_get presence (session_of told)) told ≡ cause_said said told
 cause-known presence said told within known =
@@ -167,7 +168,8 @@ other-then said after told session follows is =
     follows session
     ∙ ap (λ (b : Bool). if b then presence_then (presence_said session said) told else presence_said session said) is
 
--- an event that can happen: what is kept is changed as what was said is
+-- if an event can happen, what is kept of sessions, with its session's presence changed, is what was said up to that
+-- event (`Known`)
 known-next : (presence : List Presence) (said after : List LineSaid) (told : Told) → session_of told < 17
     → Known presence said → Follows said after told
     → cause_of (slice_get presence (session_of told)) told ≡ None
@@ -192,7 +194,7 @@ known-next presence said after told within known follows none session below = by
         (λ same. apart_test (session_of told) session is (sym same))
         ∙ known session below ∙ ap Some (sym (other-then said after told session follows is))
 
--- an event that can't happen: what is kept stays, and so does what was said
+-- if an event can't happen, what is kept of sessions, unchanged, is what was said up to that event (`Known`)
 known-blamed : (presence : List Presence) (said after : List LineSaid) (told : Told) (fault : LineFault)
     → session_of told < 17 → Known presence said → Follows said after told
     → cause_of (slice_get presence (session_of told)) told ≡ Some fault
@@ -227,12 +229,12 @@ record Goes (notes : Notes) (faults : List ℕ) (said : List LineSaid) : Type 0 
   known : Known presence said
   is : notes ≡ made list faults presence
 
--- the text may be replaced by an equal one
+-- in `Goes` the text that is written may be replaced by an equal one
 goes-as : (notes : Notes) (one two : List ℕ) (said : List LineSaid) → one ≡ two → Goes notes one said
     → Goes notes two said
 goes-as notes one two said same goes = subst (λ (f : List ℕ). Goes notes f said) same goes
 
--- a step that writes nothing goes on with the text as it was
+-- notes that await no row and keep what was said of sessions go on (`Goes`) with nothing added to their text
 goes-none : (list : List NumberedEvent) (faults : List ℕ) (presence : List Presence) (said : List LineSaid)
     → Known presence said → Goes (made list faults presence) (faults ++ []) said
 goes-none list faults presence said known =
@@ -243,7 +245,7 @@ goes-none list faults presence said known =
       is = ap (λ (f : List ℕ). made list f presence) (sym (append-nil faults));
     }
 
--- an event, with `o` as its fault if it has one: it writes that fault's text
+-- noting an event writes the text of its fault, if it has one (`o`), and then `Goes` holds
 noted-goes : (o : Option LineFault) (list : List NumberedEvent) (faults : List ℕ) (presence : List Presence)
     (number : ℕ) (told : Told) (said after : List LineSaid)
     → cause_of (slice_get presence (session_of told)) told ≡ o → session_of told < 17
@@ -262,7 +264,8 @@ noted-goes (Some fault) list faults presence number told said after is within kn
       is = refl;
     }
 
--- an event that is tested as a call's text may be: its own fault is written, or else that of the text
+-- noting an event, and testing the text that it calls for, writes the event's own fault (`o`), or else that of the
+-- text (`called`), if there is one, and then `Goes` holds
 tested-goes : (o called : Option LineFault) (list : List NumberedEvent) (faults : List ℕ) (presence : List Presence)
     (number : ℕ) (told : Told) (said after : List LineSaid)
     → cause_of (slice_get presence (session_of told)) told ≡ o → session_of told < 17
@@ -287,7 +290,8 @@ first-none : (o : Option LineFault) → o ≡ first_fault o None
 first-none None = refl
 first-none (Some fault) = refl
 
--- an event, with or without the test of calls' texts: it writes the first of its two possible faults
+-- noting an event, with or without the test of calls' texts, writes the first of its two possible faults, and then
+-- `Goes` holds
 strict-goes : (strict : Bool) (list : List NumberedEvent) (faults : List ℕ) (presence : List Presence)
     (number : ℕ) (told : Told) (said after : List LineSaid) → session_of told < 17
     → Known presence said → Follows said after told
@@ -306,7 +310,8 @@ strict-goes true list faults presence number told said after within known follow
     (cause-known presence said told within known))
     (tested-goes o (fault_called told) list faults presence number told said after refl within known follows)
 
--- a connection found closed: it writes its fault's text, if it has one
+-- noting that a connection was found closed writes the text of that line's fault, if it has one (`o`), and then `Goes`
+-- holds
 closed-goes : (o : Option LineFault) (list : List NumberedEvent) (faults : List ℕ) (presence : List Presence)
     (number session : ℕ) (said after : List LineSaid)
     → cause_of (slice_get presence session) (Leaves session) ≡ o → session < 17
@@ -325,7 +330,7 @@ closed-goes (Some fault) list faults presence number session said after is withi
       is = refl;
     }
 
--- lines that are faulty among a return's rows are written behind
+-- if `Goes` holds, it holds with a text added behind the text so far, as that of faulty lines among a return's rows
 too-goes : (notes : Notes) (faults more : List ℕ) (said : List LineSaid) → Goes notes faults said
     → Goes (blamed_too notes more) (faults ++ more) said
 too-goes notes faults more said goes =
@@ -340,7 +345,7 @@ too-goes notes faults more said goes =
 abbrev return_cause : List Presence → ℕ → Option LineFault
 return_cause presence session = cause_of (slice_get presence session) (Returns session (ShowsRows []))
 
--- the last row of a return has come: its fault and then those of its rows are written
+-- once the last row of a return has come, the return's fault and then those of its rows are written, and `Goes` holds
 returned-goes : (list : List NumberedEvent) (faults : List ℕ) (presence : List Presence) (a : Awaited)
     (said : List LineSaid) (count : ℕ) → a.session < 17 → Known presence said
     → Goes (returned (made list faults presence) a)
@@ -385,11 +390,13 @@ OnSome strict lines =
     ≡ ((faults ++ text_of_fault a.number (return_fault presence a.session (suc due) lines)) ++ a.faults)
     ++ faulty_after strict before lines
 
--- lines are numbered from 1: the number of the line after this one
+-- lines are numbered from 1: the number of the line after this one is one more than how many lines there are up to
+-- this one
 next-number : (before : List (List ℕ)) (line : List ℕ) → length before + 1 + 1 ≡ length (before ++ line ∷ []) + 1
 next-number before line = omega (arith, length-append before (line ∷ []))
 
--- the step of a line after which no row is to come
+-- if `OnNone` holds of the lines behind a line after which no row is to come, what is written in the end is what was
+-- written up to that line, and then the faults of the lines behind it
 go-on : (strict : Bool) (line : List ℕ) (rest before : List (List ℕ)) (notes : Notes) (faults : List ℕ)
     → OnNone strict rest
     → Goes notes faults (said_by 0 (before ++ line ∷ [])) → rows_due 0 (before ++ line ∷ []) ≡ 0
@@ -400,7 +407,9 @@ go-on strict line rest before notes faults none goes due =
     ∙ ap (λ (n : Notes). ended (noted_lines strict n (length (before ++ line ∷ []) + 1) rest)) goes.is
     ∙ none (before ++ line ∷ []) goes.list faults goes.presence due goes.known
 
--- the step of a line after which rows are to come
+-- if `OnSome` holds of the lines behind a line after which rows are to come, what is written in the end is what was
+-- written up to that line, the fault of the return, those held back for its rows, and then the faults of the lines
+-- behind the line
 go-wait : (strict : Bool) (line : List ℕ) (rest before : List (List ℕ)) (list : List NumberedEvent) (faults : List ℕ)
     (presence : List Presence) (a : Awaited) (said : List LineSaid) (count due : ℕ) → OnSome strict rest
     → a.missing ≡ suc due → rows_due 0 (before ++ line ∷ []) ≡ suc due
@@ -418,7 +427,7 @@ alone-due : (before : List (List ℕ)) (line : List ℕ) (said : LineSaid) → r
 alone-due before line said due is =
     due-append 0 before line ∙ ap (λ (n : ℕ). due_after n line) due ∙ ap rows_announced is
 
--- a line of its own adds what it says
+-- a line that isn't in the place of a row adds what it says
 alone-said : (before : List (List ℕ)) (line : List ℕ) (said : LineSaid) → rows_due 0 before ≡ 0
     → reading_of_line line ≡ said → said_by 0 (before ++ line ∷ []) ≡ said_by 0 before ++ said ∷ []
 alone-said before line said due is =
@@ -444,7 +453,7 @@ unfolding noted_line
 alone-noted strict notes list faults presence number line said is =
     ap (noted_said strict (made list faults presence) number) is
 
--- what is written for a line, and then for those after it
+-- the text of a line's fault and then the texts for the lines after it are the texts for the lines from that one on
 line-first : (strict : Bool) (before : List (List ℕ)) (line : List ℕ) (rest : List (List ℕ)) (faults : List ℕ)
     (o : Option LineFault)
     → fault_between strict before line rest ≡ o
@@ -456,7 +465,7 @@ line-first strict before line rest faults o is =
     ∙ ap (λ (c : Option LineFault). faults ++ (text_of_fault (length before + 1) c
     ++ faulty_after strict (before ++ line ∷ []) rest)) (sym is)
 
--- a line of its own writes its fault, and then the lines after it write theirs
+-- if a line isn't in the place of a row and announces none, its fault is written, and then those of the lines after it
 alone-step : (strict : Bool) (said : LineSaid) (line : List ℕ) (rest before : List (List ℕ)) (list : List NumberedEvent)
     (faults : List ℕ) (presence : List Presence) → OnNone strict rest → rows_due 0 before ≡ 0
     → reading_of_line line ≡ said → rows_announced said ≡ 0
@@ -529,7 +538,8 @@ awaits-step strict (suc more) session line rest before list faults presence none
     (alone-fault strict before line rest (Awaits session (suc more)) due is
     ∙ ap (λ (c : Option LineFault). if nat_lt (filled rest) (suc more) then Some RowsMissing else c) (sym cause))
 
--- the induction's step with no row to come: from the lines after one to the lines from it on
+-- the induction's step: if `OnNone` and `OnSome` hold of the lines after one, `OnNone` holds of the lines from that
+-- one on
 none-step : (strict : Bool) (line : List ℕ) (rest : List (List ℕ)) → OnNone strict rest → OnSome strict rest
     → OnNone strict (line ∷ rest)
 unfolding noted_said blamed
@@ -693,7 +703,7 @@ silent-step strict line rest some silent before list faults presence a said coun
     (row-fault strict before line rest due due_is
     ∙ ap (λ (b : Bool). if b then None else fault_of_row (row_said (unblank line))) silent)
 
--- the fault of a line in the place of a row that isn't silent: it is no row, or there is none
+-- if a line in the place of a row isn't silent, its only fault can be that it is no row
 full-fault : (strict : Bool) (before : List (List ℕ)) (line : List ℕ) (after : List (List ℕ)) (due : ℕ)
     → rows_due 0 before ≡ suc due
     → is_silent line ≡ false → fault_between strict before line after ≡ fault_of_row (row_said (unblank line))
@@ -779,7 +789,8 @@ more-step strict line rest some full before list faults presence a said count du
     ∙ line-first strict before line rest all (fault_of_row row)
     (full-fault strict before line rest (suc due) due_is full)
 
--- the induction's step with rows to come: from the lines after one to the lines from it on
+-- the induction's step: if `OnNone` and `OnSome` hold of the lines after one, `OnSome` holds of the lines from that
+-- one on
 some-step : (strict : Bool) (line : List ℕ) (rest : List (List ℕ)) → OnNone strict rest → OnSome strict rest
     → OnSome strict (line ∷ rest)
 some-step strict line rest none some before list faults presence a said count due missing due_is said_is within known =
@@ -815,7 +826,7 @@ some-end strict before list faults presence a said count due missing due_is said
     (if b then Some RowsMissing else return_cause presence a.session) a.faults ++ [])
     (sym (zero-less due))
 
--- by induction over the lines: what is written from them on, with no row to come and with some
+-- by induction over the lines, `OnNone` and `OnSome` hold of any lines
 both : (strict : Bool) (lines : List (List ℕ)) → OnNone strict lines × OnSome strict lines
 both strict [] = (none-end strict, some-end strict)
 both strict (line ∷ rest) =

@@ -59,7 +59,7 @@ cut_where_joined [] free = refl
 cut_where_joined (line ∷ lines) free =
     cut line (joined lines) free.0 ∙ ap (λ (l : List (List ℕ)). line ∷ l) (cut_where_joined lines free.1)
 
--- a digit of a table without a line feed is none
+-- a digit of a table that has no line feed is no line feed
 digit_feed : (table : List ℕ) → HasNoFeed table → (place : ℕ) → not (slice_index table place == 10) ≡ true
 digit_feed [] free place = refl
 digit_feed (byte ∷ table) free zero = both_first (not (byte == 10)) (list_all (λ b. not (b == 10)) table) free

@@ -174,7 +174,8 @@ bad-first : (lines : List (List ℕ)) (line : List ℕ) (more : List (List ℕ))
 unfolding noted_said blamed
 bad-first lines line more list read is = one-first lines line more list read Bad NotALine is refl
 
--- if a line tells of an event that can't happen to its session there, that fault is written first
+-- if a line tells of an event that can't happen to its session there, and no line before is faulty, that fault is
+-- written first
 unfit-first : (lines : List (List ℕ)) (line : List ℕ) (more : List (List ℕ)) (list : List NumberedEvent) (told : Told)
     (fault : LineFault) → IsRead lines list
     → reading_of_line line ≡ Says told → cause_next list told ≡ Some fault
@@ -274,7 +275,8 @@ rows-short (line ∷ lines) list presence a number short =
         (sym (come-line list presence a number line full ∙ waits list presence b (omega (arith, fewer))))
         (record { left = later.left; is = later.is; number = later.number ∙ line-number a number row })
 
--- if the record ends before all rows of a return have come, and no line before is faulty, that fault is written first
+-- if fewer lines follow a return than it has rows, and no line before is faulty, it is written first that rows of that
+-- return are missing
 missing-first : (lines : List (List ℕ)) (line : List ℕ) (more : List (List ℕ)) (list : List NumberedEvent)
     (session count : ℕ) → IsRead lines list
     → reading_of_line line ≡ Awaits session count → filled more < count
@@ -366,7 +368,8 @@ rows-unfit lines list presence a number fault enough some =
     (sym (waits list presence a more))
     (unfit-later lines list presence a number fault enough more some))
 
--- a return with rows that can't happen to its session: known only when all rows have come, written by its own line
+-- if a return with rows can't happen to its session, enough lines follow for its rows, and no line before is faulty,
+-- the fault of the return's line is written first
 unfit-rows-first : (lines : List (List ℕ)) (line : List ℕ) (more : List (List ℕ)) (list : List NumberedEvent)
     (session count : ℕ) (fault : LineFault) → IsRead lines list
     → reading_of_line line ≡ Awaits session count → count ≤ filled more
@@ -516,8 +519,8 @@ rows-fit lines list presence a number text enough fits begins =
     subst (λ (n : Notes). Begins (noted_lines false n number lines).faults text) (sym (waits list presence a more))
     (fit-later lines list presence a number text enough more fits begins))
 
--- if a line in the place of a row is the first that isn't one, enough lines have come, and the return can happen, the
--- fault of that line is written first
+-- if a line in the place of a row is the first that isn't one, enough lines follow for all rows, the return can
+-- happen, and no line before it is faulty, the fault of the line that is no row is written first
 bad-row-first : (lines : List (List ℕ)) (line : List ℕ) (rows : List (List ℕ)) (row : List ℕ) (more : List (List ℕ))
     (list : List NumberedEvent) (session count : ℕ)
     → IsRead lines list → reading_of_line line ≡ Awaits session count → Fits list (Returns session (ShowsRows []))

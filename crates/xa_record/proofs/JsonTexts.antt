@@ -1,4 +1,4 @@
--- Texts as strings of JSON.
+-- Texts as strings of JSON: characters; the end of an array and of an object with a verdict and a line.
 use Rattle.std.proofs.Common.{◌≡◌, ℕ, ◌+◌, ◌<◌, ◌==◌, true, Result, Ok, Err, OnOk, List, [], ◌∷◌, ◌++◌, length, take}
 use Rattle.std.proofs.Common.{get_or, codes, decimal, refl, ap, sym, ◌∙◌, arith}
 use Rattle.std.proofs.Common.{append_assoc, append-nil}
@@ -12,7 +12,7 @@ use Rattle.json.specs.Tree.{items_tokens, members_tokens}
 use Rattle.xa_lines.specs.Script.{lines_of}
 use Rattle.xa_record.specs.Forms.{values_of, with_verdict, with_line}
 
--- the loop over characters: one more is encoded
+-- the loop over characters: after one more is encoded, all characters up to it are
 pub characters_more : (text old new : List ℕ) (index : ℕ) → index < length text
     → old ≡ encode_utf8_all (take index text)
     → new ≡ old ++ encode_utf8 (get_or text index 0)
@@ -23,7 +23,7 @@ characters_more text old new index within before put =
     (sym (append-nil (encode_utf8 byte)))
     ∙ sym (encodes-append (take index text) (byte ∷ [])) ∙ sym (ap encode_utf8_all (take_more text index 0 within))
 
--- the loop over an array's texts ends: no text is left, and the end of the array was written
+-- the loop over an array's texts ends: no text is left, and with the end of the array all of it is written
 pub array-ended : (whole old new : List Token) (texts : List (List ℕ)) → whole ≡ old ++ items_tokens (values_of texts)
     → texts ≡ []
     → new ≡ old ++ end_array ∷ [] → new ≡ whole
@@ -43,7 +43,8 @@ pub array-ended-ok : {X E : Type 0} (result : Result X E) (whole old new : List 
 array-ended-ok (Ok x) whole old new texts is none ended = array-ended whole old new texts is none ended
 array-ended-ok (Err e) whole old new texts is none ended = tt
 
--- a verdict and a line's number were written, and the object's end
+-- once a verdict, a line's number and the object's end are written, after Ok all members of the object with these two
+-- are written
 pub line-ended-ok : {X E : Type 0} (result : Result X E) (old one two new : List Token) (word : List ℕ) (line : ℕ)
     → one ≡ old ++ key (codes "verdict") ∷ string word ∷ []
     → two ≡ one ++ key (codes "line") ∷ number (decimal line) ∷ []

@@ -18,7 +18,7 @@ read-whole P None rest given read end p = tt
 read-whole P (Some x) None given read end p = absurd read
 read-whole P (Some x) (Some y) given read end p = subst P (sym (read ∙ ap (λ l. given ++ l) end ∙ append-nil given)) p
 
--- if all input was read and judged, and the text was written whole: what the job promises after Ok
+-- if all input was read and judged, and the text was written whole, what the job promises after Ok holds
 pub judged-written : (base : State) (allowances : List Allowance) (asked : Asked)
     (result : Result Outcome ScriptFault) (outcome : Outcome) (text given : List ℕ)
     (input rest old new : Option (List ℕ))
@@ -30,7 +30,8 @@ judged-written base allowances asked (Ok o) outcome text given input rest old ne
     (text, subst (λ x. IsJudgedFrom base given allowances asked x text) (sym same) judged, written)
 judged-written base allowances asked (Err fault) outcome text given input rest old new read end judged same written = tt
 
--- if writing failed: a prefix of the text was written, which is what the job promises after that fault
+-- if all input was read and judged, and writing failed after a prefix of the text, what the job promises after that
+-- fault holds
 pub judged-faulted : (base : State) (allowances : List Allowance) (asked : Asked)
     (result : Result Outcome ScriptFault) (outcome : Outcome) (text given : List ℕ)
     (input rest old new : Option (List ℕ))

@@ -26,7 +26,7 @@ Ends session place list =
     × (is_return_of session one.told ≡ true)))
     × HasNoReturn session (drop place list)
 
--- the place of a session's last return, with one event more in front: it moves by one, or is found in that event
+-- with one event more in front, the place of a session's last return moves by one, or is found in that event
 pub ends-cons : (session : ℕ) (one : NumberedEvent) (more : List NumberedEvent) (place : ℕ) (returns : Bool)
     → is_return_of session one.told ≡ returns
     → Ends session place more → Ends session (one_more place returns) (one ∷ more)
@@ -62,7 +62,8 @@ no-return-none session (one ∷ more) none = ap (one_more (up_to_return session 
 pub one_more-some : (count : ℕ) (returns : Bool) → one_more (count + 1) returns ≡ count + 1 + 1
 one_more-some count returns = rw (add-one count, add-one (suc count)) refl
 
--- a return with none of the session behind it is the last
+-- if no return of the session is behind one of its returns, the place of the last is the number of events up to that
+-- one
 pub last-found : (session : ℕ) (front after : List NumberedEvent) (one : NumberedEvent)
     → is_return_of session one.told ≡ true → HasNoReturn session after
     → up_to_return session ((front ++ one ∷ []) ++ after) ≡ length front + 1
@@ -73,7 +74,7 @@ last-found session (first ∷ front) after one is none =
     ap (λ (n : ℕ). one_more n (is_return_of session first.told)) (last-found session front after one is none)
     ∙ one_more-some (length front) (is_return_of session first.told) ∙ omega arith
 
--- the length of a list with one event behind it
+-- a list with one event behind it is longer by one
 pub length-last : (front : List NumberedEvent) (one : NumberedEvent) → length (front ++ one ∷ []) ≡ length front + 1
 length-last front one = grind (arith, common_steps)
 

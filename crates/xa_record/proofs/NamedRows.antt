@@ -4,14 +4,14 @@ use Rattle.std.proofs.lemmas.List.{take_more}
 use Rattle.xa_judge.specs.declared.event.Event.{Event}
 use Rattle.xa_record.specs.Reports.{with_row_called, with_rows_called, keys_named}
 
--- the keys that two lists of events name: those of the first, then those of the second put in
+-- the keys that two joined lists of events name are those that the first names, with those of the second put in
 named-append : (keys : List (List ℕ)) (events more : List Event)
     → with_rows_called keys (events ++ more) ≡ with_rows_called (with_rows_called keys events) more
 unfolding with_rows_called
 named-append keys [] more = refl
 named-append keys (event ∷ events) more = named-append (with_row_called event keys) events more
 
--- the loop over events: the key that one more names is put in
+-- the loop over events: once the key that one more names is put in, the keys are those that all events up to it name
 pub named-more : (events : List Event) (old new : List (List ℕ)) (index : ℕ) (event : Event) → index < length events
     → event ≡ get_or events index event
     → old ≡ keys_named (take index events) → new ≡ with_row_called event old

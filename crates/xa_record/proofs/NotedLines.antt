@@ -14,7 +14,7 @@ use Rattle.xa_record.specs.Lines.{Told, Leaves}
 use Rattle.xa_record.specs.Reading.{NumberedEvent, Notes, session_of, presence_after, cause_of, note_of, noted_if}
 use Rattle.xa_record.specs.Reading.{up_to_return, closed_if, note_closed, noted_line, noted_lines}
 
--- the loop over lines: one was cut off and noted
+-- the loop over lines: once one was cut off and noted, the lines behind it are noted with the notes that it leaves
 pub noted_lines-line : (strict : Bool) (notes : Notes) (number : ℕ) (text line rest : List ℕ) → lines_of text
     ≡ line ∷ lines_of rest
     → noted_lines strict notes number (lines_of text)
@@ -30,7 +30,7 @@ noted_lines-end strict notes number [] empty = refl
 noted_lines-end strict notes number (x ∷ xs) empty =
     absurd (let none : length (x ∷ xs) ≡ 0 = grind (arith, common_steps) in omega arith)
 
--- the notes with another list of what happens, and other words on the sessions
+-- the notes with another list of what happens, and other presences of sessions
 abbrev pub made : Notes → List NumberedEvent → List Presence → Notes
 made notes list presence = record notes { told = list; presence = presence }
 

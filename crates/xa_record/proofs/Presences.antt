@@ -51,7 +51,7 @@ lost-stays session (one ∷ more) = by (session_of one.told == session) (lost-st
     by true later = later
     by false later = later
 
--- a session's presence after two lists of events: begin the second with what the first leaves
+-- a session's presence after two lists of events is the one after the second, begun with what the first leaves
 pub from-append : (session : ℕ) (presence : Presence) (xs ys : List NumberedEvent)
     → presence_from session presence (xs ++ ys) ≡ presence_from session (presence_from session presence xs) ys
 unfolding presence_from

@@ -24,7 +24,8 @@ use Rattle.xa_record.proofs.Pairs.{calls-length}
 abbrev pub Lead : State → List Event → List Move → Type 0
 Lead base events moves = (config : Config) × LeadsThrough (opening_config base) events moves config
 
--- the rows and branches of the store that moves lead to were listed
+-- if a result is the listing of a store to which moves lead, by the keys that the events name, the moves lead to a
+-- configuration of which it is the listing
 pub listed : {E : Type 0} (result : Result (Vec ℕ Global) E) (base : State) (events : List Event) (moves : List Move)
     (store : State) (keys : List (List ℕ)) (front : List ℕ)
     → front ≡ [] → (config : Config) × LeadsThrough (opening_config base) events moves config × (config.state ≡ store)
@@ -69,7 +70,7 @@ place_within numbered events place are within =
     let long : length numbered ≡ length events = calls-length numbered events are in
     sym (length-take-le place numbered (omega (arith, long, within)))
 
--- if the events of calls are those calls, they are up to each place, too
+-- if events are the calls that lines say (`AreCalls`), the events before a place are those of the lines before it
 pub events_before : (numbered : List NumberedRead) (events : List Event) (place : ℕ)
     → AreCalls (map numbered_kept numbered) events
     → AreCalls (map numbered_kept (take place numbered)) (take place events)

@@ -28,7 +28,7 @@ use Rattle.xa_record.proofs.LastReturns.{ends, ends-in}
 use Rattle.xa_record.proofs.Presences.{Placed, placed-none, fits-here, placed-next, placed-closed}
 use Rattle.xa_record.proofs.SessionsWithin.{Within, line_within}
 
--- among no lines none is other than silent
+-- an empty list has no line that isn't silent
 filled-none : filled [] ≡ 0
 unfolding filled
 filled-none = refl
@@ -84,7 +84,8 @@ abbrev Stands : List (List ℕ) → Option Awaited → List NumberedEvent → Ty
 Stands done None list = Tells done list
 Stands done (Some a) list = Part done a list × ((a.missing == 0) ≡ false)
 
--- notes of lines none of which is faulty
+-- none of the lines is faulty: the notes have no fault, keep of sessions what their events say (`Placed`), and have
+-- the events that the lines tell (`Stands`)
 record Right (done : List (List ℕ)) (notes : Notes) : Type 0 where
   clean : notes.faults ≡ []
   placed : Placed notes.presence notes.told
@@ -130,7 +131,7 @@ cause-shown (Some Lost) session one two = refl
 part-within : (done : List (List ℕ)) (a : Awaited) (list : List NumberedEvent) → Part done a list → a.session < 17
 part-within done a list part = subst Within part.says (line_within part.line)
 
--- if none is missing and the return can happen, the lines tell it
+-- if no row of a return is missing and the return can happen, the lines tell it with its rows
 part-whole : (done : List (List ℕ)) (a : Awaited) (list : List NumberedEvent) → a.missing ≡ 0 → Part done a list
     → Fits list (Returns a.session (ShowsRows a.rows))
     → Tells done (list ++ record { number = a.number; told = Returns a.session (ShowsRows a.rows) } ∷ [])
@@ -146,13 +147,13 @@ part-whole done a list none part fits =
     (Returns a.session (ShowsRows a.rows)) part.number
     (rows_lines part.before part.line part.came list a.session part.count a.rows part.tells part.says all fits))
 
--- cut at the line of a return: the lines before it, that line, and those after it are all lines
+-- the lines before a return's line, that line, and those after it, read and unread, are all lines
 behind : (done more : List (List ℕ)) (a : Awaited) (list : List NumberedEvent) (part : Part done a list)
     → part.before ++ part.line ∷ (part.came ++ more) ≡ done ++ more
 behind done more a list part =
     sym (append_assoc part.before (part.line ∷ part.came) more) ∙ ap (λ (l : List (List ℕ)). l ++ more) (sym part.parts)
 
--- the last row of a return has come: the notes are right with the return, or it is the first fault
+-- once the last row of a return has come, the notes with the return are right, or there is a first faulty line
 all-next : (list : List NumberedEvent) (presence : List Presence) (done more : List (List ℕ)) (a : Awaited)
     → a.missing ≡ 0 → Part done a list
     → Placed presence list → Right done (returned (noted list presence) a) ⊎ Found (done ++ more)
@@ -188,8 +189,8 @@ all-next list presence done more a none part placed = by (cause_of (slice_get pr
               (part.came ++ more) list a.session part.count fault part.tells part.says enough cause,
         ))
 
--- a return of which all rows have come or some are missing: the notes with it, or held back for it, are right, or there
--- is a first faulty line
+-- after the line of a return and some of its rows, the notes with the return, if all its rows have come, or else with
+-- it held back, are right, or there is a first faulty line
 awaiting-next : (list : List NumberedEvent) (presence : List Presence) (done more : List (List ℕ)) (a : Awaited)
     → Part done a list → Placed presence list
     → Right done (awaiting (noted list presence) a) ⊎ Found (done ++ more)
@@ -284,19 +285,21 @@ closed-next session list presence done number line todo is at within placed tell
               (sym (fits-here presence list (Leaves session) within placed) ∙ some),
         )
 
--- the line that is read next, at the end of those done or at the front of those to do
+-- the lines are the same whether the next one is counted at the end of those done or at the front of those to do
 line-end : (done : List (List ℕ)) (line : List ℕ) (todo : List (List ℕ))
     → (done ++ line ∷ []) ++ todo ≡ done ++ line ∷ todo
 line-end done line todo = append_assoc done (line ∷ []) todo
 
--- what holds of the lines done with this one, and the rest, is what one step of reading needs
+-- if the notes are right for the lines done with this one, or all lines have a first faulty one, one step of reading
+-- is right (`Next`)
 next-as : (done : List (List ℕ)) (line : List ℕ) (todo : List (List ℕ)) (new : Notes)
     → Right (done ++ line ∷ []) new ⊎ Found ((done ++ line ∷ []) ++ todo)
     → Next done line todo new
 next-as done line todo new (inl right) = inl right
 next-as done line todo new (inr found) = inr (found-as _ _ (line-end done line todo) found)
 
--- what is to be shown for a line that isn't in the place of a row, by what it says
+-- after a line that isn't in the place of a row, whatever it says, the notes are right, or there is a first faulty
+-- line
 said-next : (said : LineSaid) (list : List NumberedEvent) (presence : List Presence) (done : List (List ℕ)) (number : ℕ)
     (line : List ℕ) (todo : List (List ℕ))
     → reading_of_line line ≡ said → number ≡ length done + 1 → Within said → Placed presence list → Tells done list
@@ -336,7 +339,7 @@ silent-more : (line : List ℕ) (missing : ℕ) (lines : List (List ℕ)) (more 
 silent-more line zero lines more is silent came = absurd (cc)
 silent-more line (suc missing) lines more is silent came = silent_row silent came
 
--- a row's line in front of the lines of the other rows
+-- a row's line and the lines of the other rows behind it are the lines of all these rows
 one-more : (line : List ℕ) (missing : ℕ) (xid : Xid) (lines : List (List ℕ)) (more : List Xid) → (missing == 0) ≡ false
     → is_silent line ≡ false
     → row_said (unblank line) ≡ Some xid → RowsOf (missing - 1) lines more → RowsOf missing (line ∷ lines) (xid ∷ more)
@@ -344,7 +347,8 @@ one-more line zero xid lines more is full said came = absurd (cc)
 one-more line (suc missing) xid lines more is full said came =
     one_row full said (subst (λ (n : ℕ). RowsOf n lines more) (omega arith) came)
 
--- the lines read so far, with one more among the rows that came
+-- the lines read so far and one more are those before a return's line, that line, and those that came behind it with
+-- the one more
 longer : (done : List (List ℕ)) (line : List ℕ) (a : Awaited) (list : List NumberedEvent) (part : Part done a list)
     → done ++ line ∷ [] ≡ part.before ++ part.line ∷ (part.came ++ line ∷ [])
 longer done line a list part = ap (λ (l : List (List ℕ)). l ++ line ∷ []) part.parts
@@ -446,7 +450,8 @@ bad-found list done line todo a is full said part = found-as _ _ (behind done (l
           (grind (arith, nat_tests)),
     )
 
--- what is to be shown for a line in the place of a row, by what the line is read as
+-- after a line in the place of a row that isn't silent, row or not, the notes are right, or the first faulty line was
+-- found
 row-next : (row : Option Xid) (list : List NumberedEvent) (presence : List Presence) (done : List (List ℕ))
     (a : Awaited) (number : ℕ) (line : List ℕ) (todo : List (List ℕ))
     → row_said (unblank line) ≡ row → (a.missing == 0) ≡ false → is_silent line ≡ false → Part done a list
@@ -460,7 +465,7 @@ row-next (Some xid) list presence done a number line todo said is full part plac
     next-as done line todo _ (awaiting-next list presence (done ++ line ∷ []) todo b
     (part-row done line a list xid is full said part) placed)
 
--- what is to be shown for a line in the place of a row, also if it is silent
+-- after a line in the place of a row, silent or not, the notes are right, or the first faulty line was found
 quiet-next : (silent : Bool) (list : List NumberedEvent) (presence : List Presence) (done : List (List ℕ)) (a : Awaited)
     (number : ℕ) (line : List ℕ) (todo : List (List ℕ))
     → is_silent line ≡ silent → (a.missing == 0) ≡ false → Part done a list → Placed presence list
@@ -472,7 +477,7 @@ quiet-next true list presence done a number line todo silent is part placed =
 quiet-next false list presence done a number line todo full is part placed =
     row-next (row_said (unblank line)) list presence done a number line todo refl is full part placed
 
--- what is to be shown for any line, whether rows are awaited or not
+-- after any line, whether rows are awaited or not, the notes are right, or the first faulty line was found
 line-next : (list : List NumberedEvent) (faults : List ℕ) (presence : List Presence) (awaited : Option Awaited)
     (done : List (List ℕ)) (number : ℕ) (line : List ℕ)
     (todo : List (List ℕ)) → number ≡ length done + 1 → faults ≡ [] → Placed presence list → Stands done awaited list
@@ -493,7 +498,7 @@ line-next list faults presence (Some a) done number line todo at clean placed st
 length-line : (done : List (List ℕ)) (line : List ℕ) → length (done ++ line ∷ []) ≡ length done + 1
 length-line done line = grind (arith, common_steps)
 
--- by induction over the lines to do: the notes are right after all, or the first faulty line was found
+-- by induction over the lines to do: the notes are right after all of these, or the first faulty line was found
 lines-next : (todo done : List (List ℕ)) (notes : Notes) (number : ℕ) → number ≡ length done + 1 → Right done notes
     → Right (done ++ todo) (noted_lines false notes number todo) ⊎ Found (done ++ todo)
 unfolding noted_lines

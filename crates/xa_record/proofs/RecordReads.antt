@@ -35,7 +35,7 @@ noted_lines-append notes number (line ∷ lines) more =
     ∙ ap (λ (n : ℕ). noted_lines false (noted_lines false (noted_line false notes number line)
     (number + 1) lines) n more) (omega arith)
 
--- the notes once this has happened, and nothing was faulty
+-- notes with these events and presences, without a fault, that await no row
 abbrev pub noted : List NumberedEvent → List Presence → Notes
 noted list presence = record { told = list; faults = []; presence = presence; awaited = None }
 
@@ -74,7 +74,7 @@ no-more : (notes : Notes) (number : ℕ) → noted_lines false notes number [] �
 unfolding noted_lines
 no-more notes number = refl
 
--- the notes after one line more, by what it says
+-- if lines were read without a fault, one line more is noted by what it says
 line-more : (lines : List (List ℕ)) (line : List ℕ) (list : List NumberedEvent) (read : IsRead lines list)
     (said : LineSaid) → reading_of_line line ≡ said
     → noted_lines false no_notes 1 (lines ++ line ∷ []) ≡ noted_said false (noted list read.presence)
@@ -82,7 +82,7 @@ line-more : (lines : List (List ℕ)) (line : List ℕ) (list : List NumberedEve
 line-more lines line list read said is =
     lines-more lines line [] list read ∙ no-more _ _ ∙ said-of said list read.presence line (length lines + 1) is
 
--- before the first line nothing was read
+-- an empty list of lines is read as no event
 no-line-read : IsRead [] []
 unfolding noted_lines
 no-line-read = record { presence = no_notes.presence; placed = placed-none; is = refl }

@@ -41,7 +41,7 @@ upto numbered last place one next within at =
     ∙ ap (λ (x : NumberedRead). take last numbered ++ x ∷ []) (sym at))
     ∙ map-push (take last numbered) one
 
--- whether the event at a place is a return of the session, by the program's form of the list
+-- an event that was read at a place is a return of the session if, and only if, the event there is one
 there-is : (session : ℕ) (numbered : List NumberedRead) (last : ℕ) (one : NumberedRead) → one ≡ get_or numbered last one
     → is_return_of session (told_kept one.line_event) ≡ is_return_of session
     (told_kept (get_or numbered last one).line_event)

@@ -20,7 +20,8 @@ rows_behind (first ∷ texts) text =
     ap (row_before (row_said first.now)) (rows_behind texts text)
     ∙ row_before-append (row_said first.now) (rows_kept texts) (row_before (row_said text.now) [])
 
--- the loop over texts: the identifier of one more was read
+-- the loop over texts: once the identifier of one more is added, if it has one, the list has those of all texts up to
+-- it
 pub rows_kept-more : (texts : List (Bor (List ℕ))) (old new : List Xid) (index : ℕ) (none : Bor (List ℕ))
     → index < length texts
     → old ≡ rows_kept (take index texts) → new ≡ old ++ row_before (row_said (get_or texts index none).now) []

@@ -24,12 +24,13 @@ Within (Says told) = session_of told < 17
 Within (Awaits session count) = session < 17
 Within (Closed session) = session < 17
 
--- of two readings of a line, of which a test takes one, both name a session below 17 or none
+-- of two readings of a line a test takes one: if each names a session below 17 or none, that one does
 either : (b : Bool) (one two : LineSaid) → Within one → Within two → Within (if b then one else two)
 either true one two first second = first
 either false one two first second = second
 
--- a word that has to stand alone on its line names a session below 17 or none
+-- if what a line says names a session below 17 or none, it still does where it is said only if no text follows
+-- (`alone`)
 alone_within : (said : LineSaid) (text : List ℕ) → Within said → Within (alone said text)
 alone_within said [] is = is
 alone_within said (byte ∷ text) is = tt
@@ -113,7 +114,7 @@ line_within_by : (session : Option ℕ) (text : List ℕ) → NamesWithin sessio
 line_within_by None text is = tt
 line_within_by (Some session) text is = given_within session text is
 
--- of two readings of a line, of which a test takes one, both name a session below 17 or none
+-- of two readings of a line a test takes one: if each names a session below 17 or none, that one does
 said_within : (b : Bool) (one two : Line) → Within (filled_said one) → Within (filled_said two)
     → Within (filled_said (cond b one two))
 said_within true one two first second = first

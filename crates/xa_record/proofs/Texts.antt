@@ -14,7 +14,7 @@ use Rattle.xa_record.specs.VerdictText.{answer_text, with_answers, texts_of, ans
 use Rattle.xa_record.specs.VerdictText.{line_number_at}
 use Rattle.xa_record.proofs.Places.{slice_get-kept, slice_get-kept_past}
 
--- putting two lists of answers in is putting the second in behind the first
+-- putting in two lists of answers is putting in the first and then the second
 with_answers-append : (texts : List (List ℕ)) (answers more : List Answer)
     → with_answers texts (answers ++ more) ≡ with_answers (with_answers texts answers) more
 unfolding with_answers
@@ -66,7 +66,7 @@ pub texts-none : {A : Type 0} (bytes : A → List ℕ) (keys : List A) (answers 
 unfolding with_answers
 texts-none bytes keys answers none = ap (map bytes) none
 
--- the loop over texts: one more was written
+-- the loop over texts: one more was written, on a line `COULD BE`, and those behind it are left
 pub written-text : (whole out first second third text : List ℕ) (texts : List (List ℕ))
     → whole ≡ out ++ answers_text (text ∷ texts)
     → first ≡ out ++ codes "COULD BE " → second ≡ first ++ text → third ≡ second ++ codes "\n"
@@ -85,7 +85,7 @@ pub written-whole : (whole out : List ℕ) (texts : List (List ℕ)) → whole �
 unfolding answers_text
 written-whole whole out texts is none = sym (is ∙ ap (λ t. out ++ answers_text t) none ∙ append-nil out)
 
--- the number of the line of an event, by what the program's list has there
+-- the number of the line of an event is the one that the program's list has at its place
 pub number_at-within : (numbered : List NumberedRead) (place : ℕ) (one : NumberedRead) → place < length numbered
     → one ≡ get_or numbered place one
     → one.number ≡ line_number_at (map numbered_kept numbered) place

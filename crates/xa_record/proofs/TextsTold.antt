@@ -20,7 +20,7 @@ nothing-before (x ∷ xs) ys none = absurd (cc)
 pub fault-something : (number : ℕ) (fault : LineFault) → fault_text number fault ≡ [] → ⊥
 fault-something number fault none = cc
 
--- the notes of a text, spelled out: those of its lines, and its end
+-- the notes of a text are those that its lines leave, once the record has ended
 notes-so : (text : List ℕ) → notes_of text ≡ ended_by (noted_lines false no_notes 1 (lines_of text)).awaited
     (noted_lines false no_notes 1 (lines_of text))
 unfolding notes_by
@@ -30,7 +30,7 @@ notes-so text = refl
 ended-none : (awaited : Option Awaited) (notes : Notes) → awaited ≡ None → ended_by awaited notes ≡ notes
 ended-none awaited notes none = ap (λ (o : Option Awaited). ended_by o notes) none
 
--- the first fault is written first
+-- what is written for a text begins with the fault of its first faulty line
 pub text-begins : (text : List ℕ) (number : ℕ) (fault : LineFault) → HasFault (lines_of text) number fault
     → Begins (notes_of text).faults (fault_text number fault)
 text-begins text number fault has =
@@ -64,7 +64,7 @@ text-tells text clean = by (lines-told (lines_of text))
     by (inr (number, fault, has)) =
         absurd (something (notes_of text).faults text number fault clean (text-begins text number fault has))
 
--- if something was written, some line is the first faulty one
+-- if something was written for faults, some line is the first faulty one
 pub text-found : (text : List ℕ) → (notes_of text).faults ≢ []
     → (number : ℕ) × (fault : LineFault) × HasFault (lines_of text) number fault
 text-found text some = by (lines-told (lines_of text))

@@ -6,8 +6,7 @@
 --     no_kinds, kinds_after, kind_asked     the kind of what each session called for last: before the first event,
 --                       after one, and of a session
 --     allowance_of      what a line allows
---     allowances_of     what the lines of a text allow, or the number of the first line that isn't an
---                       allowance
+--     allowances_of     what the lines of a text allow, or the number of the first faulty line
 --     IsAllowFaultOf    why a text couldn't be read
 use Rattle.std.specs.Prelude.{◌≡◌, ℕ, ◌+◌, ◌==◌, nat_lt, Bool, ◌&&◌, bytes_eq, if◌then◌else◌, Option, Some, None}
 use Rattle.std.specs.Prelude.{Result, Ok, Err, List, [], ◌∷◌, codes, replicate, slice_get, slice_set}
@@ -32,7 +31,8 @@ use Rattle.xa_record.specs.declared.allow_fault.AllowFault.{AllowFault}
 use Rattle.xa_record.specs.declared.allow_fault.AllowFault.TheVariants.{Line as LineFault, NoMemory}
 use Rattle.xa_record.specs.Lines.{is_silent}
 
--- the words of a statement's canonical form without identifiers, keys and values
+-- the words of a kind of statement, as an allowance names it: those of the canonical form, without identifiers, keys,
+-- values and CONVERT XID
 abbrev pub words_of : StatementKind → List ℕ
 words_of Start = codes "XA START"
 words_of End = codes "XA END"
@@ -80,7 +80,8 @@ allowed_for [] kind number = []
 allowed_for (one ∷ more) kind number =
     if lets_stand one kind number then one.rules ∷ allowed_for more kind number else allowed_for more kind number
 
--- the numbers that may stand for a refusal of a request of this kind; a request without a kind has none
+-- the rules' numbers for which this number that was seen may stand, as the answer to a request of this kind; none for
+-- a request without a kind
 abbrev pub others_for : List Allowance → Option StatementKind → ℕ → List ℕ
 others_for allowances None number = []
 others_for allowances (Some kind) number = allowed_for allowances kind number
@@ -109,7 +110,8 @@ allowance_within rules kind server =
     if nat_lt rules 65536 && nat_lt server 65536 then Some
     (record { rules = rules; kind = kind; server = server }) else None
 
--- the rules' number, the kind, and the server's number if that could be read; no text may follow
+-- an allowance of the rules' number, the kind, and the server's number; None if that couldn't be read, a text follows
+-- it, or a number is too great
 abbrev pub allowance_by : ℕ → StatementKind → Option ℕ → List ℕ → Option Allowance
 allowance_by rules kind None rest = None
 allowance_by rules kind (Some server) [] = allowance_within rules kind server
@@ -171,21 +173,24 @@ abbrev pub or_faulty : ℕ → Option Allowance → Result (Option Allowance) �
 or_faulty number None = Err number
 or_faulty number (Some one) = Ok (Some one)
 
--- what the line of this number allows: nothing if it is blank or a comment
+-- what the line of this number allows: nothing if it is blank or a comment; its number if it is faulty, that is, no
+-- allowance either
 abbrev pub line_allows : ℕ → List ℕ → Result (Option Allowance) ℕ
 line_allows number line = if is_silent line then Ok None else or_faulty number (allowance_of (unblank line))
 
--- what lines allow, the first of which has this number, or the number of the first that isn't an allowance
+-- what lines allow, the first of which has this number, or the number of the first faulty one: neither an allowance,
+-- nor blank, nor a comment
 unfoldable pub allowances_in : ℕ → List (List ℕ) → Result (List Allowance) ℕ
 allowances_in number [] = Ok []
 allowances_in number (line ∷ lines) = first_allows (line_allows number line) (allowances_in (number + 1) lines)
 
--- what the lines of a text allow, or the number of the first that isn't an allowance
+-- what the lines of a text allow, or the number of the first faulty one: neither an allowance, nor blank, nor a
+-- comment
 unfoldable pub allowances_of : List ℕ → Result (List Allowance) ℕ
 allowances_of text = allowances_in 1 (lines_of text)
 
--- whether a fault is right for what the lines allow: `Line` has the number of the first line that isn't an allowance;
--- `NoMemory` may always be
+-- whether a fault is right for what the lines allow: `Line` has the number of the first faulty line; `NoMemory` may
+-- always be
 abbrev pub IsAllowFaultOf : Result (List Allowance) ℕ → AllowFault → Type 0
 IsAllowFaultOf said (LineFault number) = said ≡ Err number
 IsAllowFaultOf said NoMemory = Unit {0}

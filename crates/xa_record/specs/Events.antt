@@ -2,8 +2,8 @@
 --     request_called     the request of a session that calls for a text
 --     IsSeen             what is seen is what a return shows, with rows in ascending order
 --     others_shown       the rules' numbers for which a refusal that is shown may stand, in addition to its own
---     IsEvent            an event is what a line says that happens
---     AreEvents          each event is what happens on its line
+--     IsEvent            an event is the one that a line tells
+--     AreEvents          each event is the one that its line tells
 --     AreCalls           the event of each call is that call
 use Rattle.std.specs.Prelude.{◌≡◌, ℕ, Option, Result, Ok, Err, List, [], ◌∷◌}
 use Rattle.std.specs.List.{AllZip}
@@ -44,13 +44,13 @@ IsSeen others (ShowsRows rows) seen = ⊥
 IsSeen others (ShowsError number) (SeenError numbers) = (numbers.seen ≡ number) × (numbers.others.items ≡ others)
 IsSeen others (ShowsError number) seen = ⊥
 
--- the rules' numbers for which what is shown may stand in addition to its own, as the answer to a statement
--- of this kind
+-- the rules' numbers for which a refusal that is shown may stand in addition to its own, as the answer to a statement
+-- of this kind; what is no refusal stands for no number
 abbrev pub others_shown : List Allowance → Option StatementKind → Shown → List ℕ
 others_shown allowances kind (ShowsError number) = others_for allowances kind number
 others_shown allowances kind shown = []
 
--- an event is what a line says that happens; `kinds` are those of what sessions called for last
+-- an event is the one that a line tells; `kinds` are those of what sessions called for last
 abbrev pub IsEvent : List Allowance → List (Option StatementKind) → Told → Event → Type 0
 IsEvent allowances kinds (Calls session text) event = event ≡ Call session (request_called text)
 IsEvent allowances kinds (Returns session shown) (Return other seen) =
@@ -59,14 +59,15 @@ IsEvent allowances kinds (Returns session shown) event = ⊥
 IsEvent allowances kinds (ReturnsUnknown session) event = event ≡ Unknown session
 IsEvent allowances kinds (Leaves session) event = event ≡ Lost session
 
--- one event for each line, and each is what happens there; `kinds` are those of what sessions called for last before
+-- there are as many events as lines that tell one, and each is the one of its line; `kinds` are those of what
+-- sessions called for last before
 unfoldable pub AreEventsAfter : List Allowance → List (Option StatementKind) → List NumberedEvent → List Event → Type 0
 AreEventsAfter allowances kinds [] [] = Unit {0}
 AreEventsAfter allowances kinds (one ∷ numbered) (event ∷ events) =
     IsEvent allowances kinds one.told event × AreEventsAfter allowances (kinds_after event kinds) numbered events
 AreEventsAfter allowances kinds numbered events = ⊥
 
--- the events that the lines of a record say, with these allowances, if no session had called before
+-- the events that the lines of a record tell, with these allowances, if no session had called before
 abbrev pub AreEvents : List Allowance → List NumberedEvent → List Event → Type 0
 AreEvents allowances numbered events = AreEventsAfter allowances no_kinds numbered events
 
@@ -75,6 +76,7 @@ abbrev pub IsCallOf : Told → Event → Type 0
 IsCallOf (Calls session text) event = event ≡ Call session (request_called text)
 IsCallOf told event = Unit {0}
 
--- there are as many events as things that happen, and that of each call is that call; of others nothing is said
+-- there are as many events as lines that tell one, and that of each call is that call; of other events nothing is
+-- said
 abbrev pub AreCalls : List NumberedEvent → List Event → Type 0
 AreCalls numbered events = AllZip (λ one event. IsCallOf one.told event) numbered events

@@ -62,12 +62,13 @@ exchange_with told call = record { seen = seen_line told; line = number_of_line 
 abbrev pub no_exchange : Exchange
 no_exchange = record { seen = []; line = 0; call = [] }
 
--- what was seen, if something was, and the last call of its session among the events before it
+-- what was seen, if an event is there, and the last call of its session among the events before it
 abbrev pub exchange_after : List NumberedEvent → Option NumberedEvent → Exchange
 exchange_after before None = no_exchange
 exchange_after before (Some one) = exchange_with one.told (last_call (session_of one.told) None before)
 
--- what was seen at this place, and the last call of its session before that
+-- what was seen at this place among the events, and the last call of its session before that; nothing if no event is
+-- there
 abbrev pub exchange_at : List NumberedEvent → ℕ → Exchange
 exchange_at numbered place = exchange_after (take place numbered) (slice_get numbered place)
 

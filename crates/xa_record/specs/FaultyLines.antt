@@ -3,7 +3,7 @@
 --     rows_due           how many rows are still to come after lines
 --     said_by            what lines say that aren't in the place of a row
 --     presence_said      whether a session has an open call or is lost, by what lines say
---     cause_said         why something can't happen after what lines say
+--     cause_said         why an event isn't possible after what lines say
 --     fault_between      why a line is faulty that has these lines before it and those after it
 --     faulty_text        what is written for the faulty lines
 use Rattle.std.specs.Prelude.{ℕ, zero, suc, ◌+◌, ◌==◌, nat_lt, Bool, true, false, if◌then◌else◌, Option, Some, None}
@@ -25,8 +25,8 @@ abbrev pub rows_announced : LineSaid → ℕ
 rows_announced (Awaits session count) = count
 rows_announced said = 0
 
--- how many rows are still to come after a line, if so many were before it; a line that isn't silent takes the
--- place of one
+-- how many rows are still to come after a line, if so many were before it. If none were, it is how many the line
+-- announces; else a line that isn't silent takes the place of one
 abbrev pub due_after : ℕ → List ℕ → ℕ
 due_after zero line = rows_announced (reading_of_line line)
 due_after (suc due) line = if is_silent line then suc due else due
@@ -46,7 +46,7 @@ unfoldable pub said_by : ℕ → List (List ℕ) → List LineSaid
 said_by due [] = []
 said_by due (line ∷ lines) = said_alone due line ++ said_by (due_after due line) lines
 
--- what a line says that happens, if it says so: a return with rows on its own line, though these aren't known there
+-- the event that a line tells, if it tells one; a return without its rows, which stand on other lines
 abbrev pub told_by : LineSaid → Option Told
 told_by Nothing = None
 told_by Bad = None
@@ -54,8 +54,8 @@ told_by (Says told) = Some told
 told_by (Awaits session count) = Some (Returns session (ShowsRows []))
 told_by (Closed session) = Some (Leaves session)
 
--- what is said of the session after this: a client that is gone stays gone, and else a call opens, and a return
--- closes, be its line faulty or not
+-- whether the session is idle, has an open call or is lost after this: a client that is gone stays gone, and else a
+-- call opens, and a return closes, be its line faulty or not
 abbrev pub presence_by : ℕ → Presence → Option Told → Presence
 presence_by session presence None = presence
 presence_by session presence (Some told) =
@@ -71,7 +71,7 @@ presence_said_from session presence (said ∷ more) =
 abbrev pub presence_said : ℕ → List LineSaid → Presence
 presence_said session before = presence_said_from session Idle before
 
--- why this can't happen after what was said; None if it can
+-- why this event isn't possible after what was said; None if it is possible
 abbrev pub cause_said : List LineSaid → Told → Option LineFault
 cause_said before told = cause_of (Some (presence_said (session_of told) before)) told
 
@@ -80,7 +80,7 @@ abbrev pub first_fault : Option LineFault → Option LineFault → Option LineFa
 first_fault (Some fault) other = Some fault
 first_fault None other = other
 
--- the fault of a call that isn't a statement, if it is strict
+-- the fault of a call of a text that isn't a statement, if the texts of calls are tested
 abbrev pub fault_strictly : Bool → Told → Option LineFault
 fault_strictly false told = None
 fault_strictly true told = fault_called told

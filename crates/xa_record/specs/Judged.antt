@@ -37,8 +37,8 @@ use Rattle.xa_record.specs.Forms.{text_in}
 abbrev pub record_bytes : ℕ
 record_bytes = 16777216
 
--- a reader that gives one byte at a time needs one read for each and one more; twice as many are ample, and a bound has
--- reading end
+-- a reader that gives one byte at a time needs one read for each and one more; twice as many are ample, and with a
+-- bound reading comes to an end
 abbrev pub record_reads : ℕ
 record_reads = 33554432
 
@@ -53,7 +53,7 @@ pub record IsJudgement (base : State) (allowances : List Allowance) (lines : Lis
   pub replayed : IsReplayed base numbered events verdict
   pub is : IsReportOf base allowances lines asked numbered events verdict report
 
--- lines without a fault are judged if something happens on them; else there is nothing to judge
+-- lines without a fault are judged if they tell an event; else there is nothing to judge
 abbrev pub IsReportedOf : State → List Allowance → List (List ℕ) → List NumberedEvent → Asked → Report → Type 0
 IsReportedOf base allowances lines [] asked report = report ≡ Empty
 IsReportedOf base allowances lines (one ∷ more) asked report =

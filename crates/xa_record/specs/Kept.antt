@@ -1,15 +1,14 @@
 -- How the program keeps what it reads, as the definitions see it.
 --     rows_kept                 the identifiers of these texts
---     shown_kept, told_kept, line_kept      what a return shows;  what happens to a session;  what a line
---                                           says
---     numbered_kept                what happens, with its line's number
+--     shown_kept, told_kept, line_kept      what a return shows;  an event;  what a line says
+--     numbered_kept             an event, with its line's number
 --     awaited_kept              rows that are still to come
 --     notes_kept                what was read so far
 --     reason_kept, exchange_kept, grounds_kept, report_kept     what explains an illegal verdict;  what was seen, and
 --                               its call;  what is told beside the answers;  what is reported of a record
 --     text_told, text_at        the text of a call;  the text of the call at a place
 --     calls_kept                at each session's number, the text that it called for last
---     with_place                at each session's number, the place of its last call, after this happens
+--     with_place                at each session's number, the place of its last call, after an event
 use Rattle.std.specs.Prelude.{ℕ, Option, Some, None, List, [], ◌∷◌, map, slice_get, slice_set}
 use Rattle.std.specs.Borrow.{Bor}
 use Rattle.xa_xid.specs.declared.xid.Xid.{Xid}
@@ -59,7 +58,7 @@ shown_kept (ValueRead value) = ShowsValue (Some value.value)
 shown_kept (ManyRead texts) = ShowsRows (rows_kept texts.value.items)
 shown_kept (ErrorRead number) = ShowsError number
 
--- what happens to a session, as definitions see it
+-- an event, as definitions see it
 abbrev pub told_kept : LineEvent → Told
 told_kept (Call session text) = Calls session text.now
 told_kept (Return session shown) = Returns session (shown_kept shown)
@@ -75,7 +74,7 @@ line_kept (OneRead session value) = Says (Returns session (ShowsValue (Some valu
 line_kept (RowsRead session count) = Awaits session count
 line_kept (ClosedRead session) = Closed session
 
--- what happens, with its line's number
+-- an event, with its line's number
 abbrev pub numbered_kept : NumberedRead → NumberedEvent
 numbered_kept numbered = record { number = numbered.number; told = told_kept numbered.line_event }
 
@@ -147,7 +146,7 @@ text_at numbered (Some place) = text_numbered (slice_get numbered place)
 abbrev pub calls_kept : List NumberedEvent → LastCalls → List (List ℕ)
 calls_kept numbered calls = map (text_at numbered) calls.places
 
--- at each session's number, the place of its last call, after this happens at a place
+-- at each session's number, the place of its last call, after the event at this place
 abbrev pub with_place : ℕ → Told → List (Option ℕ) → List (Option ℕ)
 with_place place (Calls session text) places = slice_set places session (Some place)
 with_place place other places = places

@@ -1,7 +1,6 @@
 -- What a line of a record says. Every rule here is the project's own: docs/HISTORIES.md#records.
 --     Shown            what a return shows
---     Told             what happens to a session: it calls for a text, its call returns, or its client is
---                      gone
+--     Told             an event of a session: it calls for a text, its call returns, or its client is gone
 --     LineSaid         what a line says
 --     is_silent        a line is blank, or a comment
 --     trimmed          a text without the blanks at its end
@@ -29,7 +28,7 @@ pub data Shown : Type 0 where
   -- a refusal of this number
   ShowsError : ℕ → Shown
 
--- what happens to a session
+-- an event of a session, as a line tells it
 pub data Told : Type 0 where
   -- it calls for what this text asks for
   Calls : ℕ → List ℕ → Told
@@ -46,7 +45,7 @@ pub data LineSaid : Type 0 where
   Nothing : LineSaid
   -- it isn't written as a line of a record is
   Bad : LineSaid
-  -- this happens
+  -- this event
   Says : Told → LineSaid
   -- a session's call returns so many rows, which stand on the next lines
   Awaits : ℕ → ℕ → LineSaid

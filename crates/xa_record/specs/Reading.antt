@@ -1,15 +1,15 @@
 -- How a record is read, line by line. Every rule here is the project's own: docs/HISTORIES.md#records.
--- Faulty lines are written in ascending order, each once. What is written for those among the rows of a
--- return is held until all rows of that return have come, and comes after what is written for it.
---     session_of, presence_after, is_return_of     the session to which something happens;  whether it is idle, has an
---                         open call or is lost after that;  whether a call of it returns
---     cause_of            why what happens to a session is faulty, by what the lines before say of it
+-- Faulty lines are written in ascending order, each once. What is written for those among the rows of a return is held
+-- until all rows of that return have come, or the record ends, and comes after what is written for the return.
+--     session_of, presence_after, is_return_of     the session of an event;  whether that session is idle, has an open
+--                         call or is lost after it;  whether the event is a return to a session
+--     cause_of            why an event isn't possible, by whether its session is idle, has an open call or is lost
 --     fault_called        why a call is faulty if the texts of calls are tested
 --     fault_text          what is written for a faulty line
 --     Awaited             rows that are still to come, and the faulty lines among those that came
---     NumberedEvent       what happens, with the number of its line
+--     NumberedEvent       an event, with the number of its line
 --     Notes               what was read so far
---     note_of             the notes after this happens
+--     note_of             the notes after an event
 --     note_closed         the notes after a connection was found closed
 --     noted_line          the notes after a line
 --     notes_by            the notes after the lines of a text, with the texts of calls tested or not
@@ -33,22 +33,22 @@ use Rattle.xa_record.specs.Lines.{ShowsRows, Told, Calls, Returns, ReturnsUnknow
 use Rattle.xa_record.specs.Lines.{Awaits, Closed, reading_of_line, is_silent}
 use Rattle.xa_record.specs.Rows.{row_said}
 
--- the session to which this happens
+-- the session of an event
 abbrev pub session_of : Told → ℕ
 session_of (Calls session text) = session
 session_of (Returns session shown) = session
 session_of (ReturnsUnknown session) = session
 session_of (Leaves session) = session
 
--- whether a session is idle, has an open call or is lost, after this is told of it
+-- whether the session of this event is idle, has an open call or is lost after it
 abbrev pub presence_after : Told → Presence
 presence_after (Calls session text) = Open
 presence_after (Returns session shown) = Idle
 presence_after (ReturnsUnknown session) = Idle
 presence_after (Leaves session) = Lost
 
--- a call of a session with an open call is faulty, a return to one without, and anything of one whose client
--- is gone
+-- why an event isn't possible for a session with this presence: a call if the session has an open call, a return if
+-- it has none, and any event if its client is gone; None if it is possible, or there is no presence
 abbrev pub cause_of : Option Presence → Told → Option LineFault
 cause_of (Some Open) (Calls session text) = Some (OpenCall session)
 cause_of (Some Idle) (Returns session shown) = Some (NoOpenCall session)
@@ -89,7 +89,7 @@ pub record Awaited : Type 0 where
   pub rows : List Xid
   pub faults : List ℕ
 
--- what happens on the line of this number
+-- an event, with the number of its line
 pub record NumberedEvent : Type 0 where
   pub number : ℕ
   pub told : Told
@@ -113,7 +113,7 @@ blamed notes number fault = record notes { faults = notes.faults ++ fault_text n
 abbrev pub blamed_too : Notes → List ℕ → Notes
 blamed_too notes faults = record notes { faults = notes.faults ++ faults }
 
--- the event is noted, with what it leaves of its session, unless this fault blames its line
+-- the event is noted, with the presence of its session after it, unless this fault blames its line
 unfoldable pub noted_if : Option LineFault → Notes → ℕ → Told → Notes
 noted_if None notes number told =
     record notes {
@@ -122,7 +122,7 @@ noted_if None notes number told =
     }
 noted_if (Some fault) notes number told = blamed notes number fault
 
--- the notes after this happens on the line of this number, or with that line as faulty if it can't
+-- the notes after this event on the line of this number, or with that line as faulty if the event isn't possible
 abbrev pub note_of : Notes → ℕ → Told → Notes
 note_of notes number told = noted_if (cause_of (slice_get notes.presence (session_of told)) told) notes number told
 
@@ -136,22 +136,22 @@ abbrev pub blamed_if : Option LineFault → Notes → ℕ → Notes
 blamed_if None notes number = notes
 blamed_if (Some fault) notes number = blamed notes number fault
 
--- this happens on the line of this number, or the line is faulty; if it is strict, a call has to be a statement,
--- and counts also if it isn't one
+-- the notes after this event on the line of this number, as `note_of` says; if the reading is strict, a call of a
+-- text that isn't a statement makes its line faulty, too, but is noted all the same, so that its return isn't faulty
 abbrev pub note_strictly : Bool → Notes → ℕ → Told → Notes
 note_strictly false notes number told = note_of notes number told
 note_strictly true notes number told =
     blamed_if (beyond (cause_of (slice_get notes.presence (session_of told)) told) (fault_called told))
     (note_of notes number told) number
 
--- whether a call of the session returns by this, with a known answer or not
+-- whether the event is a return to the session, with a known answer or not
 abbrev pub is_return_of : ℕ → Told → Bool
 is_return_of session (Returns other shown) = other == session
 is_return_of session (ReturnsUnknown other) = other == session
 is_return_of session told = false
 
--- the place of a session's last return, with an event in front: one more than before, or 1 if this is the first
--- return
+-- how many events there are up to and including a session's last return, once one event more stands in front: one
+-- more than before; if there was no return, 1 if this event is one, else 0
 abbrev pub one_more : ℕ → Bool → ℕ
 one_more zero true = 1
 one_more zero false = 0

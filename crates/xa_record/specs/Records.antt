@@ -2,11 +2,11 @@
 -- and of fault.
 -- The rules know no order of reading; Reading.antt says how lines are read one by one.
 --     RowsOf              so many rows are on these lines
---     on_next_line        this happens on the line after these
---     EndsInReturn, HasNoReturn      the last event is a return to the session;  none is
---     presence_in, Fits   what the events say of a session;  this can happen next
+--     on_next_line        an event, with the number of the line after these
+--     EndsInReturn, HasNoReturn      the last event, if there is one, is a return to the session;  no event is
+--     presence_in, Fits   whether a session has an open call or is lost after events;  an event is possible next
 --     Tells               the lines tell these events, and none is faulty
---     filled, AreRows     how many of the lines aren't silent;  each of these is a row
+--     filled, AreRows     how many of the lines aren't silent;  each of the lines is silent, or a row
 --     HasFault            the first faulty line has this number, for this cause
 --     Begins              a text begins with this one
 use Rattle.std.specs.Prelude.{◌≡◌, ◌⊎◌, ℕ, suc, ◌+◌, ◌==◌, ◌<◌, ◌≤◌, true, false, if◌then◌else◌, Option, Some, None}
@@ -47,7 +47,7 @@ abbrev pub HasNoReturn : ℕ → List NumberedEvent → Type 0
 HasNoReturn session [] = Unit {0}
 HasNoReturn session (one ∷ more) = (is_return_of session one.told ≡ false) × HasNoReturn session more
 
--- what is said of the session after this: a client that is gone stays gone
+-- whether a session is idle, has an open call or is lost after this: a client that is gone stays gone
 abbrev pub presence_then : Presence → Told → Presence
 presence_then Lost told = Lost
 presence_then Idle told = presence_after told
@@ -59,15 +59,15 @@ presence_from session presence [] = presence
 presence_from session presence (one ∷ more) =
     presence_from session (if session_of one.told == session then presence_then presence one.told else presence) more
 
--- what the events say of the session
+-- whether the session has an open call or is lost after these events, if it was idle at first
 abbrev pub presence_in : ℕ → List NumberedEvent → Presence
 presence_in session list = presence_from session Idle list
 
--- why this can't happen next, by what the events say of its session; None if it can
+-- why this event isn't possible next, by what the events say of its session; None if it is possible
 abbrev pub cause_next : List NumberedEvent → Told → Option LineFault
 cause_next list told = cause_of (Some (presence_in (session_of told) list)) told
 
--- the event can happen after these events, by whether its session has an open call or is lost
+-- the event is possible after these events, by whether its session has an open call or is lost
 abbrev pub Fits : List NumberedEvent → Told → Type 0
 Fits list told = cause_next list told ≡ None
 

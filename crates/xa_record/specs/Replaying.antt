@@ -95,7 +95,7 @@ abbrev pub requested : Config → ℕ → Act → Option Request
 requested config session ItsStatement = open_request (slice_get config.clients session)
 requested config session ItsDisconnect = Some (Asked Disconnect)
 
--- the line gives what takes effect, and is one line
+-- the line gives the request that takes effect by the act, and has no line feed in it
 pub record IsEffectLine (config : Config) (session : ℕ) (act : Act) (line : List ℕ) : Type 0 where
   pub request : Request
   pub is : requested config session act ≡ Some request

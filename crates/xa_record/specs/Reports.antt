@@ -54,7 +54,7 @@ pub record Grounds : Type 0 where
 pub data Report : Type 0 where
   -- what is written for its faulty lines
   Faulty : List ℕ → Report
-  -- nothing happens in it
+  -- it has no event
   Empty : Report
   -- the lines of an order that explains it
   Legal : List ℕ → Report
@@ -72,7 +72,7 @@ outcome_of (Legal order) = IsLegal
 outcome_of (Illegal number texts grounds) = IsIllegal
 outcome_of (Undecided number) = IsUndecided
 
--- these rows and the one that a statement names; XA COMMIT, XA ROLLBACK and DISCONNECT name none
+-- these rows and the one that a statement names; only GET, PUT and DEL name one
 abbrev pub with_row_of : Statement → List (List ℕ) → List (List ℕ)
 with_row_of (Get key) keys = insert_key bytes_cmp keys key
 with_row_of (Put key value) keys = insert_key bytes_cmp keys key

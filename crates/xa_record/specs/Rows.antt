@@ -12,7 +12,7 @@ use Rattle.xa_xid.specs.declared.byte_class.ByteClass.TheVariants.{Decimal}
 use Rattle.xa_xid.specs.declared.xid.Xid.{Xid}
 use Rattle.xa_lines.specs.Script.{is_empty_line, first_word, behind_word, number_of_word}
 
--- the number of a text's first digits; None if there are none, for a leading zero, and for 2^64 or more
+-- the number of a text's first digits; None if there are none, if a zero stands before others, and for 2^64 or more
 unfoldable pub leading_number : List ℕ → Option ℕ
 leading_number text = number_of_word (front (belongs Decimal) text)
 
@@ -21,7 +21,7 @@ abbrev pub digits_named : List ℕ → Option (List ℕ)
 digits_named (zero_digit ∷ letter ∷ digits) = if zero_digit == 48 && letter == 120 then Some digits else None
 digits_named word = None
 
--- the identifier with these bytes, first those of its gtrid
+-- the identifier with these bytes, first those of its gtrid; None if its digits weren't read as bytes
 abbrev pub xid_of : ℕ → ℕ → Result (List ℕ) FromHexError → Option Xid
 xid_of format_id gtrid (Ok bytes) =
     Some (record {

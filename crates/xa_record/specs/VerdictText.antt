@@ -4,7 +4,7 @@
 --     answer_text        an answer that was possible
 --     texts_of           the texts of answers, each once, ascending by their bytes
 --     answers_text       the COULD BE lines for these texts
---     line_number_at     the number of the line on which the event at a place happens
+--     line_number_at     the number of the line that tells the event at a place
 --     line_text          the first line of a verdict that names a line
 use Rattle.std.specs.Prelude.{ℕ, true, Option, Some, None, Result, Ok, Err, List, [], ◌∷◌, ◌++◌, codes, decimal}
 use Rattle.std.specs.Prelude.{slice_get, slice_set, replicate}
@@ -70,7 +70,8 @@ order_text calls (numbered ∷ more) (Seeing ∷ moves) = order_text (with_call 
 abbrev pub no_calls : List (List ℕ)
 no_calls = replicate 17 []
 
--- a reply as `run` prints it, with rows as CONVERT XID prints them
+-- a reply as `run` prints it, with rows as CONVERT XID prints them; for a text that isn't a statement the number alone,
+-- without what `run` prints behind it
 abbrev pub answer_text : Answer → List ℕ
 answer_text (Replied reply) = reply_text true reply
 answer_text NotRead = codes "ERROR 1064"
@@ -94,7 +95,7 @@ abbrev pub number_of_line : Option NumberedEvent → ℕ
 number_of_line None = 0
 number_of_line (Some numbered) = numbered.number
 
--- the number of the line on which the event at this place happens
+-- the number of the line that tells the event at this place; 0 if there is no event
 abbrev pub line_number_at : List NumberedEvent → ℕ → ℕ
 line_number_at numbered place = number_of_line (slice_get numbered place)
 

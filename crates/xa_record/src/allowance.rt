@@ -12,11 +12,11 @@ use xa_xid::NoMemory;
 /// Own rule: docs/HISTORIES.md#allowances.
 #[derive(Clone, Copy, Debug, PartialEq, Eq)]
 pub struct Allowance {
-    /// The number of the rules, in `[0, 65535]`.
+    /// The number with which the rules refuse the statement, in `[0, 65535]`.
     pub rules: u16,
     /// The kind of statement.
     pub kind: StatementKind,
-    /// The number that the server may give, in `[0, 65535]`.
+    /// The number that the server may give instead, in `[0, 65535]`.
     pub server: u16,
 }
 

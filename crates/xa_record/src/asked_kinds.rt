@@ -7,7 +7,7 @@ use xa_judge::Event;
 use xa_xid::SessionNo;
 
 /// At each session's number, the kind of what it called for last: None if it hasn't called, or if that has no kind.
-/// Place 0 belongs to no session.
+/// Index 0 belongs to no session.
 #[derive(Clone, Copy)]
 pub struct AskedKinds {
     kinds: [Option<StatementKind>; 17],

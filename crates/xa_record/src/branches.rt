@@ -12,11 +12,11 @@ use xa_xid::{NoMemory, SessionNo, Statement, Xid};
 /// The branches of a record, as far as it was read.
 #[derive(Drop)]
 pub struct Branches {
-    /// At each session's number, the open branch that it has. Place 0 belongs to no session.
+    /// At each session's number, the open branch that it has. Index 0 belongs to no session.
     own: [Option<usize>; 17],
     /// At each session's number, the open branch that it had before its last call.
     before: [Option<usize>; 17],
-    /// The branch that was prepared last under each identifier.
+    /// The branch that was prepared last under each identifier. It stays here after it is committed or rolled back.
     prepared: BTreeMap<Xid, usize>,
 }
 
@@ -40,8 +40,8 @@ impl Branches {
         }
     }
 
-    /// Takes note of what a statement does with its session's branch if it isn't refused, which its return shows
-    /// later: `undo` is called then if it was. `start` is the branch to which the call belongs.
+    /// Takes note of what a statement does with its session's branch if it isn't refused. Its return shows later
+    /// whether it was, and `undo` is called if so. `start` is the branch to which the call belongs.
     fn change(
         &mut self,
         session: SessionNo,
@@ -51,13 +51,14 @@ impl Branches {
         let number = session.get() as usize;
         match statement {
             Statement::Start(_) => self.own[number] = Some(start),
-            // A session without a branch is refused, so it prepares nothing.
+            // Without a branch of its session an `XA PREPARE` is refused, so it prepares nothing.
             Statement::Prepare(xid) => {
                 if self.own[number].is_some() {
                     self.prepared.insert(xid.copy(), start)?;
                 }
                 self.own[number] = None;
             }
+            // After each of these three the session has no branch, unless the statement is refused.
             Statement::Commit { .. } => self.own[number] = None,
             Statement::Rollback(_) => self.own[number] = None,
             Statement::Disconnect => self.own[number] = None,

@@ -19,8 +19,8 @@ fn push_if(out: &mut Vec<u8>, keeps: bool, line: &[u8]) -> Result<(), NoMemory>
     }
 }
 
-/// Returns the lines of a text at whose places `keeps` is true, each without the blanks at its beginning and with a
-/// line feed. Lines past the end of `keeps` are left out.
+/// Returns the lines of a text at whose index `keeps` is true, each without the blanks at its beginning and with a line
+/// feed. Lines past the end of `keeps` are left out.
 ///
 /// May return `NoMemory`.
 pub fn chosen_text(alloc: Global, text: &[u8], keeps: &[bool]) -> Result<Vec<u8>, NoMemory>

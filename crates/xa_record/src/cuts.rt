@@ -1,11 +1,11 @@
 //! What is left out next of an ILLEGAL record.
 //!
-//! What happens behind the ILLEGAL line is left out first. Then all the rest is tried, and then windows of what is
-//! there, later ones first: all of it, a half, a quarter, and so on down to single ones. At first these are windows of
-//! calls that are refused, and then of calls that read, shorter ones only while they are few: what they are answered
-//! depends on much, and little depends on them. Then they are windows of branches, since the answers to the other
-//! statements of a branch depend on each of them. Windows of calls come last; the short ones of these get shorter one
-//! by one, and are tried again while that helps.
+//! The events behind the ILLEGAL line are left out first. Then it is tried to leave out all the rest, and then
+//! windows: runs of what is still there, later ones first, at first all of it, then a half, a quarter, and so on down
+//! to single ones. The first windows are of calls that are refused, and the next of calls that read, shorter windows
+//! only while there are few: what such calls are answered depends on much, and little depends on them. Then come
+//! windows of branches, since the answers to the other statements of a branch depend on each of them. Windows of calls
+//! come last; the short ones of these get shorter one by one, and are tried again while that helps.
 //!
 //! The call that returns on the ILLEGAL line stays. If that line shows a value, one of the calls that write it stays
 //! too, and for each branch that it shows one of those that prepare it: without them any value would be ILLEGAL there.
@@ -17,12 +17,13 @@ use crate::stage::Stage;
 use std::alloc::Global;
 use xa_xid::NoMemory;
 
-/// Windows of calls of up to so many parts are tried at each place, and are tried again while that helps. Longer ones
-/// overlap by half. Windows of other stages don't overlap.
+/// Windows of calls of up to so many parts are tried one part apart, and are tried again while that helps. Longer ones
+/// overlap by half. Windows of other stages don't overlap. The number is a choice: each length up to it takes about
+/// one try for each part that is left.
 const SHORT: usize = 8;
 
-/// If there are more windows than this of calls that are refused, or of calls that read, no shorter ones are tried: so
-/// many of these calls are needed that it would take too long to find the others.
+/// If there are more windows than this, as `is_few` counts, of calls that are refused, or of calls that read, no
+/// shorter ones are tried: so many of these calls are needed that it would take too long to find the others.
 const MANY: usize = 16;
 
 /// What is left out of an ILLEGAL record, and what is to be left out next.
@@ -97,13 +98,15 @@ impl Parts {
         count
     }
 
-    /// Proposes the window from rank `from` to before rank `to`, among the parts that are there and by which windows
-    /// are counted. If branches go as a whole, the other parts of their branches are proposed too. No other part is.
+    /// Proposes the window of the ranks from `from` to before `to`. Ranks count, from 0, the parts that are there and
+    /// by which windows of this stage are counted. If branches go as a whole, the other parts of the window's branches
+    /// are proposed too. No other part is.
     fn propose_window(&mut self, stage: Stage, from: usize, to: usize) {
         let mut rank: usize = 0;
         for index in 0..self.parts.len() {
             if self.is_there(index) && self.leads(index, stage) {
                 self.set(index, proposed_if(from <= rank && rank < to));
+                // It counts parts of a list, so it never saturates.
                 rank = rank.saturating_add(1);
             } else if self.is_there(index) {
                 // The part that starts a branch comes before the others of it, so its standing is set already.
@@ -123,8 +126,8 @@ impl Parts {
         false
     }
 
-    /// Has a part stay, so it isn't proposed any more. If this stage leaves branches out as a whole, the parts of its
-    /// branch that are there stay too.
+    /// Has a part that is there stay, so it isn't proposed any more. If this stage leaves branches out as a whole, the
+    /// other parts of its branch that are there stay too. Does nothing past the end.
     fn spare(&mut self, index: usize, stage: Stage) {
         if index >= self.parts.len() {
             return;
@@ -138,8 +141,8 @@ impl Parts {
         }
     }
 
-    /// Has one writer stay of each thing that the ILLEGAL line shows: unless one stays already, the first that is
-    /// there.
+    /// For each thing that the ILLEGAL line shows, has one part stay that writes it: unless one stays already, the
+    /// first that is there, if any is.
     fn spare_writers(&mut self, stage: Stage) {
         for index in 0..self.parts.len() {
             // `is_there` is false past the end, but promises nothing, and the next line needs the bound.
@@ -166,14 +169,15 @@ impl Parts {
     /// Leaves out the parts that are proposed.
     fn leave_out(&mut self) {
         for index in 0..self.parts.len() {
+            // The bound always holds. It is tested for the list's access.
             if index < self.parts.len() && self.parts[index].standing == Standing::Proposed {
                 self.set(index, Standing::Out);
             }
         }
     }
 
-    /// Tells whether a line that belongs there is kept if what is proposed is left out: if it is one of a part that
-    /// stays, or of the call that returns on the ILLEGAL line.
+    /// Tells whether a line is kept if what is proposed is left out, by where it belongs, `line`: it is kept as one of
+    /// a part that stays, or of the call that returns on the ILLEGAL line.
     fn keeps(&self, line: Belongs) -> bool {
         match line {
             Belongs::Nowhere => false,
@@ -195,9 +199,9 @@ fn proposed_if(proposed: bool) -> Standing {
 }
 
 impl Cuts {
-    /// Returns the cuts of the record of this text, in which `numbered` happens. No order explains its events up to and
-    /// including the place. Nothing is proposed yet, so the lines that are kept are all of what happens up to there. If
-    /// the place is past the end, no line is kept.
+    /// Returns the cuts of the record of this text, whose events are `numbered`. No order explains those up to and
+    /// including `place`, an index in `numbered`. Nothing is proposed yet, so the lines that are kept are those of all
+    /// events up to there. If the place is past the end, no line is kept.
     ///
     /// May return `NoMemory`.
     pub fn of(
@@ -223,7 +227,8 @@ impl Cuts {
         })
     }
 
-    /// Tells whether there are few windows of this length, about `MANY` at most.
+    /// Tells whether there are few windows of this length, which is more than 1: at most `MANY`, or up to half as many
+    /// again, since the division rounds down.
     fn is_few(&self) -> bool {
         self.parts.count(self.stage) / MANY <= self.size
     }
@@ -291,8 +296,8 @@ impl Cuts {
         if self.to == 0 && !self.next_size() {
             return false;
         }
-        // Later windows come first. One that begins at the first part is the last of its size. It is shorter if fewer
-        // parts than a window are left before `to`.
+        // Later windows come first. One that begins at the first part is the last of its size, and has fewer parts than
+        // that if fewer are left before `to`.
         let from = self.to.saturating_sub(self.size);
         self.parts.propose_window(self.stage, from, self.to);
         self.to = if from == 0 {

@@ -105,6 +105,7 @@ fn shared_seen_of(
     match shown {
         Shown::Ok => Ok(ok.try_clone()?),
         Shown::None => Ok(none.try_clone()?),
+        // Each of the others has its own.
         _ => SharedSeen::of(alloc, seen_of(alloc, allowances, kind, shown)?),
     }
 }

@@ -19,8 +19,8 @@ use xa_lines::{push_number, push_reply};
 use xa_server::{Reply, XidList};
 use xa_xid::{NoMemory, SessionNo, copy_of};
 
-/// Appends what a return shows, as a reply, with rows as `CONVERT XID` prints them. Of a refusal it is `ERROR` and the
-/// number only.
+/// Appends what a return shows, as a reply, with rows as `CONVERT XID` prints them. A refusal is only `ERROR` and its
+/// number.
 fn push_shown(alloc: Global, out: &mut Vec<u8>, shown: &Shown) -> Result<(), NoMemory>
     ensures { OnOk result (out.new.items ≡ out.old.items ++ shown_text (shown_kept shown.now)) }
 {
@@ -69,7 +69,7 @@ fn calls(line_event: &LineEvent, session: SessionNo) -> bool
     }
 }
 
-/// Returns the session's last call in what happens, or None if it hasn't called.
+/// Returns the session's last call in `numbered`; None if it has no call there.
 #[tactic(auto, using(crate::proofs::Exchanged::call_found, crate::proofs::Exchanged::call_other, crate::proofs::Exchanged::call_last))]
 pub fn last_call_in<'n, 'a>(
     numbered: &'n [NumberedEvent<'a>],
@@ -129,7 +129,7 @@ fn exchange_with(
     }
 }
 
-/// What was seen at this place, and the last call of its session before that.
+/// What was seen at `place`, an index in `numbered`, and the last call of its session before that.
 #[tactic(auto, using(crate::proofs::Exchanged::exchange_there))]
 fn exchange_in(
     alloc: Global,
@@ -145,8 +145,8 @@ fn exchange_in(
     exchange_with(alloc, line_event, call)
 }
 
-/// What was seen at this place, and the last call of its session before that. Only the contract needs the events:
-/// there are as many as things that happen, so the place is one of both.
+/// What `exchange_in` returns. Only the contract needs `events`, those of `numbered`: there is one for each entry, so
+/// `place` is an index in both.
 fn exchange_again(
     alloc: Global,
     numbered: &[NumberedEvent],
@@ -161,8 +161,8 @@ fn exchange_again(
     exchange_in(alloc, numbered, place)
 }
 
-/// Returns what was seen at this place in the record of this text, and its call, the last one of the session before
-/// that place; None unless `sought`. The events are the record's, and only the contract needs them.
+/// Returns what was seen at `place` in the record of this text, and its call, the last one of the session before that
+/// place; None unless `sought`. `place` is an index in the record's events. Only the contract needs these, as `events`.
 ///
 /// May return `NoMemory`.
 pub fn exchange_for(

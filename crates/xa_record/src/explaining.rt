@@ -55,8 +55,8 @@ fn state_lines(
     with_listing(alloc, Vec::new(alloc), &store, rows.as_slice())
 }
 
-/// The order of these moves, which lead from `base` through the events before a place, and the store after it. `text`
-/// is the record's, and `events` are all of its events.
+/// The order of these moves, which lead from `base` through the events before `place`, and the store after that order.
+/// `text` is the record's, and `events` are all of its events, also those from `place` on.
 fn reason_by(
     alloc: Global,
     base: &Server,
@@ -99,9 +99,9 @@ fn moves_through<P: Progress>(
     }
 }
 
-/// An order that explains what happens in the record of this text before a place, and the store after it. Some order
-/// has to explain that. None only if more than `limit` different configurations have to be kept before one of its
-/// events.
+/// An order that explains the events before `place`, and the store after that order. Some order has to explain them.
+/// None only if more than `limit` different configurations have to be kept before one of them. `text` is the record's,
+/// and `events` are all of its events.
 fn reason_of<P: Progress>(
     alloc: Global,
     base: &Server,
@@ -125,9 +125,10 @@ fn reason_of<P: Progress>(
     }
 }
 
-/// Returns an order that explains what happens before this place in the record of this text, and the store after it.
-/// None if `asked` asks for no explanation, or for a smaller record, which stands in their place. Else None only if
-/// more than `asked.limit` different configurations have to be kept before an event.
+/// Returns an order that explains the events before `place`, and the store after that order. None if `asked` asks for
+/// no explanation, or for a smaller record, which stands in their place. Else None only if more than `asked.limit`
+/// different configurations have to be kept before one of these events. `text` is the record's, and `events` are all
+/// of its events.
 ///
 /// If the order is sought, the events before the place are judged once more, and `progress` is told how far that is.
 /// May return `NoMemory`.

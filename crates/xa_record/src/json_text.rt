@@ -74,7 +74,7 @@ fn write_lines(alloc: Global, writer: &mut Writer, text: &[u8]) -> Result<(), No
     writer.end_array()
 }
 
-/// Writes the key of the verdict and its value.
+/// Writes the key `verdict` with this word as its value.
 fn write_verdict(writer: &mut Writer, word: &str) -> Result<(), NoMemory>
     ensures tokens { OnOk result (writer.new.tokens ≡ writer.old.tokens
         ++ key (codes "verdict") ∷ string word.now ∷ []) }
@@ -84,7 +84,7 @@ fn write_verdict(writer: &mut Writer, word: &str) -> Result<(), NoMemory>
     writer.string(word)
 }
 
-/// Writes the key of the line's number and its value.
+/// Writes the key `line` with the number of this line as its value.
 fn write_line(writer: &mut Writer, line: u64) -> Result<(), NoMemory>
     ensures tokens { OnOk result (writer.new.tokens ≡ writer.old.tokens
         ++ key (codes "line") ∷ number (decimal line) ∷ []) }
@@ -94,7 +94,7 @@ fn write_line(writer: &mut Writer, line: u64) -> Result<(), NoMemory>
     writer.u64(line)
 }
 
-/// Writes the key of the possible answers and its value.
+/// Writes the key `could_be` with these texts, the possible answers, as its value.
 fn write_could_be(
     alloc: Global,
     writer: &mut Writer,
@@ -139,7 +139,7 @@ fn write_text_of(
     write_text(alloc, writer, text)
 }
 
-/// Writes the key of a smaller record, if one is given, and the end of the object.
+/// Writes a smaller record under its key, if one is given, and then the end of the object.
 fn end_with_smaller(
     alloc: Global,
     writer: &mut Writer,
@@ -158,8 +158,8 @@ fn end_with_smaller(
     }
 }
 
-/// Writes the keys of the order before a line and of the store after it, and that of a smaller record, if these are
-/// given, and the end of the object.
+/// Writes the order before a line and the store after that order, and a smaller record, each under its key, if it is
+/// given. Then writes the end of the object.
 fn end_with_reason(
     alloc: Global,
     writer: &mut Writer,
@@ -181,8 +181,8 @@ fn end_with_reason(
     }
 }
 
-/// Writes the key of the possible answers, those of the order, the store and the smaller record, if these are given,
-/// and the end of the object.
+/// Writes the possible answers, `texts`, then the order, the store and the smaller record, if `grounds` has these, each
+/// under its key. Then writes the end of the object.
 fn end_with_answers(
     alloc: Global,
     writer: &mut Writer,
@@ -199,7 +199,7 @@ fn end_with_answers(
     end_with_reason(alloc, writer, &grounds.reason, &grounds.smaller)
 }
 
-/// Writes the keys of what was seen, of its call, and of the number of the call's line.
+/// Writes what was seen, its call, and the number of the call's line, each under its key.
 fn write_exchange(alloc: Global, writer: &mut Writer, exchange: &Exchange) -> Result<(), NoMemory>
     ensures tokens { OnOk result (writer.new.tokens ≡ ((writer.old.tokens
         ++ key (codes "seen") ∷ json_tokens (text_value exchange.now.seen.items))
@@ -213,8 +213,9 @@ fn write_exchange(alloc: Global, writer: &mut Writer, exchange: &Exchange) -> Re
     writer.u64(exchange.line)
 }
 
-/// Writes the keys of an ILLEGAL verdict behind that of its line's number, and the end of the object: what was seen
-/// and its call, if these are given; the possible answers; then the order, the store and the smaller record, if given.
+/// Writes what an ILLEGAL verdict has behind its line's number, each under its key: what was seen and its call, if
+/// `grounds` has these; the possible answers, `texts`; then the order, the store and the smaller record, if `grounds`
+/// has these. Then writes the end of the object.
 fn end_with_grounds(
     alloc: Global,
     writer: &mut Writer,
@@ -237,7 +238,7 @@ fn end_with_grounds(
     }
 }
 
-/// Writes the keys of a report, and the end of the object.
+/// Writes the parts of a report, each under its key, and then the end of the object.
 fn write_members(alloc: Global, writer: &mut Writer, report: &Report) -> Result<(), NoMemory>
     ensures tokens { OnOk result (writer.new.tokens ≡ writer.old.tokens
         ++ members_tokens (report_members (report_kept report.now))) }

@@ -73,7 +73,7 @@ fn verdict_on<P: Progress>(
 }
 
 /// What is reported of the record of this text, which begins with `base`: its faulty lines if there are any; that it
-/// is empty if nothing happens in it; else the verdict.
+/// is empty if it has no event; else the verdict.
 fn report_on<P: Progress>(
     alloc: Global,
     base: &Server,
@@ -131,14 +131,14 @@ fn text_in(alloc: Global, form: Form, report: &Report) -> Result<Vec<u8>, NoMemo
     }
 }
 
-/// Judges the record of this text, which begins with this server, and returns how that ended and the text of
-/// the verdict.
+/// Judges the record of this text, which begins with the server `base`, and returns how that ended and the text of the
+/// verdict.
 ///
 /// `allowances` are known differences between the answers of the recorded server and the rules. The end is
 /// `Undecided` only if more than `asked.limit` different configurations have to be kept before an event. With
 /// `asked.explains` the part before an ILLEGAL line is judged once more; if that is undecided, neither an order nor
 /// the store is told. With `asked.shrinks` parts of an ILLEGAL record are judged instead, at most 1,000 times,
-/// and `progress` isn't told of that. If lines are faulty, or nothing happens, there is no verdict. With
+/// and `progress` isn't told of that. If lines are faulty, or there is no event, there is no verdict. With
 /// `asked.strict_calls` a call whose text isn't a statement is a faulty line. `progress` takes note of how far
 /// judging is.
 /// Errors: `NoMemory` if an allocation failed.
@@ -170,7 +170,7 @@ pub fn judge_text_from<P: Progress>(
 /// The end is `Undecided` only if more than `asked.limit` different configurations have to be kept before an event.
 /// With `asked.explains` the part before an ILLEGAL line is judged once more; if that is undecided, neither an
 /// order nor the store is told. With `asked.shrinks` parts of an ILLEGAL record are judged instead, at most
-/// 1,000 times, and `progress` isn't told of that. If lines are faulty, or nothing happens, there is no verdict. With
+/// 1,000 times, and `progress` isn't told of that. If lines are faulty, or there is no event, there is no verdict. With
 /// `asked.strict_calls` a call whose text isn't a statement is a faulty line. `progress` takes note of how far
 /// judging is.
 /// Errors: `NoMemory` if an allocation failed.

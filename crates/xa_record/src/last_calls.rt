@@ -5,7 +5,7 @@ ghost use Rattle.xa_record.specs.Kept.{told_kept, with_place};
 use crate::line_event::LineEvent;
 use xa_xid::SessionNo;
 
-/// At each session's number, the place of its last call among the events: None if it hasn't called. Place 0 belongs to
+/// At each session's number, the place of its last call among the events: None if it hasn't called. Index 0 belongs to
 /// no session.
 #[derive(Drop)]
 pub struct LastCalls {
@@ -20,7 +20,7 @@ impl LastCalls {
         LastCalls { places: [None; 17] }
     }
 
-    /// Takes note of what happens next, at this place: a call is its session's last from now on. All else changes
+    /// Takes note of the next event, at this place: a call is its session's last from now on. Any other event changes
     /// nothing.
     pub fn follow(&mut self, place: usize, line_event: &LineEvent)
         ensures { self.new.places ≡ with_place place (told_kept line_event.now) self.old.places }

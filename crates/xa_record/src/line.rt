@@ -22,9 +22,10 @@ pub enum RecordLine<'a> {
     Nothing,
     /// It doesn't have the form of any line of a record.
     Bad,
-    /// This happens.
+    /// This event.
     Happens(LineEvent<'a>),
-    /// A call of the session returns this value. `Shown` has it in a box, and reading a line takes no memory.
+    /// A call of the session returns this value. It isn't a `Shown` yet: that needs a box, and reading a line takes no
+    /// memory.
     Value(SessionNo, Bytes),
     /// A call of the session returns this many rows, which follow on the next lines.
     Rows(SessionNo, u64),
@@ -54,7 +55,7 @@ fn trimmed(text: &[u8]) -> &[u8]
     rest
 }
 
-/// The line of a return that shows this, if no text follows; else the line is bad.
+/// The line of a return that shows this, if `rest`, what follows on the line, is empty; else the line is bad.
 fn alone<'a>(session: SessionNo, shown: Shown<'a>, rest: &'a [u8]) -> RecordLine<'a>
     ensures { line_kept result ≡ alone (Says (Returns session (shown_kept shown.entry))) rest.now }
 {
@@ -65,7 +66,7 @@ fn alone<'a>(session: SessionNo, shown: Shown<'a>, rest: &'a [u8]) -> RecordLine
     }
 }
 
-/// The line of a return that shows a value, if no text follows; else the line is bad.
+/// The line of a return that shows a value, if `rest`, what follows on the line, is empty; else the line is bad.
 fn value_alone(session: SessionNo, value: Bytes, rest: &[u8]) -> RecordLine<'_>
     ensures { line_kept result ≡ alone (Says (Returns session (ShowsValue (Some value)))) rest.now }
 {
@@ -113,6 +114,7 @@ fn error(session: SessionNo, text: &[u8]) -> RecordLine<'_>
     match leading_number(text) {
         None => RecordLine::Bad,
         Some(number) => {
+            // An error's number has 16 bits.
             if number < 65_536 {
                 RecordLine::Happens(LineEvent::Return(session, Shown::Error(number as u16)))
             } else {
@@ -122,8 +124,8 @@ fn error(session: SessionNo, text: &[u8]) -> RecordLine<'_>
     }
 }
 
-/// The line of a return, by the word after `<` and the text after that. It is bad if the word isn't one of these five,
-/// or the text doesn't fit it.
+/// The line of a return, by the word after `<` and the text after that. It is bad if the word isn't `OK`, `NONE`,
+/// `VALUE`, `ROWS` or `ERROR`, or if the text doesn't fit the word.
 #[tactic(auto, unfolding(crate::specs::Lines::return_said))]
 fn returned<'a>(session: SessionNo, word: &[u8], text: &'a [u8]) -> RecordLine<'a>
     ensures { line_kept result ≡ return_said session word.now text.now }
@@ -172,7 +174,8 @@ fn loss<'a>(session: SessionNo, word: &[u8], text: &'a [u8]) -> RecordLine<'a>
     }
 }
 
-/// What the line of a session says, by its sign and the text after that. With any other sign the line is bad.
+/// What the line of a session says, by its sign and the text after that. With a sign other than `>`, `<`, `?` and `!`
+/// the line is bad.
 #[tactic(auto, unfolding(crate::specs::Lines::session_said))]
 fn session_line<'a>(session: SessionNo, sign: &[u8], text: &'a [u8]) -> RecordLine<'a>
     ensures { line_kept result ≡ session_said session sign.now text.now }

@@ -1,4 +1,4 @@
-//! What happens to the sessions of a record.
+//! The events of a record, as its lines say them.
 ghost use Rattle.std.specs.Prelude.{◌≡◌, Some, option_copied};
 ghost use Rattle.xa_record.specs.Reading.{session_of, presence_after, cause_of, is_return_of};
 ghost use Rattle.xa_record.specs.Reading.{fault_called};
@@ -10,7 +10,7 @@ use crate::shown::Shown;
 use xa_statement::read_statement;
 use xa_xid::SessionNo;
 
-/// What happens to a session.
+/// An event of a session, as a line says it.
 #[derive(Drop)]
 pub enum LineEvent<'a> {
     /// It calls for this text.
@@ -23,7 +23,7 @@ pub enum LineEvent<'a> {
     Lost(SessionNo),
 }
 
-/// What happens on the line of this number.
+/// An event, and the number of its line.
 #[derive(Drop)]
 pub struct NumberedEvent<'a> {
     pub number: u64,
@@ -31,7 +31,7 @@ pub struct NumberedEvent<'a> {
 }
 
 impl LineEvent<'_> {
-    /// Returns the session to which it happens.
+    /// Returns the session whose event it is.
     pub fn session(&self) -> SessionNo
         ensures { result ≡ session_of (told_kept self.now) }
     {

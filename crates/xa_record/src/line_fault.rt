@@ -10,9 +10,9 @@ use xa_xid::{NoMemory, SessionNo};
 pub enum LineFault {
     /// It doesn't have the form of any line of a record.
     NotALine,
-    /// A row has to follow, and it doesn't have the form of a row.
+    /// It is in the place of a row of a return, and doesn't have the form of a row.
     NotARow,
-    /// The record ends before all rows of this return.
+    /// It is a return, and the record ends before all of its rows have come.
     RowsMissing,
     /// The text of a call isn't a statement, and such texts are tested.
     NotAStatement,

@@ -43,9 +43,9 @@ pub struct LineGap {
     pub at: u64,
 }
 
-/// What has to come where only `rest` is left of a text.
+/// `wanted` and where it has to come: where only `rest`, an end of `text`, is left.
 pub fn gap(wanted: LineWanted, text: &[u8], rest: &[u8]) -> LineGap {
-    // `rest` is an end of `text`, so it isn't longer.
+    // `rest` isn't longer than `text`, so this is how many bytes of `text` come before it.
     let at = text.len().saturating_sub(rest.len()) as u64;
     LineGap { wanted, at }
 }

@@ -15,17 +15,17 @@ use std::alloc::Global;
 use xa_judge::{Event, Move};
 use xa_xid::NoMemory;
 
-/// Returns what happens in the record of this text.
+/// Returns the events of the record of this text, each with the number of its line.
 ///
 /// May return `NoMemory`.
 pub fn numbered_in(alloc: Global, text: &[u8]) -> Result<Vec<NumberedEvent<'_>>, NoMemory>
     ensures { IfOk result (λ numbered. map numbered_kept numbered.items ≡ (notes_of text.now).told) }
 {
-    // Testing the texts of calls would change only which lines are faulty, not what happens.
+    // Testing the texts of calls would change only which lines are faulty, not the events.
     Ok(read_notes(alloc, false, text)?.numbered)
 }
 
-/// The number of the line on which the event at this place happens, or 0 past the end.
+/// The number of the line of the event at `place`, an index in `numbered`. 0 past the end: lines are counted from 1.
 fn number_of(numbered: &[NumberedEvent], place: usize) -> u64
     ensures { result ≡ line_number_at (map numbered_kept numbered.now) place }
 {
@@ -36,7 +36,7 @@ fn number_of(numbered: &[NumberedEvent], place: usize) -> u64
     }
 }
 
-/// Returns the number of the line on which the event at this place happens, or 0 past the end.
+/// Returns the number, from 1, of the line of this text that says the event at `place`, counted from 0; 0 past the end.
 ///
 /// May return `NoMemory`.
 pub fn number_in(alloc: Global, text: &[u8], place: usize) -> Result<u64, NoMemory>
@@ -63,8 +63,8 @@ pub fn order_in(
     order_lines(alloc, numbered.as_slice(), events, moves)
 }
 
-/// The lines of the order of these moves, which go through what happens before this place. The events are those of all
-/// that happens.
+/// The lines of the order of these moves, which go through the events before this place, an index in `numbered`.
+/// `events` are those of `numbered`, also from the place on.
 fn order_up_to(
     alloc: Global,
     numbered: &[NumberedEvent],
@@ -80,8 +80,8 @@ fn order_up_to(
     order_lines(alloc, &numbered[..place], &events[..place], moves)
 }
 
-/// Returns the lines of the order of these moves, which go through what happens before this place in the record of
-/// this text. The events are those of the whole record.
+/// Returns the lines of the order of these moves, which go through the events before this place, counted from 0, of the
+/// record of this text. `events` are those of the whole record.
 ///
 /// May return `NoMemory`.
 pub fn order_before(

@@ -34,7 +34,7 @@ fn put_in_row_of(keys: &mut BTreeSet<Key>, statement: &Statement) -> Result<(), 
     }
 }
 
-/// Adds the row that the event's statement names, if it is a call of one that names a row.
+/// Adds the row that a call's statement names. Adds nothing if the event isn't a call, or names no row.
 fn put_in_row_called(keys: &mut BTreeSet<Key>, event: &Event) -> Result<(), NoMemory>
     ensures { OnOk result (keys.new.keys ≡ with_row_called event.now keys.old.keys) }
 {

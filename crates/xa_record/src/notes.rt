@@ -22,13 +22,13 @@ use xa_xid::{NoMemory, SessionNo, skip_blanks};
 /// What was read of a record so far.
 #[derive(Drop)]
 pub struct Notes<'a> {
-    /// What happens, in order.
+    /// The events, in order, each with the number of its line.
     pub numbered: Vec<NumberedEvent<'a>>,
     /// What is written for faulty lines.
     pub faults: Vec<u8>,
-    /// At each session's number, what the lines say of it. Place 0 belongs to no session.
+    /// At each session's number, what the lines say of it. Index 0 belongs to no session.
     pub presence: [Presence; 17],
-    /// Rows that are still to come.
+    /// The return of which rows are still to come; None if no rows are.
     pub pending: Option<Pending<'a>>,
 }
 
@@ -78,14 +78,14 @@ impl<'a> Notes<'a> {
         self.faults.extend_from_slice(faults)
     }
 
-    /// What the lines before say of the session. It isn't None, since each session's number is a place of the array.
+    /// What the lines before say of the session. It isn't None, since each session's number is an index of the array.
     fn presence_of(&self, session: SessionNo) -> Option<&Presence>
         ensures { option_copied result ≡ slice_get self.now.presence session }
     {
         self.presence.get(session.get() as usize)
     }
 
-    /// Notes that this happens on the line of this number. If it can't, by what the lines before say of its session,
+    /// Notes this event of the line of this number. If what the lines before say of its session rules the event out,
     /// notes instead that the line is faulty.
     #[tactic(auto, unfolding(crate::specs::Reading::noted_if))]
     fn note(&mut self, number: u64, line_event: LineEvent<'a>) -> Result<(), NoMemory>
@@ -103,7 +103,8 @@ impl<'a> Notes<'a> {
         }
     }
 
-    /// Returns the fault of a call whose text isn't a statement, unless its line is faulty anyway.
+    /// Returns the fault of a call whose text isn't a statement, unless its line is faulty anyway. None for any other
+    /// line.
     fn call_fault(&self, line_event: &LineEvent<'a>) -> Option<LineFault>
         ensures { result ≡ beyond
             (cause_of (slice_get self.now.presence (session_of (told_kept line_event.now))) (told_kept line_event.now))
@@ -115,8 +116,9 @@ impl<'a> Notes<'a> {
         }
     }
 
-    /// Notes that this happens on the line of this number, or that the line is faulty. If `strict`, a call whose
-    /// text isn't a statement is faulty too, and counts as made.
+    /// Notes this event of the line of this number, or that the line is faulty, as `note` does. If `strict`, the line
+    /// of a call whose text isn't a statement is noted as faulty; the call is noted all the same, so that its return
+    /// isn't faulty.
     fn note_strictly(
         &mut self,
         strict: bool,
@@ -149,8 +151,8 @@ impl<'a> Notes<'a> {
             Some(fault) => self.blame(number, fault),
             None => {
                 self.presence[session.get() as usize] = Presence::Lost;
-                // The loss goes right behind the last return, since it may have happened at any time after that: so
-                // before an open call. Without a return it goes to the beginning.
+                // The loss is put right behind the session's last return, since it may have come at any time after
+                // that: so before an open call. Without a return it is put at the beginning.
                 let place = up_to_return(self.numbered.as_slice(), session);
                 self.numbered
                     .insert(place, NumberedEvent { number, line_event })?;
@@ -159,8 +161,8 @@ impl<'a> Notes<'a> {
         }
     }
 
-    /// Notes that the call returns its rows, which have all come, or that the line of its return is faulty. That comes
-    /// before the faulty lines among the rows, which are noted in both cases.
+    /// Notes that the call returns its rows, which have all come, or that the line of its return is faulty. The faulty
+    /// lines among the rows are noted after that in both cases.
     fn finish(&mut self, pending: Pending<'a>) -> Result<(), NoMemory>
         ensures { OnOk result (notes_kept self.new ≡ returned (notes_kept self.old) (awaited_kept pending.entry)) }
     {
@@ -187,7 +189,8 @@ impl<'a> Notes<'a> {
         }
     }
 
-    /// Takes a line that comes in the place of a row. If it isn't a row it is faulty, and counts as one that has come.
+    /// Takes a line that comes in the place of a row. If it isn't a row, it is faulty. In both cases one row fewer is
+    /// still to come.
     #[tactic(auto, using(crate::proofs::RowTexts::rows_behind), unfolding(crate::specs::Reading::with_row))]
     fn take_row(
         &mut self,

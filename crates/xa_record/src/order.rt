@@ -84,8 +84,8 @@ fn push_called(
     }
 }
 
-/// Appends what is called for at this place. Appends nothing if there is no place, if it is past the end, or if it
-/// isn't that of a call. `events` are those of `numbered`, one for each.
+/// Appends what is called for at `place`, an index in `numbered`. Appends nothing if `place` is None or past the end,
+/// or if no call is there. `events` are those of `numbered`, one for each.
 fn push_called_at(
     alloc: Global,
     out: &mut Vec<u8>,
@@ -109,8 +109,8 @@ fn push_called_at(
     }
 }
 
-/// Appends what the session's act carries out: the statement that it called for last, whose place `calls` has; or
-/// `DISCONNECT`, after its client is gone.
+/// Appends what the session's act carries out: the statement that the session called for last, at the place that
+/// `calls` has for it, or `DISCONNECT`, after its client is gone. `events` are those of `numbered`.
 #[tactic(auto, using(crate::proofs::Effects::text_of_last))]
 fn push_act(
     alloc: Global,
@@ -131,7 +131,8 @@ fn push_act(
     }
 }
 
-/// Appends the line of an effect: the session's number, a blank, and what its act carries out.
+/// Appends the line of an effect: the session's number, a blank, and what its act carries out, as `push_act` writes
+/// it.
 fn push_effect(
     alloc: Global,
     out: &mut Vec<u8>,
@@ -151,8 +152,9 @@ fn push_effect(
     out.extend_from_slice(b"\n")
 }
 
-/// Appends the line of a move, if it is an effect. A move that goes over the event at `place` notes its call in `calls`
-/// instead. Past the end it does nothing. Returns the place of the next event. `events` are those of `numbered`.
+/// Appends the line of a move, if it is an effect. A move that goes over the event at `place` has `calls` note it
+/// instead, if it is a call; past the end that move does nothing. Returns the place of the next event: one more than
+/// `place` if the move went over an event, and else `place`. `events` are those of `numbered`.
 fn push_move(
     alloc: Global,
     out: &mut Vec<u8>,

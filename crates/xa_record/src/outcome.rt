@@ -11,6 +11,6 @@ pub enum Outcome {
     Undecided,
     /// Lines of it are faulty, so there is no verdict.
     Faulty,
-    /// Nothing happens in it, so there is nothing to judge.
+    /// It has no event, so there is nothing to judge.
     Empty,
 }

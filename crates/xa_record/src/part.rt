@@ -3,7 +3,7 @@
 /// Whether a part is there.
 #[derive(Clone, Copy, Debug, PartialEq, Eq)]
 pub enum Standing {
-    /// It was left out.
+    /// It was left out; or it is the call that returns on the ILLEGAL line, which is kept in any case.
     Out,
     /// It is there.
     In,
@@ -25,10 +25,10 @@ pub enum Does {
 /// A call with its return, or the loss of a client.
 #[derive(Clone, Copy, Debug, PartialEq, Eq)]
 pub struct Part {
-    /// Which of the things it writes that the ILLEGAL line shows, as `Sought::written_by` numbers them from 1; 0 if it
-    /// writes none.
+    /// The number of the thing that it writes, among those that the ILLEGAL line shows, as `Sought::written_by` counts
+    /// them from 1; 0 if it writes none of them.
     pub writes: usize,
-    /// The part that starts its branch, or its own number if it belongs to no branch.
+    /// The number, from 0, of the part that starts its branch; its own number if it starts one, or belongs to none.
     pub start: usize,
     /// What it does.
     pub does: Does,
@@ -39,7 +39,7 @@ pub struct Part {
 /// Where a line belongs.
 #[derive(Clone, Copy, Debug, PartialEq, Eq)]
 pub enum Belongs {
-    /// To no part: it is blank or a comment, or what it says happens behind the ILLEGAL line.
+    /// To no part: it is blank or a comment, or its event comes behind that of the ILLEGAL line.
     Nowhere,
     /// To the part of this number, from 0.
     Part(usize),

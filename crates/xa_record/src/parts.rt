@@ -17,7 +17,7 @@ pub struct Parts {
     pub lines: Vec<Belongs>,
     /// The parts, in the order in which they happen.
     pub parts: Vec<Part>,
-    /// At each session's number, the part of its last call. Place 0 belongs to no session.
+    /// At each session's number, the part of its last call. Index 0 belongs to no session.
     calls: [Option<usize>; 17],
 }
 
@@ -40,8 +40,8 @@ impl Parts {
         })
     }
 
-    /// Adds a part of the branch that the part `start` starts; `writes` is as in `Part`. The part counts as one that
-    /// changes something until its return shows more.
+    /// Adds a part, which is taken to change something until its return shows more. `start` is the part that starts its
+    /// branch, and `writes` is as in `Part`.
     fn add(&mut self, writes: usize, start: usize) -> Result<(), NoMemory> {
         self.parts.push(Part {
             writes,
@@ -67,8 +67,8 @@ impl Parts {
         }
     }
 
-    /// Takes note of what happens next: adds a part for a call or a loss, and puts the line of a return to its call.
-    /// `sought` is what the ILLEGAL line shows.
+    /// Takes note of the next event: adds a part for a call or a loss, and puts the line of a return to its call.
+    /// `sought` is what the ILLEGAL line shows, and `branches` are those so far, which follow too.
     fn follow(
         &mut self,
         one: &NumberedEvent,
@@ -92,7 +92,7 @@ impl Parts {
                     self.set_done(*session, does);
                 }
             }
-            // What it did isn't known, so it still counts as one that changes something.
+            // What the call did isn't known, so it is still taken to change something.
             LineEvent::Unknown(session) => self.put_return(one.number, *session),
             LineEvent::Lost(session) => {
                 let start = branches.lose(*session, part);
@@ -113,16 +113,17 @@ impl Parts {
         }
     }
 
-    /// Changes whether a part is there.
+    /// Changes whether a part is there. Does nothing past the end.
     pub fn set(&mut self, index: usize, standing: Standing) {
         if index < self.parts.len() {
             self.parts[index].standing = standing;
         }
     }
 
-    /// Keeps the lines of a part in any case. The part itself counts as left out, so that no window proposes it.
+    /// Keeps the lines of a part in any case. The part itself is marked as left out, so that no window proposes it.
     fn keep(&mut self, part: usize) {
         for index in 0..self.lines.len() {
+            // The bound always holds. It is tested for the list's access.
             if index < self.lines.len() && self.lines[index] == Belongs::Part(part) {
                 self.lines[index] = Belongs::Illegal;
             }
@@ -137,13 +138,14 @@ impl Parts {
         }
     }
 
-    /// Puts each line of a row of `text`, the record's, to where the line of its return belongs, which is set already.
+    /// Puts each line of `text`, the record's, that is in the place of a row to where the line of the row's return
+    /// belongs, which is set already.
     fn put_rows(&mut self, text: &[u8]) {
         let mut rest = text;
         let mut due: u64 = 0;
         let mut belongs = Belongs::Nowhere;
         for index in 0..self.lines.len() {
-            // There is an entry for each line of the text, so neither comes.
+            // There is an entry for each line of the text, so neither is ever so.
             if rest.is_empty() || index >= self.lines.len() {
                 return;
             }
@@ -160,8 +162,9 @@ impl Parts {
         }
     }
 
-    /// Returns the parts of the record of this text, in which `numbered` happens, up to and including this place. The
-    /// lines of the call that returns there are kept in any case. Past the end there are no parts.
+    /// Returns the parts of the record of this text, whose events are `numbered`, up to and including `place`, an
+    /// index in `numbered`. The lines of the call that returns there are kept in any case. Past the end there are no
+    /// parts.
     ///
     /// May return `NoMemory`.
     pub fn of(
@@ -188,7 +191,8 @@ impl Parts {
     }
 }
 
-/// What a call does that returns this.
+/// What a call does that returns this. Only calls that read show a value, that there is none, or rows; and only calls
+/// that are refused show an error. `OK` tells no more than that the call was carried out.
 fn done_by(shown: &Shown) -> Does {
     match shown {
         Shown::Ok => Does::Changes,

@@ -25,7 +25,7 @@ fn push_texts(out: &mut Vec<u8>, texts: &BTreeSet<Vec<u8>>) -> Result<(), NoMemo
     Ok(())
 }
 
-/// Appends a word, `line` and the number of a line.
+/// Appends a word, `line`, the number of a line, and a line feed.
 fn push_line(out: &mut Vec<u8>, word: &[u8], number: u64) -> Result<(), NoMemory>
     ensures { OnOk result (out.new.items ≡ out.old.items ++ line_text word.now number) }
 {
@@ -35,7 +35,7 @@ fn push_line(out: &mut Vec<u8>, word: &[u8], number: u64) -> Result<(), NoMemory
     out.extend_from_slice(b"\n")
 }
 
-/// Appends the order before a line and the store after it, if these are given.
+/// Appends the order before a line and the store after that order, each below its word, if they are given.
 fn push_reason(out: &mut Vec<u8>, reason: &Option<Reason>) -> Result<(), NoMemory>
     ensures { OnOk result (out.new.items ≡ out.old.items ++ reason_text (option_map reason_kept reason.now)) }
 {

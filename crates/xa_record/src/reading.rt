@@ -8,7 +8,7 @@ use std::alloc::Global;
 use xa_lines::split_line;
 use xa_xid::NoMemory;
 
-/// Reads a record, which is cut into lines as a script is: what happens in it, and its faulty lines. If `strict`, a
+/// Reads a record, which is cut into lines as a script is: its events, and its faulty lines. If `strict`, a
 /// call whose text isn't a statement is a faulty line.
 ///
 /// May return `NoMemory`. Doesn't wait.

@@ -3,7 +3,7 @@
 /// What explains an ILLEGAL verdict.
 #[derive(Drop)]
 pub struct Reason {
-    /// An order that explains what is before its line: the order's lines.
+    /// The lines of an order that explains what is before the verdict's line.
     pub order: Vec<u8>,
     /// The store after that order: the lines of its listing.
     pub state: Vec<u8>,

@@ -23,7 +23,8 @@ use xa_lines::push_reply;
 use xa_server::Server;
 use xa_xid::NoMemory;
 
-/// The text of an answer: a reply as `run` prints it, with rows as `CONVERT XID` prints them.
+/// The text of an answer: a reply as `run` prints it, with rows as `CONVERT XID` prints them. For a text that isn't a
+/// statement it is the number alone, without what `run` prints behind it.
 fn answer_text(alloc: Global, answer: &Answer) -> Result<Vec<u8>, NoMemory>
     ensures { IfOk result (λ text. text.items ≡ text_of_answer answer.now) }
 {
@@ -38,7 +39,7 @@ fn answer_text(alloc: Global, answer: &Answer) -> Result<Vec<u8>, NoMemory>
     Ok(text)
 }
 
-/// The text of an answer that several own.
+/// The text of an answer that is kept once for several owners, as `answer_text` writes it.
 fn shared_text(alloc: Global, answer: &SharedAnswer) -> Result<Vec<u8>, NoMemory>
     ensures { IfOk result (λ text. text.items ≡ text_of_answer answer.now) }
 {
@@ -58,10 +59,10 @@ fn answer_texts(alloc: Global, answers: &[SharedAnswer]) -> Result<BTreeSet<Vec<
     Ok(texts)
 }
 
-/// What is told beside the answers of an ILLEGAL verdict at this place, each if `asked` asks for it: what was seen and
-/// its call, an order before the place and the store after it, a smaller record. The order and the store are left out
-/// if a smaller record is asked for, or if `asked.limit` is too small to find them, and the smaller record if none is
-/// found.
+/// What is told beside the answers of an ILLEGAL verdict at `place`, an index in `events`, each if `asked` asks for it:
+/// what was seen there and its call; an order of what comes before, and the store after that order; a smaller record.
+/// The order and the store are left out if a smaller record is asked for, or if `asked.limit` is too small to find
+/// them, and the smaller record if none is found.
 fn grounds_for<P: Progress>(
     alloc: Global,
     base: &Server,
@@ -88,8 +89,7 @@ fn grounds_for<P: Progress>(
     })
 }
 
-/// Returns what is reported of a verdict on the record of this text, whose events these are, and which begins
-/// with this server.
+/// Returns what is reported of a verdict on the record of this text, which begins with `base` and has these events.
 ///
 /// May return `NoMemory`.
 pub fn report_of<P: Progress>(

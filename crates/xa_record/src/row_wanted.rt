@@ -26,7 +26,7 @@ fn gap_at_digits(text: &[u8], digits: &[u8]) -> LineGap {
     }
 }
 
-/// What has to come in the place of a row, if this text isn't one. It doesn't begin with a blank.
+/// What has to come in `text`, which stands in the place of a row and isn't one. It doesn't begin with a blank.
 fn gap_in_row(text: &[u8]) -> LineGap {
     // Where a whole line of a record comes, rows were left out or counted wrong. A row begins with a number, so a text
     // without one is no begun row.

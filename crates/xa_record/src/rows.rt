@@ -17,8 +17,8 @@ pub fn behind_word(text: &[u8]) -> &[u8]
     skip_blanks(split_word(text).1)
 }
 
-/// Returns the number of the text's first digits. None if it doesn't begin with digits, if they have a leading zero, or
-/// if the number isn't below 2^64.
+/// Returns the number of the text's first digits. None if it doesn't begin with digits, if the first of several digits
+/// is 0, or if the number isn't below 2^64.
 #[tactic(auto, unfolding(crate::specs::Rows::leading_number))]
 pub fn leading_number(text: &[u8]) -> Option<u64>
     ensures { result ≡ leading_number_of text.now }
@@ -106,7 +106,7 @@ fn row_in(first: &[u8], second: &[u8], third: &[u8], fourth: &[u8]) -> Option<Xi
     }
 }
 
-/// Returns the identifier of a row, if the text is one. The text doesn't begin with a blank.
+/// Returns the identifier of a row; None if the text isn't a row. The text doesn't begin with a blank.
 ///
 /// Takes no memory. Doesn't wait.
 /// Own rule: docs/HISTORIES.md#records.

@@ -39,7 +39,7 @@ fn write_judged<W: PieceWriter>(writer: &mut W, judged: &Judged) -> Result<Outco
 }
 
 /// Judges a record that begins with this server: reads all of it, and writes the verdict, or its faulty lines,
-/// or that nothing happens in it.
+/// or that it has no event.
 ///
 /// A record has at most 16,777,216 bytes, and takes at most 33,554,432 reads. `base`, `allowances`, `asked` and
 /// `progress` are as `judge_text_from` takes them. The writer isn't flushed.
@@ -91,8 +91,7 @@ pub fn judge_record_from<R: PieceReader, W: PieceWriter, P: Progress>(
     write_judged(writer, &judged)
 }
 
-/// Judges a record: reads all of it, and writes the verdict, or its faulty lines, or that nothing happens in
-/// it.
+/// Judges a record: reads all of it, and writes the verdict, or its faulty lines, or that it has no event.
 ///
 /// A record has at most 16,777,216 bytes, and takes at most 33,554,432 reads. The server holds nothing at
 /// first. `allowances`, `asked` and `progress` are as `judge_text` takes them. The writer isn't flushed.

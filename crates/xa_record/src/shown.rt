@@ -8,9 +8,9 @@ use xa_xid::Bytes;
 pub enum Shown<'a> {
     /// The statement was carried out.
     Ok,
-    /// A row has no value.
+    /// The row that was read has no value.
     None,
-    /// The value of a row.
+    /// The value of the row that was read.
     Value(Box<Bytes>),
     /// The texts of the identifiers of prepared branches, in the order of their lines.
     Rows(Box<Vec<&'a [u8]>>),

@@ -17,8 +17,8 @@ use xa_judge::{Event, Verdict, judge};
 use xa_server::Server;
 use xa_xid::NoMemory;
 
-/// How often part of a record is judged at most, after the first judging, in which only what happens behind the ILLEGAL
-/// line is left out: 1,000 times in all. To leave out all but ten of thousands of calls takes some hundreds of
+/// How often part of a record is judged at most, after the first judging, in which only the events behind the
+/// ILLEGAL line are left out: 1,000 times in all. To leave out all but ten of thousands of calls takes some hundreds of
 /// judgings, most of them of short records.
 const MOST_TRIES: u32 = 999;
 
@@ -49,8 +49,8 @@ fn is_refuted_at_last(
     Ok(is_at_last(&verdict, events.len()))
 }
 
-/// True only if no line of this text is faulty, and no order explains what happens in it, but some order all but the
-/// last of that. False may also mean that it isn't decided within the limit.
+/// True only if no line of this text is faulty, and no order explains its events, but some order explains all but the
+/// last of them. False may also mean that it isn't decided within the limit.
 fn is_unexplained(
     alloc: Global,
     base: &Server,
@@ -68,7 +68,7 @@ fn is_unexplained(
     is_refuted_at_last(alloc, base, asked.limit, events.as_slice())
 }
 
-/// The record of the lines of a text at whose places `keeps` is true, if `is_unexplained` is true of it; else None.
+/// The record of the lines of a text at whose index `keeps` is true, if `is_unexplained` is true of it; else None.
 fn smaller_by(
     alloc: Global,
     base: &Server,
@@ -89,7 +89,7 @@ fn smaller_by(
 }
 
 /// The smallest record that these cuts lead to in at most `MOST_TRIES` tries, fewer if nothing is left to propose.
-/// None if `is_unexplained` is false even of the first record, which lacks only what happens behind the ILLEGAL line,
+/// None if `is_unexplained` is false even of the first record, which lacks only the events behind the ILLEGAL line,
 /// blank lines and comments.
 fn smallest_by(
     alloc: Global,
@@ -120,8 +120,8 @@ fn smallest_by(
     Ok(smallest)
 }
 
-/// The smallest record that is found of this text, in which no order explains what happens up to and including this
-/// place. None if none is found.
+/// The smallest record of lines of `text` that `smallest_by` finds; None if it finds none. No order explains the
+/// events of `text` up to and including `place`, counted from 0.
 fn smallest_of(
     alloc: Global,
     base: &Server,
@@ -138,11 +138,11 @@ fn smallest_of(
     smallest_by(alloc, base, allowances, asked, text, &mut cuts)
 }
 
-/// Returns a smaller record that no order explains either: calls of the record of this text are left out, and what is
-/// left is judged again. None if `asked` asks for none, or none is found.
+/// Returns a smaller record that no order explains either: calls of the record of this text are left out, if any can
+/// be, and what is left is judged again. None if `asked` asks for none, or none is found.
 ///
-/// The record begins with `base`, and no order explains what happens up to and including this place. Parts of the
-/// record are judged at most 1,000 times, each within `asked.limit`; one that is UNDECIDED isn't taken.
+/// The record begins with `base`, and no order explains its events up to and including `place`, counted from 0.
+/// Parts of the record are judged at most 1,000 times, each within `asked.limit`; one that is UNDECIDED isn't taken.
 /// May return `NoMemory`.
 pub fn smaller_for(
     alloc: Global,

@@ -8,12 +8,12 @@ use std::alloc::Global;
 use xa_statement::read_statement;
 use xa_xid::{Bytes, Key, NoMemory, Statement, Xid, copy_of};
 
-/// What an ILLEGAL line shows that a call has to write.
+/// The value or the prepared branches that an ILLEGAL line shows: calls have to write them.
 #[derive(Drop)]
 pub enum Sought {
-    /// Nothing.
+    /// The line shows neither.
     Nothing,
-    /// The value of a row.
+    /// The key of a row, and its value.
     Value(Key, Bytes),
     /// Prepared branches.
     Rows(Vec<Xid>),
@@ -54,7 +54,8 @@ fn number_among(xids: &[Xid], xid: &Xid) -> usize {
 }
 
 impl Sought {
-    /// What a return to this call shows that a call has to write. A value counts only if the call is a `GET`.
+    /// The value or the prepared branches that a return shows, where `call` is the one that returns. `Nothing` if it
+    /// shows something else, or a value though the call is no `GET`.
     fn of_return(
         alloc: Global,
         call: Option<&NumberedEvent>,
@@ -63,16 +64,19 @@ impl Sought {
         match shown {
             Shown::Value(value) => match key_called(call) {
                 Some(key) => Ok(Sought::Value(key, copy_of(value))),
+                // No other statement returns a value, whatever was written.
                 None => Ok(Sought::Nothing),
             },
             Shown::Rows(rows) => Ok(Sought::Rows(rows_in(alloc, rows.as_slice())?)),
             Shown::Ok => Ok(Sought::Nothing),
+            // A row can have no value though no call deletes it.
             Shown::None => Ok(Sought::Nothing),
             Shown::Error(_) => Ok(Sought::Nothing),
         }
     }
 
-    /// Returns what the return at this place shows that a call has to write; `Nothing` if there is no return.
+    /// Returns the value or the prepared branches that the return at `place`, an index in `numbered`, shows. `Nothing`
+    /// if it shows neither, or if no return is there.
     ///
     /// May return `NoMemory`.
     pub fn at(alloc: Global, numbered: &[NumberedEvent], place: usize) -> Result<Sought, NoMemory> {
@@ -90,8 +94,8 @@ impl Sought {
         }
     }
 
-    /// Which of what is sought a statement writes: 1 if it puts the value into the row; of branches the place of the
-    /// one that it prepares, from 1; and else 0.
+    /// The number of what a statement writes of what is sought. It is 1 if it puts the value into the row. If branches
+    /// are sought, it is the place in their list, from 1, of the one that the statement prepares. Else it is 0.
     fn of_statement(&self, statement: &Statement) -> usize {
         match self {
             Sought::Nothing => 0,
@@ -108,8 +112,9 @@ impl Sought {
         }
     }
 
-    /// Returns which of what is sought a call of this text writes: 1 if it puts the value into the row; of branches the
-    /// place of the one that it prepares, from 1; and else 0.
+    /// Returns the number of what a call of this text writes of what is sought. It is 1 if the call puts the value
+    /// into the row. If branches are sought, it is the place in their list, from 1, of the one that the call prepares.
+    /// Else it is 0.
     pub fn written_by(&self, text: &[u8]) -> usize {
         match read_statement(text) {
             Ok(statement) => self.of_statement(&statement),

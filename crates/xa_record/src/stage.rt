@@ -16,7 +16,7 @@ pub enum Stage {
 }
 
 impl Stage {
-    /// Returns what is tried after this, if anything is.
+    /// Returns what is tried after this; None if this is the last.
     pub fn next(self) -> Option<Stage> {
         match self {
             Stage::Everything => Some(Stage::Refused),
@@ -27,7 +27,7 @@ impl Stage {
         }
     }
 
-    /// Tells whether branches stay or go as a whole.
+    /// Tells whether branches stay or go as a whole. They do so too when everything goes.
     pub fn takes_branches(self) -> bool {
         self == Stage::Everything || self == Stage::Branches
     }

@@ -17,7 +17,8 @@ fn start(server: &mut Server, branch: &OpenBranch) -> Result<(), NoMemory>
     carry_out(server, branch.session, &statement)
 }
 
-/// Brings a branch that was started to its phase: to IDLE by `XA END`, to PREPARED by `XA PREPARE` after that.
+/// Brings a branch that was started, and so is ACTIVE, to its phase: to IDLE by `XA END`, to PREPARED by `XA PREPARE`
+/// after that.
 fn end(server: &mut Server, branch: &OpenBranch) -> Result<(), NoMemory>
     ensures { OnOk result (server.new.rows ≡ server.old.rows) }
 {

@@ -25,12 +25,13 @@ pub fn first_difference(left: &[u8], right: &[u8]) -> u64 {
         if left_line != right_line || right_rest.is_empty() {
             return number;
         }
+        // A text has fewer than 2^64 lines, so it never saturates.
         number = number.saturating_add(1);
         left_rest = left_lines;
         right_rest = right_lines;
     }
-    // All lines of the first text are those of the second. So one text lacks the line feed of the last line compared,
-    // or further lines follow in the second. In the first case a line was compared, so `number` is more than 1.
+    // All lines of the first text are those of the second. If no line follows in the second, the texts differ only in
+    // the line feed of the last line compared. So one was compared, its number is `number - 1`, and that is at least 1.
     if right_rest.is_empty() {
         number.saturating_sub(1)
     } else {

@@ -41,7 +41,7 @@ fn value_of(text: &[u8]) -> Option<Bytes> {
     }
 }
 
-/// The session that owns a branch, if the text after its phase names one, from 1 to 16.
+/// The session that owns a branch, if the text after the branch's phase names one, from 1 to 16. Else None.
 fn owner_of(text: &[u8]) -> Option<SessionNo> {
     let number = number_in(text.strip_prefix(b" SESSION ")?)?;
     SessionNo::of(number)
@@ -51,6 +51,7 @@ fn owner_of(text: &[u8]) -> Option<SessionNo> {
 /// owner; session 1 prepares it, which is free then, since prepared branches are made first. None for any other text.
 fn branch_by(xid: Xid, text: &[u8]) -> Option<OpenBranch> {
     if text == b" PREPARED".as_slice() {
+        // 1 is the number of a session, so this isn't None.
         let session = SessionNo::of(1)?;
         return Some(OpenBranch {
             xid,
@@ -79,6 +80,7 @@ fn branch_by(xid: Xid, text: &[u8]) -> Option<OpenBranch> {
 fn branch_of(text: &[u8]) -> Option<StateLine> {
     match read_xid(text, 0) {
         Ok((xid, next)) => {
+            // `next` isn't past the end, so there is a text from there on, perhaps an empty one.
             let branch = branch_by(xid, text.get(next..)?)?;
             Some(StateLine::Branch(branch))
         }
@@ -112,7 +114,7 @@ fn row_of(text: &[u8]) -> Option<StateLine> {
     Some(StateLine::Row(key, value))
 }
 
-/// Reads a line of a state, without its line feed: a branch, a row that it holds, or a row and its value.
+/// Reads a line of a state, without its line feed: a branch, a row that a branch holds, or a row and its value.
 ///
 /// Returns None for any other line. `ROW key NONE`, which `show` prints, isn't taken: a state has only the rows that
 /// have a value.

@@ -12,7 +12,7 @@ use xa_lines::with_listing;
 use xa_server::Server;
 use xa_xid::{Key, NoMemory, SessionNo};
 
-/// Session 1. Any session will do for rows and prepared branches: it has nothing open before and after these.
+/// Session 1, which makes the rows. Any other would do: none has a branch open while rows are made.
 fn any_session() -> SessionNo {
     match SessionNo::of(1) {
         Some(session) => session,
@@ -43,8 +43,8 @@ fn are_same(left: &[u8], right: &[u8]) -> bool
     left == right
 }
 
-/// The number of the first line in which the text differs from the listing of the server, with these rows. None if the
-/// text is that listing.
+/// The number, from 1, of the first line in which the text differs from the listing of the server with the rows of
+/// these keys. None if the text is that listing.
 fn difference(
     alloc: Global,
     server: &Server,
@@ -68,8 +68,9 @@ fn difference(
 /// the listing of a store that holds nothing. The server is made by statements, and then listed; what is
 /// listed has to be the text.
 /// Errors: `Unread` with the number of the first line that isn't one of a state, such as `ROW key NONE`; `Differs` with
-/// the number of the first line that the server isn't listed with; `NoMemory` if an allocation failed.
-/// Takes memory for the server, and for its listing. Doesn't wait.
+/// the number of the first line in which the text differs from the server's listing; `NoMemory` if an allocation
+/// failed.
+/// Takes memory for the server, the keys of its rows, and its listing. Doesn't wait.
 /// Own rule: docs/HISTORIES.md#records-in-pieces.
 #[tactic(auto, using(crate::proofs::RowsLeft::is_listed))]
 pub fn read_state(alloc: Global, text: &[u8]) -> Result<Server, StateFault>

@@ -65,6 +65,7 @@ pub fn take_rows(
     let mut rest = text;
     while !rest.is_empty() {
         let (line, lines) = split_line(rest);
+        // A text has fewer than 2^64 lines, so it never saturates.
         number = number.saturating_add(1);
         take_line(server, session, keys, number, line)?;
         rest = lines;

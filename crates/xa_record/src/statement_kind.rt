@@ -5,7 +5,8 @@ ghost use Rattle.xa_record.specs.Allowances.{words_of, kind_of_statement, kind_o
 use xa_judge::Request;
 use xa_xid::Statement;
 
-/// A kind of statement: the words of its canonical form without identifiers, keys and values.
+/// A kind of statement: the words of its canonical form without identifiers, keys and values, and without
+/// `CONVERT XID`.
 ///
 /// Own rule: docs/HISTORIES.md#allowances.
 #[derive(Clone, Copy, Debug, PartialEq, Eq)]
@@ -25,7 +26,7 @@ pub enum StatementKind {
 }
 
 impl StatementKind {
-    /// Returns its words, with a blank between them.
+    /// Returns the words of this kind, with a blank between them.
     pub fn words(self) -> &'static [u8]
         ensures { result.now ≡ words_of self }
     {

@@ -1,5 +1,5 @@
-//! Calls are written in an order so that they are read back. These functions do nothing; their contracts
-//! state it.
+//! Calls are written in an order so that they are read back. These functions do nothing; their contracts state
+//! that.
 ghost use Rattle.std.specs.Prelude.{◌≢◌};
 ghost use Rattle.std.specs.List.{All};
 ghost use Rattle.xa_record.specs.Replaying.{IsFit, IsWrittenBack, IsWrittenCall};
@@ -9,7 +9,8 @@ use xa_statement::laws::canonical_text_is_spelled;
 use xa_xid::Statement;
 use xa_xid::laws::is_writable;
 
-/// Each identifier in the statement has parts of bytes, at most 64 each, as every identifier has.
+/// The identifier in the statement, if one is, can be written: its gtrid and bqual have at most 64 bytes each, and its
+/// formatID is below 2^64, as in every identifier.
 fn is_fit(statement: &Statement)
     ensures { IsFit statement.now }
 {

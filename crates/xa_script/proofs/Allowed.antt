@@ -1,4 +1,4 @@
--- What all that a reader gives allows.
+-- What holds of the bytes that a reader gave up to its end holds of all that it had.
 use Rattle.std.proofs.Common.{◌++◌, ◌∙◌, ℕ, Option, Some, None, List, IfSome, ap, sym, subst, append-nil}
 use Rattle.std.specs.Io.KnownBytes.{Consumes, IsAtEnd}
 

@@ -37,8 +37,8 @@ pub found : (words : List Text) (m : ArgMatches) (job : Job) → subcommand_rows
 found words m job is names = let P : Option (Text × List Row) → Type 0 = λ s. IsSomeAnd s (IsJob job) in
     subst P (sym is) names
 
--- if an error has the kind of the words' fault for a simple command, and that is the program's, it has the kind of
--- their fault for the program
+-- if `app` is the program's command line, and an error has the kind of the words' fault provided that `app` is
+-- simple, it has the kind of their fault for the program
 pub kind_of_script : (app : App) (words : List Text) (error : Error) → app ≡ script_app
     → (is_simple_and_free app ≡ true → HasKind (fault_of app words) error)
     → HasKind (fault_of script_app words) error
@@ -46,7 +46,8 @@ kind_of_script app words error is kinds =
     let P : App → Type 0 = λ a. HasKind (fault_of a words) error in
     subst P is (kinds (ap is_simple_and_free is ∙ simple_and_free))
 
--- if the words have no fault for a simple command, and that is the program's, they have none for the program
+-- if `app` is the program's command line, and the words have no fault provided that `app` is simple, they have none
+-- for the program
 pub no_fault_of_script : (app : App) (words : List Text) → app ≡ script_app
     → (is_simple_and_free app ≡ true → fault_of app words ≡ [])
     → fault_of script_app words ≡ []

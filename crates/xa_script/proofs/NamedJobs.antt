@@ -14,7 +14,7 @@ map_first : {S A B : Type 0} (f : S → A) (g : S → B) (s : Option S)
 map_first f g None = refl
 map_first f g (Some b) = refl
 
--- a pair that was found, by its two parts
+-- if the two parts of what was found are `n` and `r`, the pair of these was found
 both_parts : {A B : Type 0} (s : Option (A × B)) (n : A) (r : B) → Some n ≡ option_map (λ p. p.0) s
     → Some r ≡ option_map (λ p. p.1) s → s ≡ Some (n, r)
 both_parts None n r e f = cc

@@ -66,7 +66,7 @@ due_behind (Some old) new before text held given is none start empty =
     let front : old ++ before ≡ old = ap (λ (xs : List ℕ). old ++ xs) none ∙ append-nil old in
     subst P (sym is) (ap₂ (λ (xs ys : List ℕ). xs ++ ys) (sym front) more)
 
--- at most one more than so many: at most so many, or just one more
+-- a number that is at most one more than `taken` is at most `taken`, or just one more
 cases_le_at : (count taken : ℕ) → count ≤ taken + 1 → (count ≤ taken) ⊎ (count ≡ taken + 1)
 cases_le_at count taken within = elim (cases_lt taken count) [
   | inl more ↦ inr (omega arith)

@@ -10,7 +10,7 @@ use Rattle.xa_script.specs.Listing.{worse, worst_from, piece, pieces}
 use Rattle.xa_script.specs.Several.{IsVerdictOn, AreVerdicts, IsListing}
 use Rattle.xa_script.proofs.Audited.{taken_more}
 
--- the worst of several statuses and one more is the worse of both
+-- the worst of several statuses and one more is the worse of the several's worst and that one
 worst_more : (first : ℕ) (statuses : List ℕ) (status : ℕ)
     → worst_from first (statuses ++ status ∷ []) ≡ worse (worst_from first statuses) status
 worst_more first [] status = refl
@@ -65,8 +65,8 @@ none_listed base allowances asked tap before text is = record {
   text_is = is ∙ sym (append-nil before);
 }
 
--- one record more: its piece is written behind the others, and of its status and the one that counted before the worse
--- one counts
+-- if one record more is judged, its piece is written behind the others', and the worse of its status and the one that
+-- counted before counts
 listing_more : (base : State) (allowances : List Allowance) (asked : Asked) (tap : Bool) (before : List ℕ)
     (names records : List (List ℕ)) (name seen : List ℕ) (count status next : ℕ) (text more : List ℕ)
     (verdict : ℕ × List ℕ) → count ≡ length names → IsListing base allowances asked tap before names records status text

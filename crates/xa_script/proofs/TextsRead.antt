@@ -14,7 +14,7 @@ two_backslashes : {written bytes : List ℕ} → Quoted 39 written bytes → Quo
 unfolding escaped
 two_backslashes form = escape 92 form
 
--- one byte in front of a text in quotes: doubled if it is a quote or a backslash, else as it is
+-- a byte in front of a text in quotes is written twice if it is a quote or a backslash, and else as it is
 form_more : (byte : ℕ) (is_quote is_backslash : Bool) (front bytes : List ℕ) → (byte == 39) ≡ is_quote
     → (byte == 92) ≡ is_backslash
     → Quoted 39 (front ++ 39 ∷ []) bytes
@@ -47,7 +47,7 @@ read_quoted text fits complete =
     ∙ complete (quoted text.items ++ []) text.items [] (quoted_at text.items [] tt)
     ∙ ap (λ found. sized found []) (kept-fits text.items fits)
 
--- a literal in quotes or as it was, by a test: both are read as the same text
+-- if a literal is read as the same text in quotes and as it was, so is the one of both that a test chooses
 chosen : (word : List ℕ) (text : Text) (is_plain : Bool) → literal_ahead word ≡ Ok (text, [])
     → literal_ahead (quoted text.items) ≡ Ok (text, [])
     → literal_ahead (if is_plain then quoted text.items else word) ≡ Ok (text, [])

@@ -23,7 +23,8 @@ seed_read gives parses (Some text) (Some seed) none value =
     let p = parses text (Ok seed) (value text refl) in
     (p.0.0, p.1, subst (λ n. n < 2 ^ 64) (sym p.1) p.0.1)
 
--- an option's number is read as none only if the option isn't given
+-- an option's number is read as none only if the option isn't given, or its value is no number of 64 bits
+-- (`HasNoSeed`)
 pub none_read : {E : Type 0} (gives : List ℕ → Result ℕ E → Type 0)
     → ((text : Text) (r : Result ℕ E) → gives text r → ParsesUnsigned 64 10 text r)
     → (given : Option Text) (read : Option ℕ) → (given ≡ None → read ≡ None)
@@ -34,7 +35,7 @@ none_read gives parses (Some text) None none value is seed named =
     let failed = value text refl in
     parses text (Err failed.0) failed.1 (named.0, subst (λ n. n < 2 ^ 64) named.1 named.2)
 
--- the flag is read as given only where it is
+-- an option without a value is read as given only if it is there
 pub flag_read : {E : Type 0} (gives : List ℕ → Result Bool E → Type 0)
     → ((text : Text) (r : Result Bool E) → gives text r → ParsesBool text r)
     → (given : Option Text) (read : Option Bool) → (given ≡ None → read ≡ None)

@@ -208,8 +208,8 @@ IsSeedText seed text =
 abbrev pub HasNoSeed : Option Text → Type 0
 HasNoSeed shuffle = (seed : ℕ) → IsSomeAnd shuffle (IsSeedText seed) → ⊥
 
--- how the sessions come to their lines, by the values of `--together` and `--shuffle`; a seed counts before
--- `--together`
+-- how the sessions come to their lines, by the values of `--together` and `--shuffle`; with a seed `--together`
+-- changes nothing
 abbrev pub IsScheduleOf : (together shuffle : Option Text) → Schedule → Type 0
 IsScheduleOf together shuffle Freely = HasNoSeed shuffle × (together ≢ Some (codes "true"))
 IsScheduleOf together shuffle Together = HasNoSeed shuffle × (together ≡ Some (codes "true"))
@@ -301,7 +301,7 @@ ReadsCommand words answer =
     MatchResult answer (λ job. fault_of script_app words ≡ [])
     (λ error. HasKind (fault_of script_app words) error ⊎ ((job : Job) → Names words job → ⊥))
 
--- a log can have the capacity, there are 1 to 16 stores, and a limit and a number of runs are at most 1,000,000
+-- a log can have the capacity, there are 1 to 16 stores, and a limit and a number of runs are from 1 to 1,000,000
 abbrev pub CanBeDone : Job → Type 0
 CanBeDone Run = Unit {0}
 CanBeDone (Race capacity schedule renews runs) = IsCapacity capacity × IfSome runs IsLimit

@@ -6,12 +6,13 @@ use Rattle.std.specs.List.{list_any}
 use Rattle.xa_script.specs.declared.foreign.Foreign.{Foreign}
 use Rattle.xa_script.specs.declared.foreign.Foreign.TheVariants.{Marked, Utf16, Returns, Mixed}
 
--- the byte order mark of UTF-8
+-- the text begins with the byte order mark of UTF-8
 abbrev pub begins_with_mark : List ℕ → Bool
 begins_with_mark (one ∷ two ∷ three ∷ rest) = one == 239 && two == 187 && three == 191
 begins_with_mark text = false
 
--- a byte order mark of UTF-16, or two units of it whose greater halves, or whose smaller halves, are zero
+-- the text has at least four bytes, and begins with a byte order mark of UTF-16, or with two units of it whose first
+-- bytes, or whose second bytes, are both zero
 abbrev pub begins_as_utf16 : List ℕ → Bool
 begins_as_utf16 (one ∷ two ∷ three ∷ four ∷ rest) =
     (one == 255 && two == 254 || one == 254 && two == 255) || (one == 0 && three == 0 || two == 0 && four == 0)
@@ -31,7 +32,7 @@ goes_on returned [] = false
 goes_on returned (byte ∷ bytes) = returned && begins_line byte || goes_on (byte == 13) bytes
 
 -- the first of these forms that the text has: in UTF-16, behind a byte order mark, with carriage returns and no line
--- feed, or with what begins a line directly behind a carriage return
+-- feed, or with what begins a line directly behind a carriage return; None if it has none
 abbrev pub foreign_of : List ℕ → Option Foreign
 foreign_of text =
     if begins_as_utf16 text then Some Utf16

@@ -9,7 +9,7 @@
 --     HasConversed   how a job ends that answers line by line
 --     IsFlushed      how a job ends, and what it leaves, behind a flush
 --     HasDone        the same of any job that reads one input
---     IsLookedAt     the same where the lines that it reads are looked at
+--     IsLookedAt     the same where the lines that it reads are tested for faults
 -- Nothing here knows of `--verbose`, or of `--quiet` of `judge`: they change no byte of the output, as `--strict`
 -- doesn't, which changes a status alone (`HasListed`, `IsLookedAt`). `--quiet` of `audit` is in the audit's form.
 use Rattle.std.specs.Prelude.{◌≡◌, ◌⊎◌, ℕ, Bool, true, false, Option, Some, None, Result, Err, List, IfOk, IfSome, OnOk}
@@ -47,14 +47,15 @@ abbrev pub WritesAs : (json : Bool) → (Option (List ℕ) → Option (List ℕ)
 WritesAs true Writes old new = AppendsObjects Writes old new
 WritesAs false Writes old new = Writes old new
 
--- the script was run: the status is 0, and its transcript was written; or a fault left what `AfterFault` says
+-- the script was run: the status is 0, and its transcript was written, if the script is known; or a fault left what
+-- `AfterFault` says
 abbrev pub HasRun : (input old new : Option (List ℕ)) → End → Type 0
 HasRun input old new done =
     MatchResult done (λ status. (status ≡ 0) × IfSome input (λ script. Appends old new (transcript script)))
     (λ fault. AfterFault fault input old new)
 
--- the script was raced once, as `uncommented` leaves it: the status is 0, and what the race writes was written. Of a
--- fault nothing is said
+-- the script was raced once, as `uncommented` leaves it: the status is 0, and what the race writes was written, if
+-- the script is known. Of a fault nothing is said
 abbrev pub HasRaced : (json renews : Bool) → (capacity : ℕ) → (input old new : Option (List ℕ)) → End → Type 0
 HasRaced json renews capacity input old new done =
     IfOk done (λ status. (status ≡ 0) × IfSome input (λ script. WritesAs json (AppendsRaceBy renews capacity
@@ -121,12 +122,12 @@ HasListed base allowances asked strict tap names records old new done =
     MatchResult done (λ status. ListsAll base allowances asked strict tap names records status old new)
     (λ fault. AfterListing base allowances asked tap names records fault old new)
 
--- a conversation that isn't ended by a fault ends with 0; what it writes is a promise of `serve` to its client
+-- a conversation that isn't ended by a fault ends with 0; of what it writes nothing is said here
 abbrev pub HasConversed : End → Type 0
 HasConversed done = IfOk done (λ status. status ≡ 0)
 
 -- what a job leaves, behind a flush: the flush takes nothing away and adds nothing, and leaves nothing in the buffer
--- after a job that ended well; the end is the job's own, or a write fault
+-- if the result is a status; the result is the job's own end, or a write fault
 pub record IsFlushed {W A : Type 0} (contents : W → Option (List ℕ)) (Left : Option (List ℕ) → End → Type 0)
     (new : BufWriter W A) (result : End) : Type 0 where
   pub done : End
@@ -154,8 +155,8 @@ HasDone contents (Stops stores capacity) json base allowances input old new done
     IsFlushed contents (HasStopped json stores input old) new done
 HasDone contents (Audit object) json base allowances input old new done = ⊥
 
--- a job ended as `Done` says, and then its result was made by whether one of its lines was faulty (`end_of`): None if
--- memory was refused for looking at them
+-- a job ended as `Done` says, and then its result was made by whether one of its lines was faulty (`end_of`):
+-- `faulty` is None if memory was refused for finding that out
 pub record IsLookedAt {W A : Type 0} (strict : Bool) (Done : BufWriter W A → End → Type 0) (new : BufWriter W A)
     (result : End) : Type 0 where
   pub done : End

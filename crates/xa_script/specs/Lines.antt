@@ -17,7 +17,7 @@ use Rattle.xa_script.specs.declared.line_kind.LineKind.{LineKind}
 use Rattle.xa_script.specs.declared.line_kind.LineKind.TheVariants.{Statement, Raced, Explored, Call, Stopped, Record}
 use Rattle.xa_script.specs.declared.line_kind.LineKind.TheVariants.{Shown as ShownKind}
 
--- a race that is held `runs` times takes the words that divide a script
+-- the kind of the lines of a race: one that is held `runs` times also takes the words that divide a script
 abbrev pub kind_of_race : (runs : Option ℕ) → LineKind
 kind_of_race None = Raced
 kind_of_race (Some runs) = Explored

@@ -1,6 +1,6 @@
--- How the verdicts on several records are written, and which status counts. Every rule here is the project's own, but
--- the form of TAP: the Test Anything Protocol, version 13.
---     worse, worst_from    which of two statuses counts;  of many
+-- How the verdicts on several records are written, and with which status judging them ends. Every rule here is the
+-- project's own, but the form of TAP: the Test Anything Protocol, version 13.
+--     worse, worst_from    the worse of two statuses;  the worst of many
 --     listed_line          a record as a line
 --     tap_point, tap_piece      a record as a test of TAP, without notes and with them
 --     piece, pieces        what is written for one of several records;  for many
@@ -12,12 +12,13 @@ use Rattle.std.specs.Prelude.{Option, Some, None}
 use Rattle.std.specs.Prelude.{codes, decimal}
 use Rattle.xa_lines.specs.Script.{lines_of}
 
--- the least of two statuses that isn't 0: so ILLEGAL counts before UNDECIDED, then faulty lines, EMPTY, and LEGAL last
+-- the worse of two statuses: the least that isn't 0, or 0 if both are. ILLEGAL goes before UNDECIDED, then faulty
+-- lines, EMPTY, and LEGAL last
 abbrev pub worse : (one other : ℕ) → ℕ
 worse one other =
     if one == 0 then other else (if other == 0 then one else (if nat_lt other one then other else one))
 
--- the status that counts of many, and of one before them
+-- the worst of many statuses and of one before them
 abbrev pub worst_from : ℕ → List ℕ → ℕ
 worst_from first [] = first
 worst_from first (status ∷ statuses) = worst_from (worse first status) statuses
@@ -63,7 +64,7 @@ tap_sign status = if status == 0 then codes "ok " else codes "not ok "
 abbrev pub tap_point : (number status : ℕ) → (name : List ℕ) → List ℕ
 tap_point number status name = tap_sign status ++ (decimal number ++ (codes " - " ++ (tap_name name ++ 10 ∷ [])))
 
--- what is written for a record as a test of TAP: its line, and notes on what isn't ok
+-- what is written for a record as a test of TAP: its line, and below it what its verdict says, as comments (`notes_on`)
 abbrev pub tap_piece : (number : ℕ) → (name : List ℕ) → (status : ℕ) → (text : List ℕ) → List ℕ
 tap_piece number name status text = tap_point number status name ++ notes_on status text
 

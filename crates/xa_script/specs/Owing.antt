@@ -10,15 +10,16 @@ use Rattle.xa_script.specs.declared.line_form.LineForm.{LineForm}
 use Rattle.xa_script.specs.declared.texts.Texts.{Texts}
 use Rattle.xa_script.specs.TextLines.{unfed, is_fed, rows_after, ends_line, IsWrittenAs}
 
--- what was written, and then what is due
+-- what was written, and then what is still due
 abbrev pub sent_of : {W : Type 0} → (W → Option (List ℕ)) → Texts W → Option (List ℕ)
 sent_of contents texts = append_known (contents texts.inner) (drop texts.given texts.due.items)
 
--- what was written, then what is due, then what has come of the line
+-- what was written, then what is still due, then what has come of the line
 abbrev pub known_of : {W : Type 0} → (W → Option (List ℕ)) → Texts W → Option (List ℕ)
 known_of contents texts = append_known (contents texts.inner) (drop texts.given texts.due.items ++ texts.held.items)
 
--- a whole line, and what is written for it: a row stays as it is, and any other line says how many rows come next
+-- a whole line, and what is written for it. A row stays as it is, and `next`, the rows that are still to come, is one
+-- less than `rows`; any other line says how many rows come next
 pub record IsEnded (form : LineForm) (rows : ℕ) (line text : List ℕ) (next : ℕ) : Type 0 where
   pub as_row : 0 < rows → (text ≡ line) × (next + 1 ≡ rows)
   pub as_line : rows ≡ 0 → IsWrittenAs form line text × (next ≡ rows_after form (unfed line))

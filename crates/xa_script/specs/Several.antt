@@ -2,7 +2,7 @@
 --     IsVerdictOn          a verdict is right for a record
 --     AreVerdicts          verdicts are right for records, one for each
 --     ListsOne             one record more was judged and listed
---     IsListing            a text is what is written for records, and a status is the one that counts
+--     IsListing            a text is what is written for records, and a status is their worst one
 --     AppendsListing       the writer got such a text
 --     ListsAll             the same, with what `--strict` makes of the status
 --     AfterListing         what a fault leaves in the writer
@@ -27,7 +27,7 @@ IsVerdictOn base allowances asked seen verdict =
     AppendsVerdict base allowances asked verdict.0 (Some seen) (Some []) (Some verdict.1)
 
 -- one record more was judged: its verdict is right, if what the reader held is known, what is written for it comes
--- behind what was written for those before, and the status that counts is the worse one
+-- behind what was written for those before, and the status is the worse of theirs and its own
 pub record ListsOne (base : State) (allowances : List Allowance) (asked : Asked) (seen : Option (List ℕ))
     (name : List ℕ) (old new : Listed) : Type 0 where
   pub count : new.count ≡ old.count + 1
@@ -45,7 +45,7 @@ AreVerdicts base allowances asked (seen ∷ records) (verdict ∷ verdicts) =
     IsVerdictOn base allowances asked seen verdict × AreVerdicts base allowances asked records verdicts
 
 -- each record has a name and a right verdict; the text has a piece for each, behind what comes before the first; and
--- the status is the one that counts
+-- the status is the worst of the verdicts'
 pub record IsListing (base : State) (allowances : List Allowance) (asked : Asked) (tap : Bool) (before : List ℕ)
     (names records : List (List ℕ)) (status : ℕ) (text : List ℕ) : Type 0 where
   pub verdicts : List (ℕ × List ℕ)
@@ -54,7 +54,7 @@ pub record IsListing (base : State) (allowances : List Allowance) (asked : Asked
   pub counts : status ≡ worst_from 0 (map (λ verdict. verdict.0) verdicts)
   pub text_is : text ≡ before ++ pieces tap 1 names verdicts
 
--- the writer got what is written for the records, and the status is the one that counts
+-- the writer got what is written for the records, and the status is the worst of theirs
 abbrev pub AppendsListing : State → List Allowance → Asked → (tap : Bool) → (names records : List (List ℕ))
     → (status : ℕ) → Option (List ℕ) → Option (List ℕ) → Type 0
 AppendsListing base allowances asked tap names records status old new =

@@ -2,7 +2,7 @@
 --     status_after     the exit status after a fault
 --     status_of_job    the exit status for how a job ended
 --     strict_status    the exit status for whether a line was faulty
---     end_of           how a job ends whose lines were looked at
+--     end_of           how a job ends whose lines were tested for faults
 --     status_for       the exit status for how judging a record ended
 --     AppendsVerdict   the writer got what is written for a record, and the status is for how judging it ended
 --     status_of_end    the exit status for how exploring a script ended
@@ -68,14 +68,15 @@ status_of_job (Err fault) = status_after fault
 abbrev pub strict_status : (strict faulty : Bool) → (status : ℕ) → ℕ
 strict_status strict faulty status = if strict && faulty && status == 0 then 8 else status
 
--- how a job ends whose lines were looked at: a fault stays; if memory was refused for looking, that is the fault
+-- how a job ends whose lines were tested for faults: a fault of the job stays; if memory was refused for the test
+-- (None), that is the fault; else its status is as `strict_status` says
 abbrev pub end_of : (strict : Bool) → (faulty : Option Bool) → Result ℕ ScriptFault → Result ℕ ScriptFault
 end_of strict faulty (Err fault) = Err fault
 end_of strict None (Ok status) = Err NoMemory
 end_of strict (Some faulty) (Ok status) = Ok (strict_status strict faulty status)
 
 -- 0 where an order explains the record, 4 where none does, 5 where the limit was passed, 6 where lines are faulty, 7
--- where nothing happens (own rule)
+-- where there is no event (own rule)
 abbrev pub status_for : Outcome → ℕ
 status_for Legal = 0
 status_for Illegal = 4
@@ -83,8 +84,8 @@ status_for Undecided = 5
 status_for Faulty = 6
 status_for Empty = 7
 
--- the writer got what is written for a record that begins in a state and ends so, and the status is for that
--- end
+-- judging the record, from the state `base`, ended in some outcome: the writer got what is written then, if the
+-- record is known, and the status is the one for that outcome
 abbrev pub AppendsVerdict : State → List Allowance → Asked → (status : ℕ) → Option (List ℕ) → Option (List ℕ)
     → Option (List ℕ) → Type 0
 AppendsVerdict base allowances asked status input old new =
@@ -101,7 +102,7 @@ abbrev pub asked_of : (limit : ℕ) → (explain json strict shrink : Bool) → 
 asked_of limit explain json strict shrink =
     record { limit = limit; form = form_of json; explains = explain; shrinks = shrink; strict_calls = strict }
 
--- the text allows these, or a line of it is no allowance
+-- the text allows these; or there are none, and a line of the text is faulty
 abbrev pub IsAllowedBy : Option (List Allowance) → List ℕ → Type 0
 IsAllowedBy (Some list) text = allowances_of text ≡ Ok list
 IsAllowedBy None text = (number : ℕ) × (allowances_of text ≡ Err number)
@@ -112,7 +113,8 @@ status_of_end Done = 0
 status_of_end TooMany = 5
 status_of_end FaultyLines = 6
 
--- the writer got what is written for a script whose exploring ends so, and the status is for that end
+-- exploring the script ended in some way: the writer got what is written then, if the script is known, and the status
+-- is the one for that end
 abbrev pub AppendsOutcomes : (limit status : ℕ) → Option (List ℕ) → Option (List ℕ) → Option (List ℕ) → Type 0
 AppendsOutcomes limit status input old new =
     (ended : Ended) × (status ≡ status_of_end ended) × IfSome input
@@ -124,7 +126,8 @@ abbrev pub AppendsRaceBy : Bool → (capacity : ℕ) → List ℕ → Option (Li
 AppendsRaceBy true capacity script old new = AppendsRace None script old new
 AppendsRaceBy false capacity script old new = AppendsRace (Some capacity) script old new
 
--- the writer got which outcomes of the script came in so many races, and the status is for how that ended
+-- racing the script `runs` times ended in some way: the writer got which outcomes came, if the script is known, and
+-- the status is the one for that end
 abbrev pub AppendsCame : (runs status : ℕ) → Option (List ℕ) → Option (List ℕ) → Option (List ℕ) → Type 0
 AppendsCame runs status input old new =
     (ended : Ended) × (status ≡ status_of_end ended) × IfSome input (λ script. AppendsRuns runs ended script old new)
@@ -134,7 +137,8 @@ abbrev pub status_of_stops : StopsEnded → ℕ
 status_of_stops AllStops = 0
 status_of_stops FaultyCalls = 6
 
--- the writer got what is written for each stop of the script's coordinator, and the status is for how that ended
+-- stopping the script's coordinator ended in some way: the writer got what is written for each stop, if the script is
+-- known, and the status is the one for that end
 abbrev pub AppendsStopped : (stores status : ℕ) → Option (List ℕ) → Option (List ℕ) → Option (List ℕ) → Type 0
 AppendsStopped stores status input old new =
     (ended : StopsEnded) × (status ≡ status_of_stops ended)
@@ -146,7 +150,8 @@ status_of_audit AllAtomic = 0
 status_of_audit SomeNotAtomic = 9
 status_of_audit Unread = 6
 
--- the writer got what is written for these histories, and the status is for how their audit ended
+-- the audit of these histories ended in some way: the writer got what is written then, and the status is the one for
+-- that end
 abbrev pub AppendsAuditBy : List (List ℕ) → AuditForm → (status : ℕ) → Option (List ℕ) → Option (List ℕ) → Type 0
 AppendsAuditBy histories form status old new =
     (ended : AuditEnded) × (status ≡ status_of_audit ended) × AppendsAudit histories form ended old new

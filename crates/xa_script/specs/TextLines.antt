@@ -123,8 +123,8 @@ is_own line = not (is_of_job line) && (not (is_called line) && not (is_given (li
 abbrev pub is_point_or_own : (line : List ℕ) → Bool
 is_point_or_own line = if starts_with nat_eq line (codes "# ") then is_own (drop 2 line) else true
 
--- whether a line is written as it is: a comment where stores are shown, a client's own text in a verdict, each test
--- point, and each object, but no answer
+-- whether a line is written as it is: a comment where stores are shown, a client's own text in a verdict, each line
+-- of TAP that is no comment, and each object, but no answer
 abbrev pub keeps_line : LineForm → (line : List ℕ) → Bool
 keeps_line Answers line = false
 keeps_line Shown line = is_comment_line line

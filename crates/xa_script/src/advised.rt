@@ -23,7 +23,7 @@ pub struct Advised<'r, S: LineServer + Drop, R> {
 }
 
 impl<'r, S: LineServer + Drop, R: Eprint + Alloc<A = Global>> Advised<'r, S, R> {
-    /// Returns a server that answers as this one does.
+    /// Returns a server that answers as `inner` does, and explains each call that is out of turn.
     ///
     /// Takes no memory. Doesn't wait.
     pub fn new(rt: &'r R, inner: S) -> Advised<'r, S, R>
@@ -38,7 +38,7 @@ impl<'r, S: LineServer + Drop, R: Eprint + Alloc<A = Global>> Advised<'r, S, R> 
         }
     }
 
-    /// Returns whether all calls could be looked at.
+    /// Returns `Ok` if all calls could be looked at.
     ///
     /// Errors: `NoMemory` if memory was refused for that. Doesn't wait.
     pub fn looked(&self) -> Result<(), NoMemory> {

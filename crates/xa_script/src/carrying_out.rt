@@ -29,7 +29,7 @@ use xa_server::Server;
 /// The name of the standard input in a list of verdicts.
 const STANDARD_INPUT: &str = "standard input";
 
-/// Returns whether an audit is written as an object of JSON, if the job is to audit.
+/// Returns whether an audit is written as an object of JSON; None if the job isn't to audit.
 fn audit_in(job: Job) -> Option<bool>
     ensures { result ≡ audit_asked job }
 {
@@ -40,7 +40,7 @@ fn audit_in(job: Job) -> Option<bool>
     }
 }
 
-/// Returns what is asked of judging, if the job is to judge.
+/// Returns what is asked of judging; None if the job isn't to judge.
 fn judging_in(job: Job) -> Option<Asked>
     requires { CanBeDone job }
     // Proved (scripts, judging-as-asked)
@@ -146,7 +146,7 @@ fn opened_each<'r, R: Files + Eprint + Alloc<A = Global>>(
 }
 
 /// Judges records that readers hold, and writes what each came to: in the Test Anything Protocol if `tap`, else on a
-/// line for each. Returns the exit status that counts: the least of theirs that isn't 0.
+/// line for each. Returns the exit status that counts, as `list_within` says.
 fn carry_out_each<I: Read + Drop, R: Clock + Print + Eprint + Alloc<A = Global>>(
     rt: &R,
     inputs: Vec<Watch<'_, I, R>>,
@@ -252,7 +252,8 @@ fn carry_out_records<R: Files + Clock + Input + Print + Eprint + Alloc<A = Globa
     carry_out_each(rt, inputs, asked, manner, records.tap, allowances, base)
 }
 
-/// Audits histories that readers hold, and returns the exit status.
+/// Audits histories that readers hold, writes the audit in this form, and returns the exit status. `job`, which is to
+/// audit, and `manner` say whether its literals are written as texts.
 fn carry_out_readers<I: Read + Drop, R: Print + Eprint + Alloc<A = Global>>(
     rt: &R,
     inputs: Vec<Watch<'_, I, R>>,

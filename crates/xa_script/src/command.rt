@@ -15,7 +15,8 @@ use clap::{ArgMatches, Command, Error};
 use std::alloc::Global;
 use std::convert::AsStr;
 
-/// What the program is to do.
+/// What the program is to do. A job that reads the standard input reads the file of `--file` instead if that is given.
+/// `Judge` reads neither if records are named.
 #[derive(Clone, Copy, Debug, PartialEq, Eq)]
 pub enum Job {
     /// Runs the script of the standard input on a sequential server.
@@ -48,7 +49,8 @@ pub enum Job {
     Judge {
         /// How many configurations may be kept before a return, in `[1, 1_000_000]`.
         limit: u64,
-        /// Whether an order and a state explain an ILLEGAL verdict.
+        /// Whether what was seen, its call, an order of the lines before, and the store after it come with an ILLEGAL
+        /// verdict.
         explain: bool,
         /// Whether the verdict is a JSON object.
         json: bool,
@@ -59,7 +61,7 @@ pub enum Job {
     },
     /// Runs the script of the standard input in every order of its sessions.
     Explore {
-        /// How many ways may be kept at once, in `[1, 1_000_000]`.
+        /// How many ways that have carried out equally many lines may be kept, in `[1, 1_000_000]`.
         limit: u64,
     },
     /// Stops the coordinator of the calls of the standard input at each place.
@@ -108,7 +110,7 @@ fn begins_together(found: &ArgMatches<'_>) -> bool
     found.get_one::<bool>("together").unwrap_or(false)
 }
 
-/// Returns how the sessions come to their lines. A seed counts before `--together`.
+/// Returns how the sessions come to their lines. If a seed is given, `--together` changes nothing.
 fn schedule_in(found: &ArgMatches<'_>) -> Schedule
     ensures { IsScheduleOf (one_text (found_of found.now) (codes "together"))
         (one_text (found_of found.now) (codes "shuffle")) result }
@@ -145,7 +147,7 @@ fn runs_in(found: &ArgMatches<'_>) -> Option<u64>
     limit_in(found, "runs")
 }
 
-/// The race that the options of `race` ask for; None if the capacity isn't one.
+/// The race that the options of `race` ask for; None if the capacity isn't a number from 1 to 1024.
 fn race_in(found: &ArgMatches<'_>) -> Option<Job>
     ensures some { IfSome result
         (IsRaceOf (one_text (found_of found.now) (codes "capacity")) (one_text (found_of found.now) (codes "together"))
@@ -180,7 +182,8 @@ fn stores_in(found: &ArgMatches<'_>) -> Option<u64>
     }
 }
 
-/// The job that the options of `coordinate` ask for; None if the number of stores or the capacity isn't one.
+/// The job that the options of `coordinate` ask for; None if the number of stores isn't from 1 to 16, or the capacity
+/// isn't from 1 to 1024.
 fn coordinate_in(found: &ArgMatches<'_>) -> Option<Job>
     ensures some { IfSome result
         (λ job. IsCoordinateOf (one_text (found_of found.now) (codes "stores"))
@@ -203,7 +206,8 @@ fn coordinate_in(found: &ArgMatches<'_>) -> Option<Job>
     }
 }
 
-/// The job that the options of `stops` ask for; None if the number of stores or the capacity isn't one.
+/// The job that the options of `stops` ask for; None if the number of stores isn't from 1 to 16, or the capacity isn't
+/// from 1 to 1024.
 fn stops_in(found: &ArgMatches<'_>) -> Option<Job>
     ensures some { IfSome result
         (IsStopsOf (one_text (found_of found.now) (codes "stores"))
@@ -220,7 +224,7 @@ fn stops_in(found: &ArgMatches<'_>) -> Option<Job>
     }
 }
 
-/// The job that the options of `judge` ask for; None if the limit isn't one.
+/// The job that the options of `judge` ask for; None if the limit isn't from 1 to 1,000,000.
 fn judge_in(found: &ArgMatches<'_>) -> Option<Job>
     ensures some { IfSome result
         (IsJudgeOf (one_text (found_of found.now) (codes "limit")) (one_text (found_of found.now) (codes "explain"))
@@ -241,7 +245,7 @@ fn judge_in(found: &ArgMatches<'_>) -> Option<Job>
     }
 }
 
-/// The job that the options of `explore` ask for; None if the limit isn't one.
+/// The job that the options of `explore` ask for; None if the limit isn't from 1 to 1,000,000.
 fn explore_in(found: &ArgMatches<'_>) -> Option<Job>
     ensures some { IfSome result (λ job. IsExploreOf (one_text (found_of found.now) (codes "limit")) job) }
     ensures none { result ≡ None → (job : Job) → IsExploreOf (one_text (found_of found.now) (codes "limit")) job → ⊥ }
@@ -261,8 +265,8 @@ fn audit_in(found: &ArgMatches<'_>) -> Job
     }
 }
 
-/// The job of the subcommand that was found; None if there is no such job, or if a capacity, a number of stores or a
-/// limit of it isn't in its range.
+/// The job of the subcommand that was found; None if there is no subcommand or no such job, or if a capacity, a number
+/// of stores or a limit of it isn't in its range.
 fn job_in(matches: &ArgMatches<'_>) -> Option<Job>
     ensures some { IfSome result (λ job. IsSomeAnd (subcommand_rows_of matches.now) (IsJob job)) }
     ensures none { result ≡ None → (job : Job) → IsSomeAnd (subcommand_rows_of matches.now) (IsJob job) → ⊥ }

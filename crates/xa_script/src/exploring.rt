@@ -31,9 +31,9 @@ pub fn status_of_end(ended: Ended) -> u8
     }
 }
 
-/// Explores a script, writes its outcomes or its faulty lines, and returns the exit status for it.
+/// Explores a script, writes its outcomes, `UNDECIDED` or its faulty lines, and returns the exit status for it.
 ///
-/// `limit`, in `[1, 1_000_000]`: how many ways may be kept at once.
+/// `limit`, in `[1, 1_000_000]`: how many ways that have carried out equally many lines may be kept.
 /// Errors: as `explore_script`. After `Write` a prefix of the text was written, after any other error
 /// nothing.
 /// May return `NoMemory`. Doesn't wait, unless the reader or the writer does.
@@ -56,10 +56,10 @@ pub fn explore_within<R: Read, W: Write>(
     Ok(status_of_end(ended))
 }
 
-/// Explores a script, writes each line of its outcomes, or of its faulty lines, as an object, and returns the exit
-/// status for it.
+/// Explores a script, writes as an object each line that `explore_within` would write, and returns the exit status for
+/// it.
 ///
-/// `limit`, in `[1, 1_000_000]`: how many ways may be kept at once.
+/// `limit`, in `[1, 1_000_000]`: how many ways that have carried out equally many lines may be kept.
 /// Errors: as `explore_script`. After `Write` a prefix of the objects was written, after any other error nothing.
 /// May return `NoMemory`. Doesn't wait, unless the reader or the writer does.
 /// Own rule: docs/COMMANDS.md#output-as-json.
@@ -91,7 +91,7 @@ pub fn explore_objects<R: Read, W: Write>(
 
 /// Explores a script, writes lines, or if `json` their objects, and returns the exit status.
 ///
-/// `limit`, in `[1, 1_000_000]`: how many ways may be kept at once.
+/// `limit`, in `[1, 1_000_000]`: how many ways that have carried out equally many lines may be kept.
 /// Errors: as `explore_within`. May return `NoMemory`. Doesn't wait, unless the reader or the writer does.
 pub fn explore_as<R: Read, W: Write>(
     alloc: Global,

@@ -30,12 +30,13 @@ pub struct Following<'r, I: Read, R> {
     follows: bool,
     /// What has been read, as long as `follows`.
     text: Vec<u8>,
-    /// How many bytes of it were judged.
+    /// How many bytes of `text` were judged.
     judged: usize,
 }
 
 impl<'r, I: Read, R: Eprint + Alloc<A = Global>> Following<'r, I, R> {
-    /// Returns a reader that judges the lines of this one as they come if `follows`. The record begins with `base`.
+    /// Returns a reader of the bytes of `inner`. If `follows`, it judges their lines as they come: as a record that
+    /// begins with `base`, by these allowances and what is `asked`.
     ///
     /// Takes no memory. Doesn't wait.
     pub fn new(
@@ -53,7 +54,7 @@ impl<'r, I: Read, R: Eprint + Alloc<A = Global>> Following<'r, I, R> {
             rt,
             base,
             allowances,
-            // One line is told, which is the same whatever else the verdict is to hold.
+            // Only the first line of a plain verdict is told. It needs no explanation and no smaller record.
             asked: Asked {
                 form: Form::Plain,
                 explains: false,
@@ -66,7 +67,8 @@ impl<'r, I: Read, R: Eprint + Alloc<A = Global>> Following<'r, I, R> {
         }
     }
 
-    /// Returns how many bytes the lines have that have come whole, at least `judged`.
+    /// Returns how many bytes of `text` are whole lines: up to its last line feed behind the first `judged` bytes, or
+    /// `judged` if there is none.
     fn count_whole(&self) -> usize {
         let mut count = self.judged;
         for at in self.judged..self.text.len() {
@@ -77,9 +79,10 @@ impl<'r, I: Read, R: Eprint + Alloc<A = Global>> Following<'r, I, R> {
         count
     }
 
-    /// Says on the standard error that the lines that have come are ILLEGAL, with the line that says where.
+    /// Says on the standard error that the lines that have come are ILLEGAL, by the first line of `verdict`, which
+    /// says at which line.
     fn tell(&self, verdict: &[u8]) {
-        // A verdict is never empty.
+        // A verdict is never empty. That isn't known here, and `split_line` takes no empty text.
         if verdict.is_empty() {
             return;
         }
@@ -90,10 +93,10 @@ impl<'r, I: Read, R: Eprint + Alloc<A = Global>> Following<'r, I, R> {
         }
     }
 
-    /// Judges the first bytes of what was read, and tells if they are ILLEGAL. Returns whether later lines are to be
-    /// judged, too.
+    /// Judges the first `count` bytes of what was read, and says so if they are ILLEGAL. Returns whether later lines
+    /// are to be judged as they come, too.
     fn judge_front(&self, count: usize) -> Result<bool, NoMemory> {
-        // At least so many bytes have come, so this doesn't fail.
+        // At least `count` bytes have come, so the front isn't None.
         let Some(front) = self.text.get(..count) else {
             return Ok(false);
         };
@@ -107,7 +110,7 @@ impl<'r, I: Read, R: Eprint + Alloc<A = Global>> Following<'r, I, R> {
             &mut Silent,
         )?;
         match judged.outcome {
-            // It is told only once. At its end the whole record is judged.
+            // ILLEGAL is told only once. At its end the whole record is judged.
             Outcome::Illegal => {
                 self.tell(judged.text.as_slice());
                 Ok(false)
@@ -119,8 +122,8 @@ impl<'r, I: Read, R: Eprint + Alloc<A = Global>> Following<'r, I, R> {
         }
     }
 
-    /// Judges all that has come, if whole lines have come since the last time. Returns whether later lines are to be
-    /// judged, too.
+    /// Judges all whole lines that have come, if some of them came since the last time. Returns whether later lines are
+    /// to be judged as they come, too; true if none came.
     fn judge_more(&mut self) -> Result<bool, NoMemory>
         ensures { self.new.inner ≡ self.old.inner }
     {
@@ -132,8 +135,8 @@ impl<'r, I: Read, R: Eprint + Alloc<A = Global>> Following<'r, I, R> {
         self.judge_front(count)
     }
 
-    /// Takes what was read. If the writer `pauses`, what has come is judged. Returns whether later lines are to be
-    /// judged, too.
+    /// Keeps the bytes that were read. If the record's writer `pauses`, judges what has come as `judge_more` does.
+    /// Returns whether later lines are to be judged as they come, too.
     fn take(&mut self, bytes: &[u8], pauses: bool) -> Result<bool, NoMemory>
         ensures { self.new.inner ≡ self.old.inner }
     {
@@ -144,8 +147,8 @@ impl<'r, I: Read, R: Eprint + Alloc<A = Global>> Following<'r, I, R> {
         self.judge_more()
     }
 
-    /// Takes what was read as `take` does. If that returns false or memory was refused, later lines aren't judged as
-    /// they come any more.
+    /// Takes the bytes that were read as `take` does. If that returns false or memory was refused, later lines aren't
+    /// judged as they come any more.
     fn follow(&mut self, bytes: &[u8], pauses: bool)
         ensures { self.new.inner ≡ self.old.inner }
     {

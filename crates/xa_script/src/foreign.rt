@@ -8,9 +8,9 @@ ghost use Rattle.xa_script.specs.Foreign.{foreign_of};
 pub enum Foreign {
     /// It begins with the byte order mark of UTF-8.
     Marked,
-    /// It is UTF-16.
+    /// It is UTF-16, as far as its first four bytes show.
     Utf16,
-    /// Its lines end in carriage returns alone.
+    /// It has carriage returns and no line feed.
     Returns,
     /// Some of its lines seem to end in carriage returns alone.
     Mixed,

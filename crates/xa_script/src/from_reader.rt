@@ -59,14 +59,14 @@ fn form_of(job: Job) -> LineForm
     }
 }
 
-/// Returns the form of the lines that a job writes.
+/// Returns the form of the lines that a job writes: objects if `json`, which is `Manner::json`, else as `form_of` says.
 fn written_form(job: Job, json: bool) -> LineForm
     ensures { result ≡ form_of_lines json job }
 {
     if json { LineForm::Object } else { form_of(job) }
 }
 
-/// Returns the form of the lines whose literals are written as texts, if that is asked for.
+/// Returns the form of the lines whose literals are written as texts; None without `--text`.
 pub fn text_form(job: Job, manner: &Manner<'_>) -> Option<LineForm>
     // Proved (scripts, text-form): `--text` is heard beside any other option, and takes the lines for what the job
     //   writes: objects with `--json`, else verdicts, shown stores or answers.
@@ -79,7 +79,8 @@ pub fn text_form(job: Job, manner: &Manner<'_>) -> Option<LineForm>
     }
 }
 
-/// Does a job that isn't to audit, from a reader to the standard output, and returns the exit status.
+/// Does a job that isn't to audit, from a reader to the standard output, and returns the exit status. Only `judge`
+/// needs the allowances and `base`, the store with which a record begins.
 pub fn carry_out_on<
     I: Read + Drop,
     R: Clock + Print + Eprint + Alloc<A = Global> + Threads + Wait + Sync,

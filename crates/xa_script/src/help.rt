@@ -1,4 +1,4 @@
-//! What the help of the program, and of each job, shows after the options.
+//! The version, and what the help of the program, and of each job, shows after the options.
 
 /// The version that the program prints.
 pub const VERSION: &str = "0.1.0";
@@ -12,7 +12,7 @@ prints
 xa_script JOB --help shows what a job reads and prints.
 A first hour: docs/TUTORIAL.md. All jobs: docs/COMMANDS.md. Exit statuses: docs/COMMANDS.md#exit-status.";
 
-/// What a line of statements looks like, as the help of the jobs that read such lines shows it.
+/// What `run` reads and prints, as its help shows it.
 pub const LINES: &str =
     "The script is read to its end, and then its lines are answered in order. A line is the number of a
 session, from 1 to 16, and a statement of that session:
@@ -71,7 +71,7 @@ If explore would print UNDECIDED, the outcomes are numbered in the order of thei
 says only SEEN 1. If lines have syntax faults, the status is 6 with --runs.
 More: docs/COMMANDS.md#race.";
 
-/// What is shown after an answer, as the help shows it.
+/// What `show` reads and prints, as its help shows it.
 pub const SHOWN: &str =
     "A line is the number of a session, from 1 to 16, and a statement of that session, as for serve:
   1 PUT 'k','v'
@@ -152,7 +152,7 @@ lines have syntax faults, no line is carried out, each of these is named, and th
 Blank lines, and lines that begin with #, say nothing.
 More: docs/COMMANDS.md#explore.";
 
-/// The lines of a record that `judge` reads, as its help shows them.
+/// What `judge` reads and prints, as its help shows it.
 pub const RECORDS: &str =
     "A record is what clients of a server saw, in the order in which they saw it. In its lines n is the number of a
 session, from 1 to 16:

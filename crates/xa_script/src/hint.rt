@@ -41,7 +41,8 @@ fn tell_wanted<R: Eprint>(rt: &R, number: u64, at: u64, wanted: &str) {
 
 /// Says what has to come in the line of this number, and at which byte, from 0; of a line that is too long only how
 /// long it may be. If only the statement is at fault, its own bytes are counted; in a line of a record those after its
-/// sign and the blanks behind that, and in a row those of the row.
+/// sign and the blanks behind that, and in a row those of the row. The byte is 0 for a line without a session or a
+/// sign, and for one that is no call.
 ///
 /// Errors: `NoMemory`. Doesn't wait, unless the standard error does.
 pub fn tell_line<R: Eprint + Alloc<A = Global>>(

@@ -1,6 +1,6 @@
 //! The jobs, from a reader to a writer. Each returns the exit status, or the fault that ended it.
 //!
-//! What a job writes depends on what it is asked for alone. `speaks` is for the standard error.
+//! No `speaks` changes what a job writes: it is for the standard error alone.
 ghost use Rattle.std.specs.Prelude.{◌≡◌, ◌≤◌, ◌⊎◌, [], ℕ, List, Some, Err, IfOk, IfErr, IfSome, OnOk, length, map};
 ghost use Rattle.std.specs.Prelude.{option_map, unwrap_or};
 ghost use Rattle.std.specs.Io.KnownBytes.{Appends, Keeps};
@@ -44,7 +44,7 @@ use xa_server::Server;
 /// The standard output, with a buffer.
 pub type Output<'r, R> = BufWriter<Spoken<'r, Printer<'r, R>, R>>;
 
-/// Returns a writer with a buffer.
+/// Returns a writer with a buffer before `writer`; `NoMemory` if there is no memory for the buffer.
 fn gathered<R: Alloc<A = Global>, W: Write + Drop>(
     rt: &R,
     writer: W,
@@ -53,6 +53,7 @@ fn gathered<R: Alloc<A = Global>, W: Write + Drop>(
 {
     match BufWriter::new(rt.alloc(), writer) {
         Ok(output) => Ok(output),
+        // Only memory for the buffer can be refused.
         Err(_) => Err(ScriptFault::NoMemory),
     }
 }
@@ -267,6 +268,7 @@ fn client_over<'a, I: Read, W: Write + Drop>(
 ) -> Result<Transport<&'a mut I, &'a mut BufWriter<W>>, ScriptFault> {
     match BufWriter::with_capacity(alloc, 0, output) {
         Ok(writer) => Ok(Transport::new(input, writer)),
+        // A buffer without room takes no memory, so this doesn't happen.
         Err(_) => Err(ScriptFault::NoMemory),
     }
 }

@@ -23,7 +23,7 @@ const UNDECIDED: u8 = 5;
 /// The status of a record with faulty lines.
 const FAULTY: u8 = 6;
 
-/// The status of a record in which nothing happens.
+/// The status of a record without events.
 const EMPTY: u8 = 7;
 
 /// Returns the exit status for how judging a record ended.
@@ -69,8 +69,8 @@ pub fn asked(limit: u64, explains: bool, json: bool, strict_calls: bool, shrinks
     }
 }
 
-/// Judges the record of this text, which begins with this server, writes the verdict or its faulty lines, and returns
-/// the exit status for it.
+/// Judges the record of this text, which begins with the state of `base`, writes the verdict, `EMPTY` or the record's
+/// faulty lines, and returns the exit status for that.
 ///
 /// The limit of `asked` is in `[1, 1_000_000]`.
 /// Errors: `NoMemory` if an allocation failed; `Write` if a write failed or took no byte. After `Write` a prefix of the

@@ -95,7 +95,7 @@ fn add_verdict<I: Read + Drop, R: Clock + Eprint + Alloc<A = Global>>(
     Ok(())
 }
 
-/// Judges the next record, adds what is written for it, and closes it.
+/// Judges the next record, adds what is written for it, and closes it by dropping its reader.
 fn list_next<I: Read + Drop, R: Clock + Eprint + Alloc<A = Global>>(
     rt: &R,
     base: &Server,
@@ -146,7 +146,7 @@ fn list_each<I: Read + Drop, R: Clock + Eprint + Alloc<A = Global>>(
     Ok(listed)
 }
 
-/// Judges records, writes what each came to, and returns the exit status that counts. There are at most 1,000.
+/// Judges at most 1,000 records, writes what each came to, and returns the exit status that counts, as `worse` says.
 ///
 /// With `--strict` the status is 8 instead of 0 if a line had a syntax fault; with `--quiet` progress isn't reported.
 /// The limit of `asked` is in `[1, 1_000_000]`.

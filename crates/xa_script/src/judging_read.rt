@@ -19,7 +19,7 @@ use xa_server::Server;
 /// The greatest length of a record, in bytes: 16 MiB (own rule).
 const RECORD_BYTES: usize = 16_777_216;
 
-/// The greatest number of reads for a record, which are ample for a reader that gives one byte at a time.
+/// The greatest number of reads for a record: two for each byte, ample for a reader that gives one byte at a time.
 const RECORD_READS: u64 = 33_554_432;
 
 /// Says on the standard error in which form a record is, if its lines aren't read as its writer meant them. The
@@ -33,8 +33,9 @@ fn tell_form<R: Eprint>(rt: &R, name: Option<&str>, record: &[u8]) {
     }
 }
 
-/// Reads a record, and says in which form it is if that isn't a record's, with its `name` if it has one. If `follows`,
-/// its lines are judged as they come.
+/// Reads a record, and returns its text. Says on the standard error in which form it is if that isn't a record's,
+/// behind its `name` if it has one. If `follows`, its lines are judged as they come; only that uses `base`, the
+/// allowances and `asked`.
 fn record_in<I: Read, R: Eprint + Alloc<A = Global>>(
     rt: &R,
     base: &Server,

@@ -7,7 +7,7 @@ use xa_record::LineGap;
 pub enum LineFault<'a> {
     /// It doesn't begin with the number of a session.
     NoSession,
-    /// Its text isn't a statement, from this place on.
+    /// This text of it isn't a statement, from this byte of the text on, counted from 0.
     NoStatement(&'a [u8], u64),
     /// It isn't a call.
     NoCall,

@@ -20,7 +20,7 @@ pub enum LineForm {
     Answers,
     /// Answers, and the store after each.
     Shown,
-    /// A verdict, and the store that explains it.
+    /// A verdict, and what comes below it: an order or answers, and a store.
     Verdict,
     /// JSON objects.
     Object,
@@ -38,7 +38,7 @@ fn behind_first(text: &[u8]) -> &[u8]
     }
 }
 
-/// Returns the number that the first word is.
+/// Returns the number that the first word is; None if it is no number.
 fn first_number(text: &[u8]) -> Option<u64>
     ensures { result ≡ number_first text.now }
 {
@@ -115,7 +115,7 @@ fn is_said(line: &[u8]) -> bool
     !is_of_job_itself(line) && !has_call(line) && !has_statement(line)
 }
 
-/// Returns how many rows a reply says that the next lines are; 0 unless it is `ROWS` and a number.
+/// Returns how many of the next lines are rows, as a reply says: n if it is `ROWS n`, and 0 for any other reply.
 fn rows_of(reply: &[u8]) -> u64
     ensures { result ≡ rows_said reply.now }
 {
@@ -125,7 +125,7 @@ fn rows_of(reply: &[u8]) -> u64
     }
 }
 
-/// Returns what comes after the first word if that is a number, and else the text.
+/// Returns what comes after the first word and one more byte, if that word is a number, and else the whole text.
 fn past_number(text: &[u8]) -> &[u8]
     ensures { result.now ≡ after_number text.now }
 {
@@ -144,8 +144,8 @@ fn reply_in(line: &[u8]) -> &[u8]
     past_number(past_number(line))
 }
 
-/// Returns how many rows a line of a verdict says that the next lines are; 0 unless it begins with `COULD BE` or
-/// `SEEN`.
+/// Returns how many of the next lines are rows, as the reply in this line of a verdict says. Only lines that begin with
+/// `COULD BE ` or `SEEN ` have a reply; for any other line it is 0.
 fn rows_of_verdict(line: &[u8]) -> u64
     ensures { result ≡ rows_in_verdict line.now }
 {
@@ -160,13 +160,13 @@ fn rows_of_verdict(line: &[u8]) -> u64
 }
 
 impl LineForm {
-    /// Returns whether a line is written as it is: each object and test point, a comment among shown stores, and a
-    /// client's own text in a verdict.
+    /// Returns whether a line is written as it is: each object, each line of TAP that isn't of a verdict, a comment
+    /// among shown stores, and a client's own text in a verdict.
     ///
     /// The line is without its line feed. Takes no memory. Doesn't wait.
     pub fn keeps(self, line: &[u8]) -> bool
-        // Proved (scripts, text-kept-lines): `--text` leaves just these lines as they are: every object, every comment
-        //   among shown stores, and a client's own text in a verdict.
+        // Proved (scripts, text-kept-lines): `--text` leaves just these lines as they are: every object, every line of
+        //   TAP that isn't of a verdict, every comment among shown stores, and a client's own text in a verdict.
         ensures { result ≡ keeps_line self line.now }
     {
         match self {
@@ -174,6 +174,7 @@ impl LineForm {
             LineForm::Shown => is_comment(line),
             LineForm::Verdict => is_said(line),
             LineForm::Object => true,
+            // The lines behind `# ` are of a verdict. Any other is a test point, or comes before the first.
             LineForm::Noted => match line.strip_prefix(b"# ") {
                 Some(line) => is_said(line),
                 None => true,
@@ -181,7 +182,7 @@ impl LineForm {
         }
     }
 
-    /// Returns how many rows a line says that the next lines are.
+    /// Returns how many of the next lines are rows, as this line says; 0 if it says nothing of rows.
     ///
     /// The line is without its line feed. Takes no memory. Doesn't wait.
     pub fn rows_behind(self, line: &[u8]) -> u64
@@ -192,13 +193,15 @@ impl LineForm {
         match self {
             LineForm::Answers | LineForm::Shown => rows_of(reply_in(line)),
             LineForm::Verdict => rows_of_verdict(line),
+            // An object holds its rows itself. In TAP a row is a line behind `# ` that `keeps` leaves as it is.
             LineForm::Object | LineForm::Noted => 0,
         }
     }
 }
 
-/// Returns whether a row is whole when a line feed comes next: behind its first three words it has as many bytes as
-/// gtrid and bqual together. A row in digits has two for each, and no line feed, so it is whole at the first.
+/// Returns whether a row is whole when a line feed comes next: behind its first three words it has at least as many
+/// bytes as gtrid and bqual together, whose lengths are the second and third word. A row in digits has two for each
+/// byte, and no line feed, so it is whole at the first. True also if one of the two words is no number.
 ///
 /// Takes no memory. Doesn't wait.
 pub fn is_whole_row(row: &[u8]) -> bool

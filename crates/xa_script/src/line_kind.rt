@@ -1,4 +1,4 @@
-//! The kind of lines that a job reads.
+//! The kind of lines that a job reads, and why a line isn't one of its kind.
 ghost use Rattle.std.specs.Prelude.{◌≡◌, is_some};
 ghost use Rattle.xa_statement.specs.Reading.{read_of};
 ghost use Rattle.xa_lines.specs.Script.{line_of};
@@ -35,7 +35,7 @@ pub enum LineKind {
     Record,
 }
 
-/// Why a text isn't a statement.
+/// Why a text isn't a statement; None if it is one.
 fn statement_fault(text: &[u8]) -> Option<LineFault<'_>>
     ensures { is_some result ≡ goes_wrong (read_of text.now) }
 {
@@ -45,7 +45,7 @@ fn statement_fault(text: &[u8]) -> Option<LineFault<'_>>
     }
 }
 
-/// Why a line isn't one of a script.
+/// Why a line isn't one of a script; None if it is one, or is blank.
 fn script_fault(line: &[u8]) -> Option<LineFault<'_>>
     ensures { is_some result ≡ is_faulty (line_of line.now) }
 {
@@ -65,7 +65,7 @@ fn parts(line: &[u8]) -> bool
     is_word && skip_blanks(rest).is_empty()
 }
 
-/// Returns the text after this many words.
+/// Returns the text after this many words and the blanks behind them.
 fn behind(line: &[u8], words: usize) -> &[u8] {
     let mut rest = skip_blanks(line);
     for _word in 0..words {
@@ -97,7 +97,7 @@ fn call_fault(line: &[u8]) -> LineFault<'_> {
     }
 }
 
-/// Returns why a line isn't one that `stops` takes.
+/// Returns why a line isn't one that `stops` takes; None if it is one, is blank or is a comment.
 fn stopped_fault(line: &[u8]) -> Option<LineFault<'_>>
     ensures { is_some result ≡ is_no_call (taken (call_of line.now)) }
 {
@@ -123,7 +123,7 @@ fn given_in(line: &[u8]) -> &[u8]
     }
 }
 
-/// Returns how many rows a line of a record says that the next lines are; 0 unless it is a return of `ROWS`.
+/// Returns how many of the next lines are rows, as a line of a record says: n if it is a return of `ROWS n`, else 0.
 pub fn rows_behind(line: &[u8]) -> u64 {
     // No rows follow a line that isn't read.
     if wanted_in(line).is_some() {
@@ -139,7 +139,7 @@ pub fn rows_behind(line: &[u8]) -> u64 {
     }
 }
 
-/// Returns why a line in the place of a row of a return isn't one.
+/// Returns why a line that has to be a row of a return isn't one; None if it is one.
 ///
 /// The line is without its line feed. Takes no memory. Doesn't wait.
 pub fn row_fault(line: &[u8]) -> Option<LineFault<'_>>
@@ -164,7 +164,7 @@ fn recorded_call_fault(text: &[u8]) -> Option<LineFault<'_>>
     }
 }
 
-/// Why a line isn't one of a record, or its call isn't one of a statement.
+/// Why a line isn't one of a record, or if it is a call, why its text isn't a statement; else None.
 fn record_fault(line: &[u8]) -> Option<LineFault<'_>>
     ensures { is_some result ≡ is_no_record line.now }
 {
@@ -174,7 +174,8 @@ fn record_fault(line: &[u8]) -> Option<LineFault<'_>>
     }
 }
 
-/// Returns the kind of the lines of a script that is raced, by one of them. A blank line doesn't settle it.
+/// Returns the kind of the lines of a script that is raced, if no line but blank ones comes before this one: `Shown`,
+/// with comments, if this line is a comment, else `Statement`. A blank line doesn't settle it: the kind stays `Raced`.
 fn raced_by(line: &[u8]) -> LineKind
     ensures { result ≡ kind_of_first line.now }
 {

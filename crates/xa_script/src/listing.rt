@@ -9,7 +9,7 @@ use std::alloc::Global;
 use xa_lines::{push_number, split_line};
 use xa_xid::NoMemory;
 
-/// Returns the status that says more of two records: the least that isn't 0.
+/// Returns the status that counts of two records' statuses: the least that isn't 0, or 0 if both are 0.
 ///
 /// Takes no memory. Doesn't wait.
 /// Own rule: docs/COMMANDS.md#exit-status.
@@ -18,7 +18,7 @@ pub fn worse(one: u8, other: u8) -> u8
     //   0 counts only if both are.
     ensures { result ≡ worse_of one other }
 {
-    // 0 is LEGAL. The statuses of the other verdicts ascend from ILLEGAL on.
+    // 0 is LEGAL. The statuses of the other verdicts ascend from ILLEGAL, the worst.
     if one == 0 {
         other
     } else if other == 0 || one <= other {
@@ -60,8 +60,8 @@ fn push_notes(out: &mut Vec<u8>, text: &[u8]) -> Result<(), NoMemory>
     Ok(())
 }
 
-/// Appends what a verdict says, as comments. Of a LEGAL record only the first line is, since an order says little
-/// there.
+/// Appends the lines of a verdict as comments. Of a LEGAL record, whose status is 0, only the first line is appended,
+/// since an order says little there.
 fn push_verdict_notes(out: &mut Vec<u8>, verdict: &Verdict) -> Result<(), NoMemory>
     ensures { OnOk result (out.new.items ≡ out.old.items ++ notes_on verdict.now.status verdict.now.text.items) }
 {
@@ -71,7 +71,8 @@ fn push_verdict_notes(out: &mut Vec<u8>, verdict: &Verdict) -> Result<(), NoMemo
     push_notes(out, verdict.text.as_slice())
 }
 
-/// Appends a name so that no byte of it ends the line or begins a directive.
+/// Appends a name so that no byte of it ends the line or begins a directive: a byte below 32 as a blank, and `#` and
+/// backslash with a backslash before them.
 fn push_name(out: &mut Vec<u8>, name: &[u8]) -> Result<(), NoMemory>
     ensures { OnOk result (out.new.items ≡ out.old.items ++ tap_name name.now) }
 {
@@ -89,7 +90,7 @@ fn push_name(out: &mut Vec<u8>, name: &[u8]) -> Result<(), NoMemory>
     Ok(())
 }
 
-/// Appends the line of a test point.
+/// Appends the line of a test point, which is ok only if the status is 0, that of a LEGAL record.
 fn push_point(out: &mut Vec<u8>, number: u64, status: u8, name: &[u8]) -> Result<(), NoMemory>
     ensures { OnOk result (out.new.items ≡ out.old.items ++ tap_point number status name.now) }
 {
@@ -114,7 +115,7 @@ fn push_listed(out: &mut Vec<u8>, name: &[u8], verdict: &Verdict) -> Result<(), 
     out.extend_from_slice(b"\n")
 }
 
-/// Appends a test point and what its verdict says.
+/// Appends the test point of this record, and below it what its verdict says, as comments.
 fn push_tap(out: &mut Vec<u8>, number: u64, name: &[u8], verdict: &Verdict) -> Result<(), NoMemory>
     ensures { OnOk result
         (out.new.items ≡ out.old.items ++ tap_piece number name.now verdict.now.status verdict.now.text.items) }

@@ -5,8 +5,9 @@
 //!
 //! Functions that use the process or its streams promise nothing, since no contract can name these; tests of
 //! the built program show what they do. Down from `carry_out_to` (`src/from_reader.rt`), which does a job from a reader
-//! to a writer, each has a contract. `src/carrying_out.rt` opens what a job reads. Read `src/from_reader.rt` next, then
-//! `src/jobs.rt`, `src/command.rt`, `src/subcommands.rt` and `src/help.rt`.
+//! to a writer, those that make the job's output or its status have contracts. `src/carrying_out.rt` opens what a job
+//! reads. Read `src/from_reader.rt` next, then `src/jobs.rt`, `src/command.rt`, `src/subcommands.rt` and
+//! `src/help.rt`.
 #![tactic(auto)]
 
 ghost use Rattle.std.specs.Prelude.{◌≡◌};
@@ -76,19 +77,19 @@ use std::{env, io};
 pub use xa_lines::{CutReader, CutWriter, ScriptFault, run_script};
 pub use xa_races::{race_script, race_script_in_rounds};
 
-/// The status of a run that was done, and of help.
+/// The status of a job that was done and has no status of its own, and of help and the version.
 const DONE: u8 = 0;
 
-/// The status if the input can't be read, or the output can't be written.
+/// The status if the input can't be read or is too long, or the output can't be written.
 const STREAM_FAULT: u8 = 1;
 
-/// The status of a command line that isn't understood.
+/// The status of a command line that isn't understood, or whose file of `--allow` or `--from` has a faulty line.
 const COMMAND_FAULT: u8 = 2;
 
 /// The status if memory ran out, the log is full, a gate stopped a session, or a thread couldn't be started.
 const GAVE_OUT: u8 = 3;
 
-/// The status of a job that was done if a line had a syntax fault, and `--strict` asks for that.
+/// The status with `--strict` if a line had a syntax fault, in place of 0.
 const UNREAD: u8 = 8;
 
 fn main(rt: HostRuntime) -> ExitCode {
@@ -104,7 +105,7 @@ fn status<
         Err(error) => return refuse_words(rt, &error),
     };
     let words = words.as_slice();
-    // Each reads the whole command line. If several fail, the first of them says why.
+    // Each of these four reads the whole command line. If several fail, the first of them says why.
     match (
         read_command(rt.alloc(), words),
         read_manner(rt.alloc(), words),

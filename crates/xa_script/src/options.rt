@@ -1,4 +1,4 @@
-//! The options of the subcommands, as `clap` sees them.
+//! The options and arguments of the subcommands, as `clap` sees them.
 ghost use Rattle.std.specs.Prelude.{◌≡◌, false};
 ghost use Rattle.clap.specs.Words.{rule_of};
 ghost use Rattle.xa_script.specs.CommandLine.{capacity_rule, together_rule, shuffle_rule, renew_rule, runs_rule};

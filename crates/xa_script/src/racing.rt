@@ -92,7 +92,7 @@ pub fn race_commented<I: Read, O: Write, R: Alloc<A = Global> + Threads + Wait +
     race_by(rt, &mut rest, output, capacity, schedule, renews)
 }
 
-/// Races a script as `race_commented` does, and writes each line of the outcome, or of its faulty lines, as an object.
+/// Races a script as `race_commented` does, and writes as an object each line that it would write.
 ///
 /// `capacity`, in `[1, 1024]`: how many entries the log has room for, or if `renews` how many rows the ring has.
 /// Errors: as `race_commented`. Waits.

@@ -17,8 +17,8 @@ use xa_lines::{ScriptFault, in_memory, write_objects};
 use xa_races::{ReshuffledGate, runs_script};
 use xa_store::{Gate, OpenGate, TogetherGate};
 
-/// Races a script `runs` times at a gate, and returns the exit status. In each race the log has room for `capacity`
-/// entries of the lines side by side; if `renews`, it has no end, and a ring of as many rows.
+/// Races a script `runs` times at a gate, and returns the exit status. If `renews`, the log of each race has no end,
+/// and its ring has `capacity` rows; else the log has room for `capacity` entries of the lines side by side.
 fn run_behind<I: Read, O: Write, G: Gate + Sync, R: Alloc<A = Global> + Threads + Wait + Sync>(
     rt: &R,
     input: &mut I,
@@ -77,10 +77,10 @@ pub fn run_by<I: Read, O: Write, R: Alloc<A = Global> + Threads + Wait + Sync>(
     }
 }
 
-/// Races a script `runs` times, writes each line of which outcomes came, or of its faulty lines, as an object, and
-/// returns the exit status.
+/// Races a script `runs` times, writes as an object each line that `run_by` would write, and returns the exit
+/// status.
 ///
-/// It takes, returns and waits as `run_by` does.
+/// The parameters are those of `run_by`.
 /// Errors: as `runs_script`. After `Write` a prefix of the objects was written, after any other error nothing.
 /// May return `NoMemory`. Waits.
 /// Own rule: docs/COMMANDS.md#output-as-json.
@@ -114,7 +114,7 @@ pub fn run_objects<I: Read, O: Write, R: Alloc<A = Global> + Threads + Wait + Sy
 
 /// Races a script `runs` times, writes lines, or if `json` their objects, and returns the exit status.
 ///
-/// It takes, returns and waits as `run_by` does.
+/// The other parameters are those of `run_by`.
 /// Errors: as `run_by`. May return `NoMemory`. Waits.
 pub fn run_as<I: Read, O: Write, R: Alloc<A = Global> + Threads + Wait + Sync>(
     rt: &R,

@@ -19,7 +19,7 @@ pub struct Spoken<'r, W: Write + Drop, R> {
 }
 
 impl<'r, W: Write + Drop, R: Eprint> Spoken<'r, W, R> {
-    /// Returns a writer to this one.
+    /// Returns a writer to `inner` that reports the first write that fails, if `speaks`.
     ///
     /// Takes no memory. Doesn't wait.
     pub fn new(rt: &'r R, inner: W, speaks: bool) -> Spoken<'r, W, R>

@@ -15,7 +15,7 @@ pub enum Standing {
     Nothing,
     /// It was finished.
     Finished,
-    /// A store of it was left to a recovery.
+    /// Its FINISH or ABANDON was answered UNFINISHED: a recovery is to end its branches that are left.
     Unfinished,
     /// It was abandoned.
     Abandoned,

@@ -27,7 +27,7 @@ fn voted(answer: &[u8]) -> Option<Standing> {
 }
 
 /// Returns how far a transaction has come after an answer to FINISH or ABANDON: `standing` if the answer says that it
-/// has ended, also in a hazard; `Unfinished`; or None if it says neither.
+/// has ended, also in a hazard; `Unfinished` if it says that it is unfinished; None if it says neither.
 fn ended(answer: &[u8], standing: Standing) -> Option<Standing> {
     if answer.starts_with(b"UNFINISHED ") {
         return Some(Standing::Unfinished);
@@ -71,7 +71,8 @@ impl Standings {
         Some(self.standings[(number - 1) as usize])
     }
 
-    /// Notes how far a transaction has come. Nothing changes if that is None, or if the transaction wasn't begun.
+    /// Notes how far the transaction of this number has come. Nothing changes if `standing` is None, or if there is no
+    /// such transaction.
     fn put(&mut self, number: u64, standing: Option<Standing>) {
         if let Some(standing) = standing
             && number != 0

@@ -17,7 +17,7 @@ use xa_xid::NoMemory;
 /// The greatest length of a state, in bytes: 16 MiB, as of a record.
 const STATE_BYTES: usize = 16_777_216;
 
-/// The greatest number of reads for a state, which are ample for a reader that gives one byte at a time.
+/// The greatest number of reads for a state: two for each byte, ample for a reader that gives one byte at a time.
 const STATE_READS: u64 = 33_554_432;
 
 /// Returns a server in the state that a text lists. If a line of it is faulty, the standard error names it, and
@@ -62,7 +62,7 @@ fn empty<R: Alloc<A = Global>>(rt: &R) -> Server
 }
 
 /// Returns the server with which a record begins, by the file of `--from`: one that holds nothing if no file
-/// is named, `None` if the file is no listing.
+/// is named, `None` if a line of the file is faulty.
 ///
 /// Errors: `Read`, `TooLong` and `NoMemory`, of reading the file. Doesn't wait, unless the file or the
 /// standard error does.

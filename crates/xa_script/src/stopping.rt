@@ -33,7 +33,7 @@ fn status_of_stops(ended: Ended) -> u8
 ///
 /// `stores` is in `[1, 16]`.
 /// Errors: as `stops_script`. After `Write` a prefix of the text was written, after any other error nothing.
-/// May return `NoMemory`. Waits.
+/// May return `NoMemory`. Doesn't wait, unless the reader or the writer does.
 /// Own rule: docs/COORDINATOR.md#stops.
 pub fn stop_each<H: Wait, R: Read, W: Write>(
     rt: &H,
@@ -58,7 +58,7 @@ pub fn stop_each<H: Wait, R: Read, W: Write>(
 ///
 /// `stores` is in `[1, 16]`.
 /// Errors: as `stops_script`. After `Write` a prefix of the objects was written, after any other error nothing.
-/// May return `NoMemory`. Waits.
+/// May return `NoMemory`. Doesn't wait, unless the reader or the writer does.
 /// Own rule: docs/COMMANDS.md#output-as-json.
 pub fn stop_objects<H: Wait, R: Read, W: Write>(
     rt: &H,
@@ -89,7 +89,7 @@ pub fn stop_objects<H: Wait, R: Read, W: Write>(
 /// status.
 ///
 /// `stores` is in `[1, 16]`.
-/// Errors: as `stop_each`. May return `NoMemory`. Waits.
+/// Errors: as `stop_each`. May return `NoMemory`. Doesn't wait, unless the reader or the writer does.
 pub fn stop_as<H: Wait, R: Read, W: Write>(
     rt: &H,
     alloc: Global,

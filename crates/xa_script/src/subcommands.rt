@@ -139,7 +139,7 @@ fn audit_command<'a>(alloc: Global) -> Result<Command<'a>, AllocError>
         .arg(text_option(alloc))
 }
 
-/// Returns the command without its subcommands. One of these is required, unless the version is asked for.
+/// Returns the command without its subcommands. One of these is required, unless help or the version is asked for.
 fn bare_command<'a>(alloc: Global) -> Command<'a>
     ensures app { app_of result ≡ bare_app }
     ensures local { IsLocal result }

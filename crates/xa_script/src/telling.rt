@@ -45,9 +45,9 @@ impl<'r, R: Clock + Eprint + Alloc<A = Global>> Telling<'r, R> {
         }
     }
 
-    /// Returns whether a report is due: at least a second after the last one, or after the first event that was judged.
-    /// If neither time is noted, as at the first call, which is at that event, notes the time now and returns false.
-    /// Without a clock that can be read no report is due.
+    /// Returns whether a report is due: whether `last` is at least a second ago. If `last` is None, as at the first
+    /// call, which is at the first event that is judged, sets it to the time now, and returns false. Returns false also
+    /// if the clock can't be read.
     fn is_due(&mut self) -> bool {
         match self.last {
             None => {

@@ -12,6 +12,7 @@ pub type Room = ArrayVec<u8, 512>;
 /// The beginning of a line, as it is written, and the bytes of the word that has begun after it.
 #[derive(Drop)]
 struct TextLine {
+    /// The beginning of the line, as it is written.
     text: Room,
     /// The bytes of the word that has begun.
     word: Room,
@@ -99,6 +100,7 @@ fn put_written(text: &mut Room, word: &[u8]) -> Option<()>
                 put_word(text, word)
             }
         }
+        // Something comes behind the literal, so the word isn't one.
         Ok((_, [_, ..])) => put_word(text, word),
         Err(_) => put_word(text, word),
     }

@@ -19,11 +19,11 @@ pub struct Texts<W> {
     inner: W,
     /// The form of the lines.
     form: LineForm,
-    /// What has been taken of the line.
+    /// What has been taken of the line that isn't whole yet.
     held: Room,
     /// What has to be written before more is taken.
     due: Room,
-    /// How much of that is written.
+    /// How many bytes of `due` are written.
     given: usize,
     /// Whether the rest of the line passes unchanged.
     passes: bool,
@@ -57,7 +57,7 @@ fn without_feed(line: &[u8]) -> &[u8]
 impl<W: Write + Drop> Texts<W> {
     ghost use Rattle.xa_script.specs.Owing.{sent_of, known_of, IsEnded, Ends, Comes};
 
-    /// Returns a writer to this one.
+    /// Returns a writer that writes lines of this form to `inner`.
     ///
     /// Takes no memory. Doesn't wait.
     pub fn new(inner: W, form: LineForm) -> Texts<W>
@@ -137,6 +137,7 @@ impl<W: Write + Drop> Texts<W> {
         ensures all { OnOk result (drop self.new.given self.new.due.items ≡ []) }
     {
         let held = mem::replace(&mut self.held, Room::new());
+        // If the write fails, what was taken stays due, and the rest still passes.
         self.owe(held);
         self.passes = true;
         self.give()
@@ -160,8 +161,8 @@ impl<W: Write + Drop> Texts<W> {
         self.let_pass()
     }
 
-    /// Writes what is due. If there is no more room for the line, writes also what has been taken of it; its rest
-    /// then passes unchanged.
+    /// Writes what is due. If there is no more room for the line, of which 512 bytes have then been taken, writes also
+    /// these; the line's rest then passes unchanged.
     fn make_room(&mut self) -> io::Result<()>
         ensures kept { Keeps (known_of W.contents self.old) (known_of W.contents self.new) }
         ensures due { OnOk result (drop self.new.given self.new.due.items ≡ []) }
@@ -247,7 +248,7 @@ impl<W: Write + Drop> Texts<W> {
     }
 
     /// Writes the first of these bytes, at most to the first line feed, unchanged and by one call. Returns how many
-    /// were written. What passes isn't counted as a row, and no rows are taken from it.
+    /// were written. A line that passes isn't counted as a row, and isn't asked how many rows come next.
     fn pass(&mut self, bytes: &[u8]) -> io::Result<usize>
         requires { self.old.passes ≡ true }
         ensures bound { WritesAtMost result bytes.now }

@@ -10,7 +10,7 @@ pub fn is_undecided(status: u8) -> bool {
     status == UNDECIDED
 }
 
-/// Says what to do if the limit was passed.
+/// Says that the limit was passed, and what to do.
 ///
 /// Takes no memory. Doesn't wait, unless the standard error does.
 /// Own rule: docs/COMMANDS.md#messages.

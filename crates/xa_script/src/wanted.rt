@@ -34,7 +34,7 @@ const TOKENS: [(&[u8], &str); 24] = [
     (b"XID", "XID"),
 ];
 
-/// Returns whether reading doesn't go wrong at this token, a blank after the front. If the front begins some
+/// Returns whether reading the front, a blank and this token doesn't go wrong at the token. If the front begins some
 /// statement, that is whether some statement goes on with the token.
 fn takes(alloc: Global, front: &[u8], token: &[u8]) -> Result<bool, NoMemory>
     // Proved (scripts, wanted-tokens): A token is named as wanted at a syntax fault exactly if reading

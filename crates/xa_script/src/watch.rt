@@ -26,7 +26,7 @@ pub struct Watch<'r, I: Read + Drop, R> {
     name: Option<&'r str>,
     /// The kind of lines that the job reads.
     kind: LineKind,
-    /// How long a line may be.
+    /// How many bytes a line may have, without its line feed.
     most: usize,
     /// Whether lines are looked at.
     looks: bool,
@@ -80,8 +80,8 @@ impl<'r, I: Read + Drop, R: Eprint + Alloc<A = Global>> Watch<'r, I, R> {
         }
     }
 
-    /// Returns a reader of a file, one of several, that looks at its lines as `new` says of `speaks` and `counts`. No
-    /// line of it is too long.
+    /// Returns a reader of one input of a list, under its name, that looks at its lines as `new` says of `speaks` and
+    /// `counts`. No line of it is too long.
     ///
     /// Takes no memory. Doesn't wait.
     pub fn of_file(
@@ -136,8 +136,8 @@ impl<'r, I: Read + Drop, R: Eprint + Alloc<A = Global>> Watch<'r, I, R> {
         }
     }
 
-    /// Reports the file's name, if it has one, unless faults of its lines were reported behind that already. What is
-    /// reported next is about the file.
+    /// Reports the file's name, if it has one, before something else that is reported of the file. If a fault of one of
+    /// its lines was reported earlier, so was the name, and it isn't reported again.
     ///
     /// Doesn't wait, unless the standard error does.
     pub fn tell_name(&self) {
@@ -169,7 +169,8 @@ impl<'r, I: Read + Drop, R: Eprint + Alloc<A = Global>> Watch<'r, I, R> {
         self.kind.fault_in(self.line.as_slice())
     }
 
-    /// Counts the rows that the line says that the next lines are, or the line as one of them, faulty or not.
+    /// Updates how many rows of a return are missing: to as many as the line announces, or to one fewer if it stands
+    /// where a row was due, even if it is faulty.
     fn count_rows(&mut self)
         ensures inner { self.new.inner ≡ self.old.inner }
         ensures faulty { self.new.faulty ≡ self.old.faulty }
@@ -251,8 +252,8 @@ impl<'r, I: Read + Drop, R: Eprint + Alloc<A = Global>> Watch<'r, I, R> {
         }
     }
 
-    /// Looks at the end: its line may lack a line feed, and rows of a return may still be missing. Missing rows are
-    /// reported, if it speaks, and make no line faulty.
+    /// Looks at the end of the input: the last line may lack a line feed, and rows of a return may still be missing.
+    /// Missing rows are reported, if it speaks, and make no line faulty.
     fn look_at_end(&mut self)
         ensures { self.new.inner ≡ self.old.inner }
     {

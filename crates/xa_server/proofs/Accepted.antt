@@ -32,7 +32,8 @@ use Rattle.xa_server.proofs.Steps.{same_state, same_branches}
 
 -- ---- what a session has associated
 
--- what a session has open by a branch's phase is a branch that is there in that phase
+-- the association that a branch's own phase gives is open: if it names the branch, the branch is in the phase that it
+-- names
 in_phase : (state : State) (phase : Option Phase) (xid : Xid) → phase_at state xid ≡ phase
     → IsOpen state (association_in phase xid)
 in_phase state None xid e = tt
@@ -40,7 +41,7 @@ in_phase state (Some PhaseActive) xid e = e
 in_phase state (Some PhaseIdle) xid e = e
 in_phase state (Some PhasePrepared) xid e = tt
 
--- the branch that a session has associated is in that phase
+-- the branch that a session has open is in the phase that the session's association names
 pub open_association : (state : State) (session : ℕ) → IsOpen state (association_of state session)
 unfolding association_of
 open_association state session = by (own_xid state session)
@@ -148,13 +149,13 @@ accepted_rollback state (Active own) xid associated e = absurd (true≢false e)
 accepted_rollback state (Idle own) xid associated e =
     ap (is_known state) (own_is xid own _ e) ∙ known_in state own PhaseIdle associated
 
--- a GET is accepted only if no other branch has the row exclusively
+-- a GET in an ACTIVE branch is accepted only if no other branch has the row exclusively
 pub accepted_get : (state : State) (own : Xid) (key : List ℕ) → is_refused (table state (Active own) (Get key)) ≡ false
     → is_locked_against state (Active own) key ≡ false
 unfolding table
 accepted_get state own key e = let_through (is_locked_against state (Active own) key) _ _ e
 
--- a PUT is accepted only if no other branch holds the row
+-- a PUT in an ACTIVE branch is accepted only if no other branch holds the row
 pub accepted_put : (state : State) (own : Xid) (key : List ℕ) (value : Text)
     → is_refused (table state (Active own) (Put key value)) ≡ false
     → is_held_against state (Active own) key ≡ false
@@ -168,7 +169,7 @@ pub accepted_put_free : (state : State) (key : List ℕ) (value : Text)
 unfolding table
 accepted_put_free state key value e = let_through (is_held_against state Free key) _ _ e
 
--- a DEL is accepted only if no other branch holds the row
+-- a DEL in an ACTIVE branch is accepted only if no other branch holds the row
 pub accepted_del : (state : State) (own : Xid) (key : List ℕ) → is_refused (table state (Active own) (Del key)) ≡ false
     → is_held_against state (Active own) key ≡ false
 unfolding table
@@ -254,7 +255,7 @@ after_refused state session statement refused = sym (by (reply_to state session 
     by (Recovered xids) e = absurd (true≢false (sym e))
     by (Refused error) e = refl
 
--- the reply that the association has in the table is the reply to the session
+-- the reply that the table has for what a session has open is the reply to the session
 pub replied : (state : State) (session : ℕ) (association : Association) (statement : Statement) (reply : Reply)
     → association ≡ association_of state session
     → reply ≡ table state association statement → reply ≡ reply_to state session statement

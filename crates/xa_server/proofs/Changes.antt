@@ -31,7 +31,7 @@ idle branch = record branch { phase = PhaseIdle }
 unfoldable pub detached : Branch → Branch
 detached branch = record branch { phase = PhasePrepared; owner = None }
 
--- the branch of an identifier, by what it was, once an accepted statement is carried out
+-- the branch of an identifier after an accepted statement is carried out, by what was found there before
 unfoldable pub branch_after : ℕ → Association → Statement → Xid → Option Branch → Option Branch
 branch_after session association (Start xid) at found = cond (same_xid at xid) (Some (started_by session)) found
 branch_after session association (End xid) at found = cond (same_xid at xid) (option_map idle found) found
@@ -57,18 +57,19 @@ branch_after session (Idle own) Disconnect at found = cond (same_xid at own) Non
 
 -- ---- the parts of a step
 
--- the branch at an identifier, after a branch was put in: that one at its own, and the old one at others
+-- after a branch is put in at an identifier, it is there, and at each other identifier is what was there
 put_in : (state : State) (xid : Xid) (branch : Branch) (at : Xid)
     → map.get (with_branch state xid branch).branches at ≡ cond (same_xid at xid) (Some branch)
     (map.get state.branches at)
 put_in state xid branch at = get-insert xids_total state.branches xid branch at
 
--- the branch at an identifier, after one was taken out: none at its own, and the old one at others
+-- after the branch at an identifier is taken out, none is there, and at each other identifier is what was there
 taken_out : (state : State) (xid at : Xid) → map.get (without_branch state xid).branches at
     ≡ cond (same_xid at xid) None (map.get state.branches at)
 taken_out state xid at = get-remove xids_total state.branches xid at
 
--- the branch at an identifier, after one was changed: the changed one at its own, and the old one at others
+-- after the branch at an identifier is changed, the changed one is there, if there was one, and at each other
+-- identifier is what was there
 changed : (state : State) (xid : Xid) (change : Branch → Branch) (at : Xid) →
     map.get (with_changed state xid change).branches at ≡ cond (same_xid at xid)
     (option_map change (map.get state.branches at)) (map.get state.branches at)
@@ -93,7 +94,7 @@ changed state xid change at = by (map.get state.branches xid) refl
           ∙ sym (ap (λ b. cond b (option_map change (map.get state.branches at)) (map.get state.branches at)) apart)
     ])
 
--- the branch at an identifier, after one was committed: none at its own, and the old one at others
+-- after the branch at an identifier is committed, none is there, and at each other identifier is what was there
 ended : (state : State) (xid at : Xid) → map.get (committed state xid).branches at
     ≡ cond (same_xid at xid) None (map.get state.branches at)
 unfolding committed
@@ -113,7 +114,7 @@ ended state xid at = by (map.get state.branches xid) refl
     ]
     by (Some branch) e = taken_out state xid at
 
--- an accepted statement, carried out, leaves this branch
+-- in the state that a statement's effect leaves, the branch at each identifier is what `branch_after` says
 pub effect-branch : (state : State) (session : ℕ) (association : Association) (statement : Statement) (at : Xid) →
     map.get (effect state session association statement).branches at
     ≡ branch_after session association statement at (map.get state.branches at)

@@ -26,7 +26,7 @@ use Rattle.xa_server.proofs.Holders.{mode_of, none_of, beside_there, unwritten, 
 use Rattle.xa_server.proofs.Seen.{get-branches}
 use Rattle.xa_server.proofs.Steps.{same_state, same_branches, gather_same}
 
--- the committed value of a row after writes: what the newest write to it says, else what stood there
+-- after writes, the newest first, a row has the value that the newest write to it says, or else its old one
 pub get-with_writes : (writes : List (List ℕ × Write)) (rows : map.FinMap bytes_cmp Text) (key : List ℕ)
     → map.get (with_writes writes rows) key ≡ unwrap_or (find bytes_cmp key writes) (map.get rows key)
 get-with_writes [] rows key = refl
@@ -71,7 +71,8 @@ unneeded_mode xid row e = none_of (lock_by xid row) (by (is_some (lock_by xid ro
 unneeded_write : (xid : Xid) (row : RowRecord) → is_needed row ≡ false → write_by xid row ≡ None
 unneeded_write xid row e = unwritten xid (Some row) (ap is_some (unneeded_mode xid row e))
 
--- if a record says nothing where it isn't needed, it says the same once it is dropped where it isn't needed
+-- if a record that isn't needed says nothing, dropping the record where it isn't needed changes nothing of what it
+-- says
 kept_says : {W : Type 0} (says : RowRecord → Option W) (row : RowRecord) → (is_needed row ≡ false → says row ≡ None)
     → option_and_then says (kept row) ≡ says row
 kept_says says row nothing = by (is_needed row) refl
@@ -90,13 +91,14 @@ freed_says says nothing commits xid same None = refl
 freed_says says nothing commits xid same (Some row) =
     kept_says says (freed_row commits xid row) (nothing (freed_row commits xid row)) ∙ same row
 
--- the record of a row says nothing any more of a branch that ended
+-- after a row is freed of a branch, the row's record says that the branch doesn't hold it
 freed_mode : (commits : Bool) (xid : Xid) (found : Option RowRecord) → mode_of xid (freed commits xid found) ≡ None
 freed_mode commits xid None = refl
 freed_mode commits xid (Some row) = kept_says (lock_by xid) (freed_row commits xid row)
     (unneeded_mode xid (freed_row commits xid row)) ∙ freed_own xid row.lock
 
--- the committed value after a branch ended: its write, if it commits and wrote; else the value before
+-- the committed value after a branch ended: the branch's write, if the branch commits and wrote the row; else the
+-- value before
 value_after : Bool → Option Write → Option Text → Option Text
 value_after commits write value = cond commits (unwrap_or write value) value
 
@@ -105,7 +107,8 @@ never : (b : Bool) → ◌≡◌ {A = Option Text} None (cond b None None)
 never true = refl
 never false = refl
 
--- the committed value in a row's record after a branch ended: its write if it commits, else what stood there
+-- after a row is freed of a branch, its committed value is the branch's write, if the branch commits and wrote the
+-- row, and else the value before
 freed_value : (commits : Bool) (xid : Xid) (found : Option RowRecord)
     → committed_of (freed commits xid found) ≡ value_after commits (option_and_then (write_by xid) found)
     (committed_of found)
@@ -114,7 +117,7 @@ freed_value commits xid None = never commits
 freed_value commits xid (Some row) =
     kept_says (λ row. row.committed) (freed_row commits xid row) (λ e. (unneeded (freed_row commits xid row) e).0)
 
--- a row that the branch doesn't hold keeps its value
+-- ending a branch leaves the value of a row that the branch doesn't hold
 unheld_value : (commits : Bool) (xid : Xid) (found : Option RowRecord) → is_some (mode_of xid found) ≡ false
     → value_after commits (option_and_then (write_by xid) found) (committed_of found) ≡ committed_of found
 unfolding value_after
@@ -194,7 +197,8 @@ ended_beside commits xid keys old new frees other apart =
     locks : gather (lock_by other) new ≡ gather (lock_by other) old
     locks = gather_same (lock_by other) old new (beside_mode commits xid keys old new frees other apart)
 
--- after a branch's rows were freed, each row has its write if it commits, else its old value
+-- after a branch's rows were freed, each row has the branch's write, if the branch commits and wrote the row, and
+-- else its old value
 ended_value : (commits : Bool) (xid : Xid) (keys : List (List ℕ)) (old new : RowMap) → Frees commits xid keys old new
     → IsListedIn xid keys old
     → (key : List ℕ) →
@@ -235,7 +239,8 @@ seen_rolled_back branches xid keys old new frees listed = same_state _ _
     (ended_branches branches false xid keys old new frees)
     (gather_same (λ row. row.committed) old new (ended_value false xid keys old new frees listed))
 
--- freeing a branch's rows with its writes made committed values is, in the state, committing it
+-- freeing a branch's rows, with its writes made committed values, and dropping its record is, in the state,
+-- committing the branch
 pub seen_committed : (branches : BranchMap) (xid : Xid) (branch : BranchRecord) (keys : List (List ℕ))
     (old new : RowMap) → map.get branches xid ≡ Some branch
     → Frees true xid keys old new → IsListedIn xid keys old →

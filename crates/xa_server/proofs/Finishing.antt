@@ -163,7 +163,8 @@ later_prepare : (base : State) (entry : ℕ × Statement) (entries : List (ℕ �
 later_prepare base entry entries place xid is =
     record { session = is.session; entry = is.entry; accepted = is.accepted }
 
--- the induction's step: the first statement makes the branch PREPARED, or a later one does
+-- the induction's step: a branch that isn't PREPARED in the base is prepared by the first entry, or isn't PREPARED
+-- after it and so, by the premise, is prepared by a later one
 by_first : (base : State) (entry : ℕ × Statement) (entries : List (ℕ × Statement)) (end_at : ℕ) (xid : Xid)
     → is_prepared base xid ≡ false →
     (b : Bool) → is_prepared (after base entry.0 entry.1) xid ≡ b

@@ -1,4 +1,5 @@
--- What ending a branch does to the records of rows.
+-- What ending a branch does to the records of rows; and what it does to them that a branch comes to hold or to
+-- share a row.
 use Rattle.std.proofs.Common.{◌≡◌, ℕ, List, [], ◌∷◌, ◌++◌, refl, ap, sym, ◌∙◌, Bool, true, false, inl, inr}
 use Rattle.std.specs.Prelude.{Option, Some, None, cond, not, ◌&&◌, ◌||◌, is_some, MatchOption}
 use Rattle.std.specs.Option.{unwrap_or}
@@ -91,13 +92,13 @@ freed_twice commits xid (Some row) =
     by ended twice true e = rw e (ap kept twice ∙ rw e refl)
     by ended twice false e = rw e refl
 
--- a choice by a test, or by false, is the choice by that test
+-- to choose by `b || false` is to choose by `b`
 any_one : (b : Bool) {A : Type 0} (x y : A) → cond (b || false) x y ≡ cond b x y
 any_one true x y = refl
 any_one false x y = refl
 
--- if one key's record is freed, and dropped where it isn't needed, and all others are as before, the records are
--- freed of the list of that key
+-- if one key's record is freed, and dropped where it isn't needed, and all others are as before, the records are as
+-- `Frees` says for the list of that key alone
 pub frees_one :
     (commits : Bool) (xid : Xid) (key : List ℕ) (old new : RowMap) →
     map.get new key ≡ freed commits xid (map.get old key) →
@@ -123,7 +124,8 @@ abbrev pub Tells : Bool → Xid → List ℕ → BTreeMap (List ℕ) RowRecord �
 Tells commits xid key old needed =
     MatchOption (tree.get bytes_cmp old key) (needed ≡ true) (λ row. needed ≡ is_needed (freed_row commits xid row))
 
--- a row's record that is still needed stays, without the branch
+-- if a row's record, where there is one, is changed in place to one without the branch, and is still needed, the row
+-- is freed of the branch
 pub frees_kept : (commits : Bool) (xid : Xid) (key : List ℕ) (old new : BTreeMap (List ℕ) RowRecord) (needed : Bool) →
     Changes commits xid key old new → Tells commits xid key old needed → needed ≡ true
     → Frees commits xid (key ∷ []) (rows_in old) (rows_in new)
@@ -146,7 +148,8 @@ frees_kept commits xid key old new needed changes tells is = by (tree.get bytes_
         ∙ sym (ap (freed commits xid) found ∙ ap (λ b. cond b (Some (freed_row commits xid row)) None) stays))
         (λ other apart. get_inserted_apart bytes_total exact_texts (rows_in old) key _ other apart))
 
--- a row's record that isn't needed any more after its branch was freed may be dropped
+-- if a row's record is changed in place to one without the branch, isn't needed any more, and is removed, the row is
+-- freed of the branch
 pub frees_dropped : (commits : Bool) (xid : Xid) (key : List ℕ) (old mid new : BTreeMap (List ℕ) RowRecord)
     (needed : Bool) →
     Changes commits xid key old mid → Tells commits xid key old needed → needed ≡ false
@@ -178,7 +181,8 @@ pub record IsFreed (commits : Bool) (xid : Xid) (all rest : List (List ℕ)) (ol
       cond (list_any (eq_by_cmp bytes_cmp key) rest) (freed commits xid (map.get now key)) (map.get now key)
       ≡ cond (list_any (eq_by_cmp bytes_cmp key) all) (freed commits xid (map.get old key)) (map.get old key)
 
--- freeing a key that may already be freed, then others: the same as freeing it among them, as freeing twice is once
+-- if doing something twice is doing it once, then to do it if one test holds, and then if another does, is to do it
+-- once if either holds
 any_more : (b c : Bool) (f : Option RowRecord → Option RowRecord) (x : Option RowRecord) → f (f x) ≡ f x
     → cond b (f (cond (c || false) (f x) x)) (cond (c || false) (f x) x) ≡ cond (b || (c || false)) (f x) x
 any_more true true f x twice = twice
@@ -186,7 +190,8 @@ any_more true false f x twice = refl
 any_more false true f x twice = refl
 any_more false false f x twice = refl
 
--- the step of the loop over a branch's keys: the last of those left is freed now
+-- the loop over a branch's keys goes on: if the last of the keys that are left is freed now, what the loop keeps
+-- holds with the others left
 pub freed_one_more : (commits : Bool) (xid : Xid) (all rest : List (List ℕ)) (key : List ℕ) (old now next : RowMap) →
     IsFreed commits xid all (rest ++ key ∷ []) old now → Frees commits xid (key ∷ []) now next
     → IsFreed commits xid all rest old next

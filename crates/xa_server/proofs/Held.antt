@@ -60,7 +60,8 @@ hold-modes xid (SharedBy sharers) = by (set.contains sharers xid)
     by true = refl
     by false = refl
 
--- one row more in front of a list adds itself in front of those that the branch holds
+-- the induction's step: if the records of a list and the branch say the same of which rows it holds, so they do with
+-- one row more in front
 held-more : (branch : Branch) (xid : Xid) (e : List ℕ × RowRecord) (es : List (List ℕ × RowRecord))
     → fin.get branch.writes e.0 ≡ write_by xid e.1 →
     held_among xid es ≡ map (held_row branch) (kept (lock_by xid) es) → (mode : Option LockMode) →
@@ -72,7 +73,8 @@ held-more branch xid e es wrote rest (Some mode) =
     row ∷ held_among xid es) (sym wrote)
     ∙ ap (λ rows. held_row branch (e.0, mode) ∷ rows) rest
 
--- the rows that a branch holds, by what the rows' records say of it
+-- if a branch's writes are those in a list of rows' records, the rows of the list that it holds are those whose
+-- record says so, each with the branch's write
 held-kept : (branch : Branch) (xid : Xid) (es : List (List ℕ × RowRecord))
     → AllByRecursion (λ (e : List ℕ × RowRecord). fin.get branch.writes e.0 ≡ write_by xid e.1) es →
     held_among xid es ≡ map (held_row branch) (kept (lock_by xid) es)
@@ -100,13 +102,13 @@ rows-seen rows xid branch =
     ∙ sym (held-kept (branch_seen rows xid branch) xid (fin.entries rows)
     (wrote-each rows xid (fin.entries rows) (found_entries bytes_total exact_texts rows)))
 
--- the rows that a branch which is known holds, by the rows' records
+-- a branch that has a record holds the rows whose records name it
 rows-known : (rows : RowMap) (xid : Xid) (found : Option BranchRecord) → is_some found ≡ true →
     option_map_or rows_held (option_map (branch_seen rows xid) found) [] ≡ held_among xid (fin.entries rows)
 rows-known rows xid None there = absurd (true≢false (sym there))
 rows-known rows xid (Some branch) there = rows-seen rows xid branch
 
--- the rows that a branch holds, by the rows' records
+-- a branch that the state knows holds the rows whose records name it
 pub rows_of-seen : (branches : BranchMap) (rows : RowMap) (xid : Xid) → is_known (state_of branches rows) xid ≡ true
     → rows_of (state_of branches rows) xid ≡ held_among xid (fin.entries rows)
 unfolding rows_of

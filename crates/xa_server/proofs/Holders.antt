@@ -99,7 +99,7 @@ any_witness p (x ∷ xs) e = by (p x) refl e (any_witness p xs)
     by false is e rest =
         let found = rest e in (found.0, later (same_xid found.0 x) (list_any (same_xid found.0) xs) found.1, found.2)
 
--- if an identifier of a list passes a test, some one does
+-- if an identifier of a list passes a test, some identifier of the list does
 pub any_some : (p : Xid → Bool) (xs : List Xid) (xid : Xid) → list_any (same_xid xid) xs ≡ true → p xid ≡ true
     → list_any p xs ≡ true
 any_some p [] xid there here = there
@@ -161,7 +161,7 @@ writes_in xid (HeldBy holder change) e = exclusive_if (same_xid holder xid) ∙ 
     by false e = e
 writes_in xid (SharedBy sharers) e = absurd (true≢false (sym e))
 
--- a holder that isn't the session's own is among those beside it
+-- if a branch that isn't the session's own holds the row of a lock, the lock is held beside the session's own branch
 pub beside_there : (association : Association) (lock : Lock) (xid : Xid) → is_some (mode_in xid lock) ≡ true
     → is_another association xid ≡ true
     → held_beside association lock ≡ true
@@ -180,7 +180,8 @@ beside_witness association (SharedBy sharers) e =
     let found = any_witness (is_another association) (set.items sharers) e in
     (found.0, some_if (set.contains sharers found.0) Shared ∙ contains-items sharers found.0 ∙ found.1, found.2)
 
--- a branch other than the session's own with an exclusive lock locks the row against it
+-- if a branch that isn't the session's own holds the row of a lock exclusively, the row is locked beside the
+-- session's own branch
 pub locked_there : (association : Association) (lock : Lock) (xid : Xid) → is_exclusive (mode_in xid lock) ≡ true
     → is_another association xid ≡ true
     → locked_beside association lock ≡ true
@@ -195,7 +196,7 @@ pub locked_witness : (association : Association) (lock : Lock) → locked_beside
 locked_witness association (HeldBy holder change) e = (holder, exclusive_if (same_xid holder holder) ∙ itself holder, e)
 locked_witness association (SharedBy sharers) e = absurd (true≢false (sym e))
 
--- what doesn't hold a row doesn't write it
+-- a branch that doesn't hold a row has no write of it
 pub unwritten : (xid : Xid) (found : Option RowRecord) → is_some (mode_of xid found) ≡ false
     → option_and_then (write_by xid) found ≡ None
 unwritten xid None e = refl
@@ -208,7 +209,7 @@ unwritten xid (Some row) e = by (write_in xid row.lock) refl
 
 -- ---- a row that comes to be shared
 
--- a branch that comes to share a row, which nobody else holds exclusively, holds it shared
+-- a branch that comes to share a row that no branch holds exclusively, itself included, holds it shared
 pub sharer_there : (xid : Xid) (lock : Lock) → is_exclusive (mode_in xid lock) ≡ false
     → locked_beside (Active xid) lock ≡ false
     → mode_in xid (with_sharer xid lock) ≡ Some Shared

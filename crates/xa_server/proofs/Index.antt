@@ -42,7 +42,7 @@ ended_named (Idle own) xid e = ap Idle (same_value own xid e)
 abbrev pub owner_in : Option BranchRecord → Option ℕ
 owner_in found = option_and_then (λ (branch : BranchRecord). branch.owner) found
 
--- how far the branch of a record has come
+-- the phase of a record's branch, if there is a record
 abbrev pub phase_of : Option BranchRecord → Option Phase
 phase_of found = option_map (λ (branch : BranchRecord). branch.phase) found
 
@@ -106,7 +106,7 @@ owner_within opened nothing branches session xid owner is =
 pub found_with : BranchMap → Xid → Option BranchRecord → Xid → Option BranchRecord
 found_with old xid found other = cond (same_xid other xid) found (map.get old other)
 
--- replacing the record of a branch, seen at that branch: the new record
+-- after the record of a branch is replaced, a look-up at that branch finds the new record
 pub here : (old : BranchMap) (xid : Xid) (found : Option BranchRecord) → found_with old xid found xid ≡ found
 unfolding found_with
 here old xid found = ap (λ b. cond b found (map.get old xid)) (same_itself xids_total exact_xids xid)
@@ -224,7 +224,8 @@ indexed_apart opened nothing old new xid found gets before after is = record {
       | inr apart ↦ gets other ∙ there old xid found other apart
     ]
 
--- a session that owned nothing starts a branch that nobody owned: its place is set to that branch, ACTIVE
+-- if a session that has a place and owned nothing starts a branch that nobody owned, its place may be set to that
+-- branch, ACTIVE (`IsSeat`)
 pub seat_started :
     (opened : List Association) (old : BranchMap) (session : ℕ) (xid : Xid) (branch : BranchRecord) →
     session < length opened → owner_of old xid ≡ None → ((other : Xid) → owner_of old other ≢ Some session) →
@@ -246,7 +247,8 @@ module _ (opened : List Association) (nothing : Association) (old : BranchMap) (
   only_own : (other : Xid) → owner_of old other ≡ Some session → other ≡ xid
   only_own other e = same_value other xid (sym (is.listed session other e) ∙ is.listed session xid owner_is)
 
-  -- the session's branch is changed or gone, with no owner: the session's place is set to nothing
+  -- if the session's branch is changed to one without an owner, or is gone, the session's place may be set to nothing
+  -- (`IsSeat`)
   pub seat_freed : (found : Option BranchRecord) → owner_in found ≡ None → IsSeat opened old session xid found Free
   seat_freed found none = record {
     within = owner_within opened nothing old session xid owner_is is;
@@ -257,7 +259,7 @@ module _ (opened : List Association) (nothing : Association) (old : BranchMap) (
     owned = λ at e. not_none at (sym none ∙ e);
   }
 
-  -- the session's branch keeps its owner and is IDLE: the session's place is set to it, IDLE
+  -- if the session's branch keeps its owner and becomes IDLE, the session's place may be set to it, IDLE (`IsSeat`)
   pub seat_idle : (branch : BranchRecord) → branch.owner ≡ Some session
       → Idle xid ≡ association_in (Some branch.phase) xid
       → IsSeat opened old session xid (Some branch) (Idle xid)
@@ -287,7 +289,8 @@ get-removed old xid other = elim (same_or_apart xids_total exact_xids other xid)
   | inr apart ↦ get_removed_apart xids_total exact_xids old xid other apart ∙ sym (there old xid None other apart)
 ]
 
--- what is found at an identifier once a record is changed, if there is a record to change
+-- once a record is changed, a look-up finds the changed one at its identifier, if there was one, and elsewhere what
+-- was there
 pub get-changed :
     (old : BranchMap) (xid other : Xid) (change : BranchRecord → BranchRecord) →
     map.get (with_record old xid change) other ≡ found_with old xid (option_map change (map.get old xid)) other
@@ -311,7 +314,7 @@ same_owner change same (Some branch) = same branch
 
 -- changing one record leaves all owners if it leaves that record's owner, and all phases if it leaves its phase
 module _ (old : BranchMap) (xid : Xid) (change : BranchRecord → BranchRecord) where
-  -- the owners, if the change leaves the owner
+  -- a change of one record that leaves its owner leaves the owner of every branch
   pub owner_of-changed : ((branch : BranchRecord) → (change branch).owner ≡ branch.owner) → (other : Xid)
       → owner_of (with_record old xid change) other ≡ owner_of old other
   owner_of-changed same other =
@@ -321,7 +324,7 @@ module _ (old : BranchMap) (xid : Xid) (change : BranchRecord → BranchRecord) 
         | inr apart ↦ ap owner_in (there old xid (option_map change (map.get old xid)) other apart)
       ]
 
-  -- the phases, if the change leaves the phase
+  -- a change of one record that leaves its phase leaves the phase of every branch
   pub phase_in-changed : ((branch : BranchRecord) → (change branch).phase ≡ branch.phase) → (other : Xid)
       → phase_in (with_record old xid change) other ≡ phase_in old other
   phase_in-changed same other =
@@ -420,7 +423,7 @@ indexed_started opened nothing old session xid branch within nobodys none owner 
     (seat_started opened old session xid branch within nobodys none owner
     (ap (λ p. association_in (Some p) xid) (sym phase))) is
 
--- the owner of a branch, by what a look-up in the tree of records finds
+-- the owner that is named in the record which a look-up in the tree finds is the branch's owner
 pub tree_owner : (table : BTreeMap Xid BranchRecord) (xid : Xid) (owner : Option ℕ)
     → owner ≡ owner_in (tree.get xid_cmp table xid)
     → owner_of (branches_in table) xid ≡ owner

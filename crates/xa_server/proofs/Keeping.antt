@@ -58,7 +58,7 @@ sound_in : (state : State) → LockLaw state → (xid : Xid) → IsSound (map.ge
 unfolding is_ready owner_in mode_in is_writing
 sound_in state law xid = record { detached = law.detached xid; attached = law.attached xid; held = law.held_writes xid }
 
--- where no branch is, nothing contradicts the law
+-- where there is no branch, `IsSound` holds
 sound_none : IsSound None
 unfolding is_ready owner_in mode_in is_writing
 sound_none = record

@@ -68,7 +68,8 @@ and_false : (b : Bool) → (b && false) ≡ false
 and_false true = refl
 and_false false = refl
 
--- the induction's step: one element more in front of the list that is filtered
+-- the induction's step: if the filtered list has exactly the members that pass the test, so it has with one element
+-- more in front
 in_rest : (p : Xid → Bool) (x : Xid) (xs : List Xid) (xid : Xid)
     → list_any (same_xid xid) (filter p xs) ≡ (list_any (same_xid xid) xs && p xid) →
     (b : Bool) → p x ≡ b → list_any (same_xid xid) (cond b (x ∷ filter p xs) (filter p xs))

@@ -56,7 +56,7 @@ find_passes : (p : Xid → Bool) (xs : List Xid) (xid : Xid) → find p xs ≡ S
 find_passes p [] xid e = not_none xid e
 find_passes p (x ∷ xs) xid e = passing p x (find p xs) xid (find_passes p xs xid) (p x) refl e
 
--- a branch that a session owns, in any phase, is its own
+-- if a session owns a branch, the association that any phase of the branch gives names a branch of the session
 in_phase : (state : State) (session : ℕ) (phase : Option Phase) (xid : Xid) → owns state session xid ≡ true
     → IsOwn state session (association_in phase xid)
 in_phase state session None xid e = tt
@@ -89,13 +89,13 @@ unfolding own_xid is_owned
 own_found state session xid e only = find_one (owns state session) (map.keys state.branches) xid
     (sym (contains_key-keys state.branches xid) ∙ known_owned session (map.get state.branches xid) e) e only
 
--- the branch that is found is the session's
+-- the branch that `own_xid` finds for a session is the session's
 pub find_owned : (state : State) (session : ℕ) (xid : Xid) → own_xid state session ≡ Some xid
     → owns state session xid ≡ true
 unfolding own_xid
 find_owned state session xid e = find_passes (owns state session) (map.keys state.branches) xid e
 
--- a session that owns no branch has none open
+-- for a session that owns no branch `own_xid` finds none
 pub none_found : (state : State) (session : ℕ) → ((xid : Xid) → owns state session xid ≢ true)
     → own_xid state session ≡ None
 unfolding own_xid
@@ -162,7 +162,7 @@ accepted_rollback_own state session (Idle associated) xid own e =
 
 -- ---- such a branch isn't another session's
 
--- a branch that one session owns no other owns
+-- no session owns a branch that another session owns, by the owner that the branch names
 one_owner : (session other : ℕ) (owner : Option ℕ) → session ≢ other
     → option_map_or (λ o. o == session) owner false ≡ true
     → option_map_or (λ o. o == other) owner false ≡ false
@@ -172,17 +172,17 @@ one_owner session other owner apart e = by (option_map_or (λ o. o == other) own
     by true f = absurd (apart (same_value session other (sym (owned_is owner session e) ∙ owned_is owner other f)))
     by false f = refl
 
--- a branch of the state that one session owns no other owns
+-- no session owns a branch of the state that another session owns
 not_others : (state : State) (session other : ℕ) (xid : Xid) → session ≢ other → owns state session xid ≡ true
     → owns state other xid ≡ false
 not_others state session other xid apart e = one_owner session other (owner_at state xid) apart e
 
--- a PREPARED branch nobody owns
+-- in a state that keeps the lock law nobody owns a PREPARED branch
 pub nobodys : (state : State) (other : ℕ) (xid : Xid) → LockLaw state → is_prepared state xid ≡ true
     → owns state other xid ≡ false
 nobodys state other xid law e = ap (λ owner. option_map_or (λ o. o == other) owner false) (law.detached xid e)
 
--- a branch that a session may finish is no other session's
+-- in a state that keeps the lock law, a branch that a session may finish is no other session's
 not_anothers : (state : State) (session other : ℕ) (xid : Xid) → LockLaw state → session ≢ other
     → IsFinishable state session xid → owns state other xid ≡ false
 not_anothers state session other xid law apart (inl e) = not_others state session other xid apart e
@@ -250,7 +250,8 @@ kept state session other law apart (Idle associated) own Disconnect accepted at 
 
 -- ---- another session gets no branch
 
--- what a test takes, a changed branch or the one found: if another session owns it, it owned the one found
+-- if a session that owns a changed branch owned the one found, then, whichever of the two a test takes, a session
+-- that owns that one owned the one found
 either : (other : ℕ) (b : Bool) (new found : Option Branch) → (is_owned other new ≡ true → is_owned other found ≡ true)
     → is_owned other (cond b new found) ≡ true → is_owned other found ≡ true
 either other true new found from e = from e

@@ -88,13 +88,13 @@ pub owner_at-seen : (branches : BranchMap) (rows : RowMap) (xid : Xid)
 owner_at-seen branches rows xid = ap (option_and_then (λ (b : Branch). b.owner)) (get-branches branches rows xid)
     ∙ owner_in rows xid (map.get branches xid)
 
--- a branch is in the state if it has a record
+-- a branch is in the state exactly if it has a record
 known_in : (rows : RowMap) (xid : Xid) (found : Option BranchRecord)
     → is_some (option_map (branch_seen rows xid) found) ≡ is_some found
 known_in rows xid None = refl
 known_in rows xid (Some branch) = refl
 
--- a branch is at an identifier of the state if it has a record there
+-- a branch is at an identifier of the state exactly if it has a record there
 pub is_known-seen : (branches : BranchMap) (rows : RowMap) (xid : Xid)
     → is_known (state_of branches rows) xid ≡ is_some (map.get branches xid)
 is_known-seen branches rows xid = ap is_some (get-branches branches rows xid) ∙ known_in rows xid (map.get branches xid)
@@ -104,7 +104,7 @@ pub known_record : (branches : BranchMap) (rows : RowMap) (xid : Xid) → is_kno
     → is_some (map.get branches xid) ≡ true
 known_record branches rows xid known = sym (is_known-seen branches rows xid) ∙ known
 
--- a branch is PREPARED in the state if its record says so
+-- a branch is PREPARED in the state exactly if its record says so
 pub is_prepared-seen : (branches : BranchMap) (rows : RowMap) (xid : Xid)
     → is_prepared (state_of branches rows) xid ≡ option_map_or is_prepared_phase
     (option_map (λ (b : BranchRecord). b.phase) (map.get branches xid)) false
@@ -135,7 +135,7 @@ find_one p (x ∷ xs) xid there here only = elim (same_or_apart xids_total exact
       (sym (ap (λ b. b || list_any (same_xid xid) xs) apart) ∙ there) here only) only (p x) refl
 ]
 
--- a session owns a branch of the state if the record names it as the owner
+-- a session owns a branch of the state exactly if the record names it as the owner
 owns-seen : (branches : BranchMap) (rows : RowMap) (session : ℕ) (xid : Xid)
     → owns (state_of branches rows) session xid ≡ option_map_or (λ owner. owner == session)
     (owner_of branches xid) false
@@ -176,13 +176,13 @@ owner_known : (found : Option BranchRecord) (session : ℕ)
 owner_known None session e = not_none session e
 owner_known (Some branch) session e = refl
 
--- a record that is found stands at a key
+-- an identifier that has a record is among those of the state's branches
 key_there : (branches : BranchMap) (rows : RowMap) (xid : Xid) → is_some (map.get branches xid) ≡ true
     → list_any (same_xid xid) (map.keys (state_of branches rows).branches) ≡ true
 key_there branches rows xid there =
     ap (list_any (same_xid xid)) (keys-branches branches rows) ∙ sym (contains_key-keys branches xid) ∙ there
 
--- the one branch that a session owns by the records is the one that it has open in the state
+-- the one branch that a session owns by the records is the one that it owns in the state
 pub own_xid-owned : (branches : BranchMap) (rows : RowMap) (session : ℕ) (xid : Xid) → IsWhole branches rows
     → owner_of branches xid ≡ Some session
     → own_xid (state_of branches rows) session ≡ Some xid
@@ -193,7 +193,7 @@ own_xid-owned branches rows session xid whole owner =
     (owner_owns branches rows session xid owner)
     (λ other is. whole.one_owned session xid other owner (owns_owner branches rows session other is))
 
--- a session that no record names as an owner has nothing open
+-- a session that no record names as an owner owns no branch in the state
 pub own_xid-free : (branches : BranchMap) (rows : RowMap) (session : ℕ)
     → ((xid : Xid) → owner_of branches xid ≢ Some session)
     → own_xid (state_of branches rows) session ≡ None
@@ -262,7 +262,7 @@ association-opened branches rows session opened whole named owned = by opened re
 
 -- ---- who holds a row
 
--- if a count is 0, what it counts isn't there
+-- if a count that is 1 or 0 by a test is 0, the test fails
 zero_only : (b : Bool) (n : ℕ) → n ≡ 0 → n ≡ cond b 1 0 → b ≡ false
 zero_only true n z e = absurd (zero_or_one n z e)
 zero_only false n z e = refl
@@ -285,7 +285,7 @@ holder_known branches rows xid key whole e = by (map.get branches xid) refl
     by None is = absurd (true≢false (sym e ∙ unknown_holds branches rows xid key whole is))
     by (Some branch) is = refl
 
--- how a known branch has locked a row, by the row's record
+-- how a known branch has locked a row is what the row's record says
 mode_within : (rows : RowMap) (xid : Xid) (key : List ℕ) (found : Option BranchRecord) → is_some found ≡ true →
     option_and_then (λ (branch : Branch). map.get branch.locks key) (option_map (branch_seen rows xid) found)
     ≡ mode_of xid (map.get rows key)
@@ -305,12 +305,13 @@ lock_at-seen branches rows xid key whole =
     by (Some branch) e = mode_within rows xid key (Some branch) refl
     by None e = sym (none_of (mode_of xid (map.get rows key)) (unknown_holds branches rows xid key whole e))
 
--- a branch holds a row in the state if the row's record names it
+-- a branch holds a row in the state exactly if the row's record names it
 pub holds-seen : (branches : BranchMap) (rows : RowMap) (xid : Xid) (key : List ℕ) → IsWhole branches rows
     → holds (state_of branches rows) xid key ≡ is_some (mode_of xid (map.get rows key))
 holds-seen branches rows xid key whole = ap is_some (lock_at-seen branches rows xid key whole)
 
--- whether a branch that isn't the session's own holds a row in a way that passes a test, told from the row's record
+-- if b holds exactly if, by the row's record, a branch that isn't the session's own holds the row in a way that
+-- passes a test, then b says whether such a branch does in the state
 against : (branches : BranchMap) (rows : RowMap) (association : Association) (key : List ℕ)
     (passes : Option LockMode → Bool) (b : Bool) → IsWhole branches rows
     → passes None ≡ false →
@@ -338,7 +339,7 @@ against branches rows association key passes b whole nothing witness there = sam
     something None e = absurd (true≢false (sym e ∙ nothing))
     something (Some mode) e = refl
 
--- a row is held against a session where its record says that another branch holds it
+-- a row is held against a session exactly if its record says that another branch holds it
 pub held_against-seen : (branches : BranchMap) (rows : RowMap) (association : Association) (key : List ℕ)
     → IsWhole branches rows
     → is_held_against (state_of branches rows) association key ≡ held_against association (map.get rows key)
@@ -352,7 +353,7 @@ held_against-seen branches rows association key whole =
     ∙ beside_there association (lock_of (map.get rows key)) xid
     (sym (ap is_some (mode_of-lock xid (map.get rows key))) ∙ e) f)
 
--- a row is locked against a session if its record says that another branch holds it exclusively
+-- a row is locked against a session exactly if its record says that another branch holds it exclusively
 pub locked_against-seen : (branches : BranchMap) (rows : RowMap) (association : Association) (key : List ℕ)
     → IsWhole branches rows
     → is_locked_against (state_of branches rows) association key ≡ locked_against association (map.get rows key)
@@ -396,14 +397,14 @@ free_row branches rows own key whole e other apart =
 
 -- ---- what a branch sees
 
--- what a known branch has written to a row, by the row's record
+-- what a known branch has written to a row is what the row's record says
 write_in : (rows : RowMap) (xid : Xid) (key : List ℕ) (found : Option BranchRecord) → is_some found ≡ true →
     option_and_then (λ (branch : Branch). map.get branch.writes key) (option_map (branch_seen rows xid) found)
     ≡ option_and_then (write_by xid) (map.get rows key)
 write_in rows xid key None there = absurd (true≢false (sym there))
 write_in rows xid key (Some branch) there = writes-seen rows xid key
 
--- what the branch at an identifier has written to a row, by the row's record, if the branch is known
+-- if the branch at an identifier is known, what it has written to a row is what the row's record says
 pub write_at-known : (branches : BranchMap) (rows : RowMap) (xid : Xid) (key : List ℕ)
     → is_some (map.get branches xid) ≡ true
     → write_at (state_of branches rows) xid key ≡ option_and_then (write_by xid) (map.get rows key)
@@ -411,7 +412,7 @@ write_at-known branches rows xid key there =
     ap (option_and_then (λ (branch : Branch). map.get branch.writes key)) (get-branches branches rows xid)
     ∙ write_in rows xid key (map.get branches xid) there
 
--- what the branch at an identifier has written to a row, by the row's record, if the records are whole
+-- if the records are whole, what the branch at an identifier has written to a row is what the row's record says
 pub write_at-seen : (branches : BranchMap) (rows : RowMap) (xid : Xid) (key : List ℕ) → IsWhole branches rows
     → write_at (state_of branches rows) xid key ≡ option_and_then (write_by xid) (map.get rows key)
 write_at-seen branches rows xid key whole = by (map.get branches xid) refl
@@ -424,7 +425,7 @@ write_at-seen branches rows xid key whole = by (map.get branches xid) refl
         (get-branches branches rows xid ∙ ap (option_map (branch_seen rows xid)) e)
         ∙ sym (unwritten xid (map.get rows key) (unknown_holds branches rows xid key whole e))
 
--- the value that a branch sees in a row depends on the row's record alone
+-- the value that a branch sees in a row is the one that the row's record says
 pub value_within-seen : (branches : BranchMap) (rows : RowMap) (xid : Xid) (key : List ℕ) → IsWhole branches rows
     → value_within (state_of branches rows) xid key ≡ value_seen xid (map.get rows key)
 value_within-seen branches rows xid key whole =

@@ -28,38 +28,40 @@ several_in few many = listed (few ++ many.keys)
 
 -- ---- tests
 
--- a test or a false one is the test; the lemmas below are the cases that one more member of a set needs
+-- `b || false` is `b`
 or_false : (b : Bool) → (b || false) ≡ b
 or_false true = refl
 or_false false = refl
 
--- a test and a false one are false
+-- `b && false` is false
 and_false : (b : Bool) → (b && false) ≡ false
 and_false true = refl
 and_false false = refl
 
--- how tests combine where a member is put behind the first ones of a set
+-- the test b of a member behind the first ones (a), before the later ones (c), may as well stand in front of all
 or_one_more : (a b c : Bool) → ((a || (b || false)) || c) ≡ (b || (a || c))
 or_one_more true true c = refl
 or_one_more true false c = refl
 or_one_more false true c = refl
 or_one_more false false c = refl
 
--- how tests combine where a member is put among the later ones of a set
+-- the test b of a member among the later ones (c), written as a choice, may as well stand in front of all, the first
+-- ones (a) too
 or_cond : (a b c : Bool) → (a || cond b true c) ≡ (b || (a || c))
 or_cond true true c = refl
 or_cond true false c = refl
 or_cond false true c = refl
 or_cond false false c = refl
 
--- how tests combine where a member is taken out of a set
+-- to take a member, for which b tests, out of the first ones (a) and out of the later ones (c) is to take it out of
+-- both together
 and_cond : (a b c : Bool) → ((not b && a) || cond b false c) ≡ (not b && (a || c))
 and_cond true true c = refl
 and_cond true false c = refl
 and_cond false true c = refl
 and_cond false false c = refl
 
--- how tests combine where a member of a set is left that isn't the one taken out
+-- if b fails, c holds exactly if b or c does
 and_not : (b c : Bool) → (not b && c) ≡ (not b && (b || c))
 and_not true c = refl
 and_not false c = refl
@@ -170,7 +172,7 @@ none_of few many none =
 
 -- ---- one comes
 
--- a list with one more is a set with one member more
+-- one identifier more at the end of the list is one member more in the set of the list and the tree
 pub few_added : (few : List Xid) (many : BTreeSet Xid) (xid : Xid)
     → several_in (few ++ xid ∷ []) many ≡ set.insert (several_in few many) xid
 few_added few many xid = same_set xids_total exact_xids _ _ (λ other.
@@ -180,7 +182,7 @@ few_added few many xid = same_set xids_total exact_xids _ _ (λ other.
     ∙ sym (contains-insert xids_total (several_in few many) xid other
     ∙ ap (λ b. same_xid other xid || b) (contains-several few many other)))
 
--- a key more in the tree of later members is a member more of the set
+-- one key more in the tree is one member more in the set of the list and the tree
 pub many_added : (few : List Xid) (old new : BTreeSet Xid) (xid : Xid) → Updates xid_cmp old new xid true
     → several_in few new ≡ set.insert (several_in few old) xid
 many_added few old new xid updates = same_set xids_total exact_xids _ _ (λ other.
@@ -198,7 +200,7 @@ many_added few old new xid updates = same_set xids_total exact_xids _ _ (λ othe
 abbrev pub without : Xid → List Xid → List Xid
 without xid few = filter (λ own. not (same_xid own xid)) few
 
--- who is in a list without one identifier: those who were in it, but that one
+-- an identifier is in a list from which another was taken out exactly if it was in the list and isn't that other one
 any-without : (xid : Xid) (few : List Xid) (other : Xid)
     → list_any (same_xid other) (without xid few) ≡ (not (same_xid other xid) && list_any (same_xid other) few)
 any-without xid [] other = sym (and_false (not (same_xid other xid)))
@@ -224,7 +226,7 @@ any-without xid (own ∷ few) other = elim (same_or_apart xids_total exact_xids 
         ap (λ b. same_xid other own || (not b && list_any (same_xid other) few)) apart_too
         ∙ sym (ap (λ b. not b && (same_xid other own || list_any (same_xid other) few)) apart_too)
 
--- a list that a branch left is a set that it left
+-- the set of a list without an identifier is the list's set without it
 pub listed_left : (xids : List Xid) (xid : Xid) → listed (without xid xids) ≡ set.remove (listed xids) xid
 listed_left xids xid = same_set xids_total exact_xids _ _ (λ other.
     contains-from_list xids_total (without xid xids) other ∙ any-without xid xids other

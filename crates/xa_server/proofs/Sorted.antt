@@ -22,7 +22,7 @@ use Rattle.xa_server.proofs.Maps.{same_itself}
 
 -- ---- a list in order
 
--- an identifier below each key of the entries, as the map's test says it
+-- an identifier that is below each key of the entries is below them all by the map's test
 below-all : (xid : Xid) (es : List (Xid × BranchRecord))
     → AllByRecursion (λ y. xid_cmp xid y ≡ Less) (map (λ (e : Xid × BranchRecord). e.0) es)
     → below_all xid_cmp xid es ≡ true
@@ -75,7 +75,8 @@ tests_beside e all [] h = refl
 tests_beside e all (f ∷ es) h =
     (λ i. cond (test_beside e all f.0 h.0 i) (f.0 ∷ tests_beside e all es h.1 i) (tests_beside e all es h.1 i))
 
--- the induction's step: one entry more in front of those that are filtered
+-- the induction's step: if the keys of the entries that say PREPARED are those that pass the test, so they are with
+-- one entry more in front, which is below them all
 prepared-more : (e : Xid × BranchRecord) (es : List (Xid × BranchRecord))
     → IsStrictlySortedBy xid_cmp (e.0 ∷ map (λ (e : Xid × BranchRecord). e.0) es)
     → filter (tests es) (map (λ (e : Xid × BranchRecord). e.0) es) ≡ prepared_keys es →
@@ -117,7 +118,8 @@ prepared-among es h =
 
 -- ---- going over a tree's entries
 
--- the loop over entries: a PREPARED branch goes into the list
+-- the loop over entries: if the next branch is PREPARED, the list with it put in and those of the rest are all of the
+-- PREPARED ones
 pub goes_in : (xids all : List Xid) (left rest : List (Xid × BranchRecord)) (xid : Xid) (branch : BranchRecord)
     → xids ++ prepared_keys left ≡ all
     → left ≡ (xid, branch) ∷ rest → is_prepared_phase branch.phase ≡ true →
@@ -126,7 +128,8 @@ goes_in xids all left rest xid branch is left_is prepared = append_assoc xids (x
     ∙ ap (λ b. xids ++ cond b (xid ∷ prepared_keys rest) (prepared_keys rest)) (sym prepared)
     ∙ ap (λ es. xids ++ prepared_keys es) (sym left_is) ∙ is
 
--- the loop over entries: a branch that isn't PREPARED is left out
+-- the loop over entries: if the next branch isn't PREPARED, the list as it is and those of the rest are all of the
+-- PREPARED ones
 pub stays_out : (xids all : List Xid) (left rest : List (Xid × BranchRecord)) (xid : Xid) (branch : BranchRecord)
     → xids ++ prepared_keys left ≡ all
     → left ≡ (xid, branch) ∷ rest → is_prepared_phase branch.phase ≡ false →

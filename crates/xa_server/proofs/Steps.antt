@@ -131,7 +131,7 @@ seen_empty = same_state _ _
     (gather_none (λ row. row.committed) map.empty (λ key. ap (option_and_then (λ (row : RowRecord). row.committed))
     (get-empty bytes_cmp key)))
 
--- a record put in is a branch put in
+-- putting in a branch's record is, in the state, putting in the branch that this record and those of the rows say
 pub seen_inserted : (branches : BranchMap) (rows : RowMap) (xid : Xid) (branch : BranchRecord)
     → state_of (map.insert branches xid branch) rows ≡ with_branch (state_of branches rows) xid
     (branch_seen rows xid branch)
@@ -182,7 +182,7 @@ seen_fresh rows xid session free = same_branch _ _ refl refl
 
 -- ---- rows that nobody holds
 
--- the record of a row that no branch holds says nothing of any
+-- the record of a row that a branch doesn't hold has no write of that branch
 unheld_writes : (xid : Xid) (found : Option RowRecord) → mode_of xid found ≡ None
     → option_and_then (write_by xid) found ≡ None
 unheld_writes xid found none = unwritten xid found (ap is_some none)
@@ -213,7 +213,8 @@ seen_deleted branches rows key free = same_state _ _
 
 -- ---- a row that a branch comes to hold
 
--- a record that differs for one branch alone is that branch changed
+-- if a row's new record keeps the committed value, and changes what the rows say of one known branch alone, then the
+-- state is changed at that branch alone, in the same way
 seen_row : (branches : BranchMap) (rows : RowMap) (xid : Xid) (key : List ℕ) (row : RowRecord)
     (change : Branch → Branch) →
     is_some (map.get branches xid) ≡ true → row.committed ≡ committed_of (map.get rows key) →
@@ -271,7 +272,7 @@ held_branch rows xid key change branch = same_branch _ _ refl refl
     (if_there (same_xid xid xid) (write_of change) (itself xid)))
     (gather_insert (lock_by xid) rows key _ Exclusive (if_there (same_xid xid xid) Exclusive (itself xid)))
 
--- a row's record that is given to one branch leaves what the others have written and locked
+-- giving a row that no other branch holds to a branch leaves what the others have written and locked
 held_others : (rows : RowMap) (xid : Xid) (key : List ℕ) (change : Change) (other : Xid)
     → IsFreeFor xid (map.get rows key) → same_xid other xid ≡ false →
     branch_seen (map.insert rows key (held_row xid change (map.get rows key))) other ≡ branch_seen rows other
@@ -292,7 +293,8 @@ held_others rows xid key change other free apart =
         (if_apart (same_xid xid other) Exclusive (turned_apart xid other apart)
         ∙ sym (none_of (mode_of other (map.get rows key)) (free other apart)))
 
--- a row's record that is given to a branch with a change: the branch has that write and lock in the state
+-- if a row that no other branch holds is given to a branch with a change, the branch has that write and lock in the
+-- state
 pub seen_held : (branches : BranchMap) (rows : RowMap) (xid : Xid) (key : List ℕ) (change : Change) →
     is_some (map.get branches xid) ≡ true → IsFreeFor xid (map.get rows key) →
     state_of branches (map.insert rows key (held_row xid change (map.get rows key)))
@@ -332,7 +334,7 @@ share_writes : (xid other : Xid) (found : Option RowRecord)
 share_writes xid other None = refl
 share_writes xid other (Some row) = sharer_writes xid other row.lock
 
--- a row that a branch comes to share: the branch has a lock more
+-- if a branch comes to share a row that it may share, the rows say that it has one lock more
 shared_branch : (rows : RowMap) (xid : Xid) (key : List ℕ) (branch : BranchRecord) → IsShareable xid (map.get rows key)
     →
     branch_seen (map.insert rows key (shared_row xid (map.get rows key))) xid branch

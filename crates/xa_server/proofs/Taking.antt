@@ -25,7 +25,7 @@ use Rattle.xa_server.proofs.Holders.{any_some, exclusive_some, one_xid}
 use Rattle.xa_server.proofs.Accepted.{accepted_get, accepted_put, accepted_del}
 use Rattle.xa_server.proofs.Changes.{idle, detached, branch_after}
 
--- how the branch holds the row, where there is one
+-- how the branch holds the row, if there is a branch and it holds it
 unfoldable pub mode_in : List ℕ → Option Branch → Option LockMode
 mode_in key found = option_and_then (λ (b : Branch). map.get b.locks key) found
 
@@ -36,7 +36,7 @@ shared_or : Option LockMode → LockMode
 shared_or None = Shared
 shared_or (Some mode) = mode
 
--- the row that is read: in share, if it wasn't held
+-- after a row is read, it is held as before, or in share if it wasn't held
 share_here : (locks : RowLocks) (key : List ℕ) → map.get (with_share key locks) key
     ≡ Some (shared_or (map.get locks key))
 unfolding shared_or
@@ -115,7 +115,7 @@ before_still : (passes : Option LockMode → Bool) (taking : Type 0) (key : List
 unfolding Before
 before_still passes taking key found e = inl e
 
--- a change under a condition, if the change itself takes only what it may
+-- if a new branch takes only what it may (`Before`), so does what a test chooses of the new one and the old
 before_if : (passes : Option LockMode → Bool) (taking : Type 0) (key : List ℕ) (b : Bool) (new found : Option Branch)
     → (b ≡ true → Before passes taking key new found) → Before passes taking key (cond b new found) found
 unfolding Before
@@ -193,7 +193,7 @@ unheld state own key none = against is_some refl state own key none
 
 -- ---- the session's own branch takes a row
 
--- a GET of a row that isn't locked against the session takes it
+-- if a row isn't locked against a session with an ACTIVE branch, that branch may come to hold it
 takes : (state : State) (own at : Xid) (key other : List ℕ) → is_locked_against state (Active own) key ≡ false
     → same_xid at own ≡ true → other ≡ key
     → IsTaking state (Active own) at other
@@ -204,7 +204,7 @@ takes state own at key other none same is =
           ∙ sym here,
     )
 
--- a PUT or DEL of a row that isn't held against the session locks it
+-- if a row isn't held against a session with an ACTIVE branch, that branch may come to hold it exclusively
 locks : (state : State) (own at : Xid) (key other : List ℕ) → is_held_against state (Active own) key ≡ false
     → same_xid at own ≡ true → other ≡ key
     → IsLocking state (Active own) at other
@@ -212,7 +212,7 @@ locks state own at key other none same is =
     let here : at ≡ own = one_xid at own same in
     (ap Active (sym here), λ xid e. unheld state own key none xid (ap (holds state xid) (sym is) ∙ e) ∙ sym here)
 
--- who locks a row exclusively takes it
+-- a branch that may come to hold a row exclusively may come to hold it
 locking_takes : (state : State) (association : Association) (at : Xid) (key : List ℕ)
     → IsLocking state association at key → IsTaking state association at key
 locking_takes state association at key locking =

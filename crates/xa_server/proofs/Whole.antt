@@ -37,7 +37,7 @@ once held = cond held 1 0
 
 -- ---- how often a list names a row
 
--- a sum with one more in its first part
+-- if a is b + c, then a + 1 is (b + 1) + c
 one_more : (a b c : ℕ) → a ≡ b + c → suc a ≡ suc b + c
 one_more a b c e = omega (arith, e)
 
@@ -45,7 +45,7 @@ one_more a b c e = omega (arith, e)
 plus_none : (n : ℕ) → n + 0 ≡ n
 plus_none n = omega arith
 
--- how often a key is in a list with one key more
+-- a key is in a list with one key more as often as in the list, and once more if it is that key
 pub times_more : (key other : List ℕ) (keys : List (List ℕ))
     → times_in key (keys ++ other ∷ []) ≡ times_in key keys + cond (eq_by_cmp bytes_cmp key other) 1 0
 times_more key other [] = by (eq_by_cmp bytes_cmp key other)
@@ -199,7 +199,7 @@ owners_changed branches xid change attached owners all one = by (map.get branche
               (change branch) other apart)) ∙ e
         ]
 
--- changing the record of a branch, seen at that branch: the changed record, if there was one
+-- after the record of a branch is changed, the changed one is there, if there was one
 pub changed_at : (branches : BranchMap) (xid : Xid) (change : BranchRecord → BranchRecord)
     → map.get (with_record branches xid change) xid ≡ option_map change (map.get branches xid)
 changed_at branches xid change = by (map.get branches xid) refl
@@ -366,7 +366,7 @@ unfolding times once
 listed_rows branches rows xid branch whole is key e =
     listed_of_times key branch.held (sym (ap (times key) is) ∙ whole.listed_once xid key ∙ ap once e)
 
--- the records stay whole when a branch ends whose rows were all freed
+-- the records stay whole if a branch's rows are all freed and its record is removed
 pub whole_ended : (branches : BranchMap) (commits : Bool) (xid : Xid) (keys : List (List ℕ)) (old new : RowMap)
     → Frees commits xid keys old new
     → IsListedIn xid keys old →

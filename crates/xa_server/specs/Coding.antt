@@ -1,4 +1,5 @@
--- How a state is encoded in finite maps: each record as the pairs of its fields.
+-- How a state, and the server's records of branches and rows, are encoded where finite maps keep them: each record as
+-- the pairs of its fields.
 use Rattle.std.specs.Prelude.{◌≡◌, ℕ, Option, Some, None, List, zero, suc, refl}
 use Rattle.std.specs.FinMap as map
 use Rattle.std.specs.Coded.{Coded, code_by, coded×, coded_option, coded_ℕ}
@@ -35,7 +36,7 @@ phase_back Active = refl
 phase_back Idle = refl
 phase_back Prepared = refl
 
--- a branch's phase is encoded as that number
+-- a branch's phase is encoded as its number, `number_of_phase`
 abbrev pub coded_phase : Coded Phase
 coded_phase = code_by ℕ coded_ℕ number_of_phase phase_of_number phase_back
 
@@ -58,7 +59,7 @@ abbrev pub mode_back : (mode : LockMode) → mode_of_number (number_of_mode mode
 mode_back Shared = refl
 mode_back Exclusive = refl
 
--- a lock's mode is encoded as a number, too
+-- a lock mode is encoded as its number, `number_of_mode`
 abbrev pub coded_mode : Coded LockMode
 coded_mode = code_by ℕ coded_ℕ number_of_mode mode_of_number mode_back
 
@@ -78,7 +79,7 @@ coded_state =
     (coded× (map.code coded_xid coded_branch) (map.code coded_key coded_text))
     (λ s. (s.branches, s.rows)) (λ p. record { branches = p.0; rows = p.1 }) (λ _. refl)
 
--- a list of keys is encoded as it is
+-- a list of keys is encoded as the list of the encoded keys
 abbrev pub coded_keys : Coded (List (List ℕ))
 coded_keys = coded_list coded_key
 
@@ -92,7 +93,7 @@ coded_branch_record =
 abbrev pub coded_branches : Coded (map.FinMap xid_cmp BranchRecord)
 coded_branches = map.code coded_xid coded_branch_record
 
--- a change is encoded as what it writes
+-- the change that makes this write: of a value, or None for a deletion
 abbrev pub change_of : Write → Change
 change_of (Some value) = Put value
 change_of None = Delete

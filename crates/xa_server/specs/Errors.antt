@@ -1,10 +1,10 @@
 -- The numbers of refusals (MySQL 8.0 Reference Manual, 'Server Error Message Reference'; the XA codes are C193's return
 -- codes), and their texts (own rule).
 --     number_of       the server's error number
---     sqlstate_of     its five characters
---     xa_code_of      the XA return code, if there is one
---     state_text      the name of a state
---     message_of      its text
+--     sqlstate_of     its SQLSTATE, of five characters
+--     xa_code_of      its XA return code, if it has one
+--     state_text      the name of a branch's state, as the text of a refusal has it
+--     message_of      the text of a refusal
 use Rattle.std.specs.Prelude.{ℕ, ℤ, negsuc, Option, Some, None, List, ◌++◌, codes}
 use Rattle.xa_server.specs.declared.xa_error.XaError.{XaError}
 use Rattle.xa_server.specs.declared.xa_error.XaError.TheVariants.{Nota, Inval, Rmfail, Dupid, RowLocked}
@@ -27,7 +27,7 @@ sqlstate_of (Rmfail state) = codes "XAE07"
 sqlstate_of Dupid = codes "XAE08"
 sqlstate_of RowLocked = codes "HY000"
 
--- `negsuc n` is the number -(n + 1)
+-- the XA return code of a refusal; None for RowLocked, which isn't an XA error. `negsuc n` is the number -(n + 1)
 abbrev pub xa_code_of : XaError → Option ℤ
 xa_code_of Nota = Some (negsuc 3)
 xa_code_of Inval = Some (negsuc 4)
@@ -42,7 +42,7 @@ state_text Active = codes "ACTIVE"
 state_text Idle = codes "IDLE"
 state_text Prepared = codes "PREPARED"
 
--- the manual's name, if there is one, and then words of our own
+-- the text of a refusal: the manual's name, if there is one, and then words of our own
 abbrev pub message_of : XaError → List ℕ
 message_of Nota = codes "XAER_NOTA unknown xid"
 message_of Inval = codes "XAER_INVAL clause not supported"

@@ -1,4 +1,5 @@
--- Finishing a prepared branch: what it means, and at which places of a history it happens.
+-- Finishing a prepared branch: which statements do it, and at which places of a history a branch is finished or
+-- prepared.
 --     Finishes        the statement finishes the branch, if it is accepted while the branch is PREPARED
 --     FinishesAt      a place of a history at which a prepared branch is finished
 --     PreparesAt      a place at which a branch is prepared

@@ -1,7 +1,8 @@
 -- The branches, and the rows that a branch holds, by the records.
 --     recorded_entry     a branch without its rows, by its record
 --     hold_in            how this branch holds a row, if it does, by the row's lock
---     held_among         the rows that this branch holds in a list of records
+--     with_held          a list of held rows with one more in front, if that one is held
+--     held_among         the rows that this branch holds, of those in a list of records
 --     recorded_entries   every branch, by its record
 use Rattle.std.specs.Prelude.{ℕ, cond, Option, Some, None, List, [], ◌∷◌, map}
 use Rattle.std.specs.Option.{option_map_or}
@@ -29,16 +30,17 @@ recorded_entry named = record { xid = named.0; phase = named.1.phase; owner = na
 abbrev pub recorded_entries : BranchMap → List BranchEntry
 recorded_entries branches = map recorded_entry (fin.entries branches)
 
--- how this branch holds a row, if it does
+-- how this branch holds a row, by the row's lock: by its newest write if it holds the row exclusively, else in share;
+-- None if it doesn't hold the row
 abbrev pub hold_in : Xid → Lock → Option Hold
 hold_in xid (HeldBy holder change) = cond (same_xid holder xid) (Some (hold_of (Some (write_of change)))) None
 hold_in xid (SharedBy sharers) = cond (set.contains sharers xid) (Some Shares) None
 
--- the row, before others, if the branch holds it
+-- these rows with the row of this key in front, if `held` says how the branch holds it; with None they are unchanged
 abbrev pub with_held : List ℕ → Option Hold → List HeldRow → List HeldRow
 with_held key held rows = option_map_or (λ hold. record { key = key; hold = hold } ∷ rows) held rows
 
--- the rows that this branch holds in a list of records
+-- the rows that this branch holds, of those in a list of keys with their records, in its order
 abbrev pub held_among : Xid → List (List ℕ × RowRecord) → List HeldRow
 held_among xid [] = []
 held_among xid (row ∷ rows) = with_held row.0 (hold_in xid row.1.lock) (held_among xid rows)

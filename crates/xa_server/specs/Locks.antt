@@ -4,6 +4,7 @@
 --     is_held_against      whether a branch that isn't the session's own holds the row, in either way
 --     is_locked_against    whether such a branch holds it exclusively
 --     LockLaw              what every state of a server keeps
+--     is_exclusive         whether a branch's hold of a row is exclusive
 --     is_another           the branch isn't the session's own
 use Rattle.std.specs.Prelude.{◌≡◌, ℕ, Bool, true, false, not, ◌&&◌, Option, Some, None, List, is_some}
 use Rattle.std.specs.List.{list_any}
@@ -15,7 +16,7 @@ use Rattle.xa_server.specs.declared.association.Association.{Association}
 use Rattle.xa_server.specs.declared.association.Association.TheVariants.{Free, Active, Idle}
 use Rattle.xa_server.specs.State.{State, LockMode, Shared, Exclusive, is_known, is_prepared, owner_at, owns, write_at}
 
--- how the branch holds the row until it ends, if it does (own rule)
+-- how the branch holds the row; None if it doesn't hold it. What a branch holds, it holds until it ends (own rule)
 abbrev pub lock_at : State → Xid → List ℕ → Option LockMode
 lock_at state xid key = option_and_then (λ branch. map.get branch.locks key) (map.get state.branches xid)
 
@@ -23,7 +24,7 @@ lock_at state xid key = option_and_then (λ branch. map.get branch.locks key) (m
 abbrev pub holds : State → Xid → List ℕ → Bool
 holds state xid key = is_some (lock_at state xid key)
 
--- the lock is held, and exclusively
+-- the branch holds the row (not None), and exclusively
 abbrev pub is_exclusive : Option LockMode → Bool
 is_exclusive None = false
 is_exclusive (Some Shared) = false
@@ -33,7 +34,7 @@ is_exclusive (Some Exclusive) = true
 abbrev pub holds_exclusively : State → Xid → List ℕ → Bool
 holds_exclusively state xid key = is_exclusive (lock_at state xid key)
 
--- the branch isn't the session's own
+-- the branch isn't the one that the session has open; a free session has none, so each branch is another
 abbrev pub is_another : Association → Xid → Bool
 is_another Free xid = true
 is_another (Active own) xid = not (same_xid xid own)
@@ -59,7 +60,7 @@ pub record LockLaw (state : State) : Type 0 where
       → xid ≡ other
   -- a PREPARED branch has no owner
   pub detached : (xid : Xid) → is_prepared state xid ≡ true → owner_at state xid ≡ None
-  -- an ACTIVE or IDLE branch has one
+  -- an ACTIVE or IDLE branch has an owner
   pub attached : (xid : Xid) → is_known state xid ≡ true → is_prepared state xid ≡ false
       → is_some (owner_at state xid) ≡ true
   -- a branch writes only rows that it holds exclusively

@@ -3,8 +3,8 @@
 --     hold_of                    how a branch holds a row, by its newest write of the row
 --     rows_held, rows_of         the rows that a branch holds, ascending;  that the branch of an identifier holds
 --     keys_of                    the keys of these rows
---     keys_about                 the rows that a statement is about
---     keys_open                  the rows that the session's branch holds
+--     keys_about                 the keys of the rows that a statement is about
+--     keys_open                  the keys of the rows that the session's branch holds
 use Rattle.std.specs.Prelude.{ℕ, Option, Some, None, List, [], ◌∷◌, map}
 use Rattle.std.specs.Option.{option_map_or}
 use Rattle.std.specs.FinMap as fin
@@ -27,13 +27,15 @@ entry_of named = record { xid = named.0; phase = named.1.phase; owner = named.1.
 unfoldable pub branches_of : State → List BranchEntry
 branches_of state = map entry_of (fin.entries state.branches)
 
--- a branch shares a row that it holds and didn't write; one that it wrote it holds exclusively
+-- how a branch holds a row, by its newest write of the row: in share if it didn't write it (None), else exclusively,
+-- with this write
 abbrev pub hold_of : Option Write → Hold
 hold_of None = Shares
 hold_of (Some (Some value)) = Puts value
 hold_of (Some None) = Deletes
 
--- a row that the branch holds, with what the branch did to it
+-- a row that the branch holds, as a list shows it: its key, and how the branch holds it, by the branch's newest write
+-- of it (the lock mode isn't looked at)
 abbrev pub held_row : Branch → List ℕ × LockMode → HeldRow
 held_row branch lock = record { key = lock.0; hold = hold_of (fin.get branch.writes lock.0) }
 
@@ -45,7 +47,7 @@ rows_held branch = map (held_row branch) (fin.entries branch.locks)
 unfoldable pub rows_of : State → Xid → List HeldRow
 rows_of state xid = option_map_or rows_held (fin.get state.branches xid) []
 
--- the keys of rows that a branch holds
+-- the keys of these rows, in their order
 abbrev pub keys_of : List HeldRow → List (List ℕ)
 keys_of rows = map (λ row. row.key) rows
 
@@ -55,7 +57,9 @@ keys_open state Free = []
 keys_open state (Active own) = keys_of (rows_of state own)
 keys_open state (Idle own) = keys_of (rows_of state own)
 
--- the rows that a statement is about: the one that it names, or those of the branch that it is to end (own rule)
+-- the keys of the rows that a statement is about (own rule): of GET, PUT and DEL the key that it names; of XA COMMIT
+-- and XA ROLLBACK those that the named branch holds; of DISCONNECT those that the session's branch holds; of others
+-- none
 unfoldable pub keys_about : State → ℕ → Statement → List (List ℕ)
 keys_about state session (Commit xid one_phase) = keys_of (rows_of state xid)
 keys_about state session (Rollback xid) = keys_of (rows_of state xid)

@@ -1,5 +1,6 @@
 -- The reply to each statement, in each state of a session.
---     table      the table of replies, one line for each statement and each state of the session
+--     ok_if, refused_if      OK or a refusal by a test;  a refusal by a test, or else another reply
+--     table      the table of replies, by statement and state of the session
 --     reply_to   the reply to a session's statement
 use Rattle.std.specs.Prelude.{ℕ, Bool, true, false, not}
 use Rattle.xa_xid.specs.Xid.{same_xid}
@@ -18,7 +19,7 @@ use Rattle.xa_server.specs.State.{State, is_known, is_prepared, association_of, 
 use Rattle.xa_server.specs.State.{prepared_xids}
 use Rattle.xa_server.specs.Locks.{is_held_against, is_locked_against}
 
--- the statement is carried out if the test holds, and else refused
+-- the reply is OK if the test holds, and else a refusal with this error
 abbrev pub ok_if : Bool → XaError → Reply
 ok_if true error = Accepted
 ok_if false error = Refused error
@@ -28,10 +29,11 @@ abbrev pub refused_if : Bool → XaError → Reply → Reply
 refused_if true error reply = Refused error
 refused_if false error reply = reply
 
--- One line a row and column of docs/STATEMENTS.md#replies, in its order. `own` is the branch that the session has open.
--- Which statement is allowed in which state is the manual's ('XA Transaction States') and C193's; the order of the
--- refusals, the reply to an identifier that isn't the session's, ONE PHASE of a PREPARED branch, and the rows are our
--- own rules.
+-- The reply to a statement, by what its session has open: a line for each statement and column of
+-- docs/STATEMENTS.md#replies, or one for all three columns if they are the same. `own` is the branch that the session
+-- has open. Which statement is allowed in which state is the manual's ('XA Transaction States') and C193's; the order
+-- of the refusals, the reply to an identifier that isn't the session's, ONE PHASE of a PREPARED branch, and the
+-- statements about rows are our own rules.
 unfoldable pub table : State → Association → Statement → Reply
 table state Free (Start xid) = refused_if (is_known state xid) Dupid Accepted
 table state (Active own) (Start xid) = Refused (Rmfail StateActive)

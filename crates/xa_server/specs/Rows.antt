@@ -1,6 +1,7 @@
 -- The record of a row, and what the server does to it.
 --     RowMap, Sharing        the records by key;  the branches that share a row
---     committed_of, lock_of        its committed value;  who holds it
+--     committed_of, lock_of        the committed value of a row;  who holds it
+--     write_of               what a change writes to its row
 --     write_by, lock_by      the newest write, the lock, that this branch has on the row
 --     held_against           a branch that isn't the session's own holds the row, in either way
 --     locked_against         such a branch holds it exclusively
@@ -41,7 +42,7 @@ RowMap = map.FinMap bytes_cmp RowRecord
 abbrev pub Sharing : Type 0
 Sharing = set.FinSet xid_cmp
 
--- the committed value of a row, if it has a record and one in it
+-- the committed value of a row, by its record; None if there is no record, or no value in it
 abbrev pub committed_of : Option RowRecord → Option Text
 committed_of found = option_and_then (λ row. row.committed) found
 
@@ -55,16 +56,16 @@ abbrev pub write_of : Change → Write
 write_of (Put value) = Some value
 write_of Delete = None
 
--- the newest write of the row by this branch
+-- the newest write of the row by this branch, by the row's lock; None if the branch doesn't hold the row exclusively
 abbrev pub write_in : Xid → Lock → Option Write
 write_in xid (HeldBy holder change) = cond (same_xid holder xid) (Some (write_of change)) None
 write_in xid (SharedBy sharers) = None
 
--- the newest write of the row by this branch, if it wrote it, by the row's record
+-- the newest write of the row by this branch, if the branch wrote it, by the row's record
 abbrev pub write_by : Xid → RowRecord → Option Write
 write_by xid row = write_in xid row.lock
 
--- how this branch holds the row, if it does
+-- how this branch holds the row, if it does, by the row's lock
 abbrev pub mode_in : Xid → Lock → Option LockMode
 mode_in xid (HeldBy holder change) = cond (same_xid holder xid) (Some Exclusive) None
 mode_in xid (SharedBy sharers) = cond (set.contains sharers xid) (Some Shared) None
@@ -73,7 +74,7 @@ mode_in xid (SharedBy sharers) = cond (set.contains sharers xid) (Some Shared) N
 abbrev pub lock_by : Xid → RowRecord → Option LockMode
 lock_by xid row = mode_in xid row.lock
 
--- a branch that isn't the session's own is among those that hold the row
+-- whether another branch than the session's own holds the row, in either way, by its lock
 abbrev pub held_beside : Association → Lock → Bool
 held_beside association (HeldBy holder change) = is_another association holder
 held_beside association (SharedBy sharers) = list_any (is_another association) (set.items sharers)
@@ -83,7 +84,8 @@ abbrev pub locked_beside : Association → Lock → Bool
 locked_beside association (HeldBy holder change) = is_another association holder
 locked_beside association (SharedBy sharers) = false
 
--- a branch that isn't the session's own holds the row, in either way
+-- whether another branch than the session's own holds the row, in either way, by its record; nobody holds a row without
+-- one
 abbrev pub held_against : Association → Option RowRecord → Bool
 held_against association found = option_map_or (λ row. held_beside association row.lock) found false
 
@@ -112,12 +114,13 @@ shared_row xid found = record { committed = committed_of found; lock = with_shar
 abbrev pub with_change : List ℕ → Change → Branch → Branch
 with_change key change branch = with_own_write key (write_of change) branch
 
--- the holders after the branch has ended
+-- the lock after the branch has ended, which then holds the row no more
 abbrev pub freed_lock : Xid → Lock → Lock
 freed_lock xid (HeldBy holder change) = cond (same_xid holder xid) (SharedBy set.empty) (HeldBy holder change)
 freed_lock xid (SharedBy sharers) = SharedBy (set.remove sharers xid)
 
--- the record after the branch has ended: its write is the committed value if it commits, and it holds the row no more
+-- the record after the branch has ended: the branch's write of the row, if it has one, is the committed value if the
+-- branch commits, and the branch holds the row no more
 abbrev pub freed_row : Bool → Xid → RowRecord → RowRecord
 freed_row commits xid row =
     record {
@@ -126,7 +129,7 @@ freed_row commits xid row =
           row.lock;
     }
 
--- a row needs its record: it has a value, or a branch holds it
+-- a row needs its record: it has a committed value, or a branch holds it (to a free session each is another's)
 abbrev pub is_needed : RowRecord → Bool
 is_needed row = is_some row.committed || held_beside Free row.lock
 
@@ -138,8 +141,8 @@ kept row = cond (is_needed row) (Some row) None
 abbrev pub freed : Bool → Xid → Option RowRecord → Option RowRecord
 freed commits xid found = option_and_then (λ row. kept (freed_row commits xid row)) found
 
--- the records after a branch holds the rows of these keys no more; if it commits, its writes are their values; the
--- records of all other rows are as they were
+-- the records after a branch holds the rows of these keys no more: if it commits, its writes are their values; the
+-- records among these that are no longer needed are gone; those of all other rows are as they were
 abbrev pub Frees : Bool → Xid → List (List ℕ) → RowMap → RowMap → Type 0
 Frees commits xid keys old new =
     (key : List ℕ) → map.get new key ≡ cond (list_any (eq_by_cmp bytes_cmp key) keys)

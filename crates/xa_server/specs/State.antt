@@ -4,7 +4,9 @@
 --     Branch, State        a transaction branch;  all branches, and the committed values of all rows
 --     no_state             no branch, no row
 --     is_known, is_prepared      whether a branch has this identifier;  and is PREPARED
---     owns                 whether the session owns the branch
+--     is_prepared_phase    whether a phase is PREPARED
+--     association_in       what a session has open whose branch is in this phase
+--     owns                 whether the session owns the branch of an identifier
 --     association_of       what the session has open
 --     IsOpen               the branch that an association names is in that phase
 --     committed_value, value_within      the value of a row as all see it;  as the branch sees it
@@ -82,18 +84,20 @@ owner_at state xid = option_and_then (λ branch. branch.owner) (map.get state.br
 abbrev pub owns : State → ℕ → Xid → Bool
 owns state session xid = option_map_or (λ owner. owner == session) (owner_at state xid) false
 
--- the branch that the session owns
+-- the identifier of the branch that the session owns; None if it owns none
 unfoldable pub own_xid : State → ℕ → Option Xid
 own_xid state session = find (owns state session) (map.keys state.branches)
 
--- a session whose branch is in this phase; a branch that is PREPARED has no owner
+-- what a session has open whose branch is in this phase; nothing if it has none (None), or if the branch is PREPARED,
+-- since such a branch has no owner
 abbrev pub association_in : Option Phase → Xid → Association
 association_in None xid = Free
 association_in (Some PhaseActive) xid = Active xid
 association_in (Some PhaseIdle) xid = Idle xid
 association_in (Some PhasePrepared) xid = Free
 
--- what the session has open (manual, 'XA Transaction States')
+-- what the session has open: the branch that it owns, with its phase, or nothing if it is free (manual, 'XA Transaction
+-- States')
 unfoldable pub association_of : State → ℕ → Association
 association_of state session =
     option_map_or (λ xid. association_in (phase_at state xid) xid) (own_xid state session) Free
@@ -115,7 +119,7 @@ value_within state xid key = unwrap_or (write_at state xid key) (committed_value
 unfoldable pub prepared_xids : State → List Xid
 prepared_xids state = filter (is_prepared state) (map.keys state.branches)
 
--- the branch that an association names is in the phase that it names
+-- the branch that an association names is in the phase that it names; of `Free`, which names none, nothing is asked
 abbrev pub IsOpen : State → Association → Type 0
 IsOpen state Free = Unit {0}
 IsOpen state (Active own) = phase_at state own ≡ Some PhaseActive

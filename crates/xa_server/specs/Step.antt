@@ -6,10 +6,11 @@
 --     after_all       the state after a history
 --     may_take_memory     carrying the statement out may take memory
 --     with_branch, with_changed, without_branch    the state with a branch set;  with one changed;  with one gone
+--     is_refused, is_list, is_recover      the reply is a refusal;  a list;  the statement is an XA RECOVER
 --     committed       the state after a branch's commit
 --     row_written     the state after a write, at once or in a branch
 --     may_enter       whether the statement is logged if it is accepted
---     makes_record    the statement makes a record, if it is accepted
+--     makes_record    carrying the statement out may make a record or add to one, if it is accepted
 use Rattle.std.specs.Prelude.{◌≡◌, ℕ, Bool, true, false, cond, not, ◌&&◌, ◌||◌, Some, None, List, [], ◌∷◌}
 use Rattle.std.specs.Option.{option_map_or}
 use Rattle.std.specs.FinMap as map
@@ -62,11 +63,11 @@ committed state xid =
     { rows = with_writes (map.entries branch.writes) state.rows })
     (map.get state.branches xid) state
 
--- the rows after this one is held: in share, if it wasn't held before
+-- the held rows with this one: held in share if it wasn't held before, else as it was
 abbrev pub with_share : List ℕ → RowLocks → RowLocks
 with_share key locks = cond (map.contains_key locks key) locks (map.insert locks key Shared)
 
--- the branch holds the row, at least in share
+-- the branch, holding the row also: in share, or exclusively if it did so before
 abbrev pub with_lock : List ℕ → Branch → Branch
 with_lock key branch = record branch { locks = with_share key branch.locks }
 
@@ -75,7 +76,8 @@ abbrev pub with_own_write : List ℕ → Write → Branch → Branch
 with_own_write key write branch =
     record branch { locks = map.insert branch.locks key Exclusive; writes = map.insert branch.writes key write }
 
--- a row is written: by a free session at once, in a branch under its exclusive lock
+-- the state after a row is written: by a free session at once; in an ACTIVE branch as the branch's own write, under its
+-- exclusive lock; an IDLE branch writes nothing, since such a statement is refused
 abbrev pub row_written : State → Association → List ℕ → Write → State
 row_written state Free key write = record state { rows = with_write key write state.rows }
 row_written state (Active own) key write = with_changed state own (with_own_write key write)
@@ -129,8 +131,8 @@ abbrev pub is_list : Reply → Bool
 is_list (Recovered xids) = true
 is_list reply = false
 
--- whether the statement, if it is accepted, is logged (own rule): of GET if it locks a row, of DISCONNECT if it ends a
--- branch
+-- whether the statement, if it is accepted, is logged (own rule): XA RECOVER and unsupported ones never are; GET is
+-- only in an ACTIVE branch that doesn't hold the row yet, DISCONNECT only if it ends a branch; all others are
 unfoldable pub may_enter : State → Association → Statement → Bool
 may_enter state association (Start xid) = true
 may_enter state association (End xid) = true
@@ -148,7 +150,7 @@ may_enter state Free Disconnect = false
 may_enter state (Active own) Disconnect = true
 may_enter state (Idle own) Disconnect = true
 
--- whether the statement is logged: it isn't refused, and is of a kind that is logged
+-- whether the statement is logged: it isn't refused, and is one of those that are logged if they are accepted
 unfoldable pub enters : State → ℕ → Statement → Bool
 enters state session statement =
     not (is_refused (reply_to state session statement)) && may_enter state (association_of state session) statement
@@ -164,7 +166,7 @@ abbrev pub is_recover : Statement → Bool
 is_recover (Recover convert) = true
 is_recover statement = false
 
--- the statement makes a record, if it is accepted: of a branch, or of a row that it holds or writes
+-- carrying the statement out may make a record, of a branch or of a row, or add to one, if the statement is accepted
 abbrev pub makes_record : Statement → Bool
 makes_record (Start xid) = true
 makes_record (Get key) = true

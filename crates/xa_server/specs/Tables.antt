@@ -1,13 +1,14 @@
--- The records of branches and rows as finite maps.
---     BranchMap, RowMap      the records by identifier, by key
---     owner_of               the session that owns the branch of an identifier
+-- The records of branches as a finite map.
+--     BranchMap              the records by identifier
+--     owner_of               the session that owns the branch of an identifier, if it has an owner
 --     phase_in               the phase of the branch of an identifier
 --     opened_at              what a session has open, by the index
 --     named_in               the branch that an association names
---     idle_of                an association after its branch's work has ended
+--     idle_of                what a session has open after XA END
 --     with_record            the records with one changed, if there is one
---     without_last           a list without its last element
+--     without_last           a list of keys without its last one
 --     prepared_keys          the identifiers of the PREPARED branches in a list of records
+--     is_prepared_at         the branch of an identifier is PREPARED
 --     prepared_among         the identifiers of the PREPARED branches, ascending
 --     IsIndexed              the index has exactly the branches that have owners, each at its owner's place and in its
 --                            phase
@@ -27,7 +28,7 @@ use Rattle.xa_server.specs.State.{is_prepared_phase, association_in}
 abbrev pub BranchMap : Type 0
 BranchMap = map.FinMap xid_cmp BranchRecord
 
--- the session that owns the branch of this identifier
+-- the session that owns the branch of this identifier; None if there is no such branch, or it has no owner
 abbrev pub owner_of : BranchMap → Xid → Option ℕ
 owner_of branches xid = option_and_then (λ branch. branch.owner) (map.get branches xid)
 
@@ -39,13 +40,13 @@ phase_in branches xid = option_map (λ branch. branch.phase) (map.get branches x
 abbrev pub opened_at : List Association → ℕ → Association
 opened_at opened session = slice_index_or opened session Free
 
--- the branch that an association names
+-- the branch that an association names; `Free` names none
 abbrev pub named_in : Association → Option Xid
 named_in Free = None
 named_in (Active own) = Some own
 named_in (Idle own) = Some own
 
--- an association after its branch's work has ended
+-- what a session has open after XA END, by what it had open before
 abbrev pub idle_of : Association → Association
 idle_of Free = Free
 idle_of (Active own) = Idle own
@@ -53,12 +54,15 @@ idle_of (Idle own) = Idle own
 
 -- the index has exactly the branches that have owners, each at its owner's place and in its phase
 pub record IsIndexed (opened : List Association) (nothing : Association) (branches : BranchMap) : Type 0 where
-  -- what is lent for a session past the end
+  -- what is lent for a session past the end of the index: nothing open
   pub free : nothing ≡ Free
+  -- a session owns the branch that is at its place
   pub found : (session : ℕ) (xid : Xid) → named_in (opened_at opened session) ≡ Some xid
       → owner_of branches xid ≡ Some session
+  -- a branch that a session owns is at the session's place
   pub listed : (session : ℕ) (xid : Xid) → owner_of branches xid ≡ Some session
       → named_in (opened_at opened session) ≡ Some xid
+  -- and in its phase
   pub phased : (session : ℕ) (xid : Xid) → owner_of branches xid ≡ Some session
       → opened_at opened session ≡ association_in (phase_in branches xid) xid
 
@@ -67,7 +71,7 @@ abbrev pub with_record : BranchMap → Xid → (BranchRecord → BranchRecord) �
 with_record branches xid change =
     option_map_or (λ branch. map.insert branches xid (change branch)) (map.get branches xid) branches
 
--- a list without its last element
+-- a list of keys without its last one
 abbrev pub without_last : List (List ℕ) → List (List ℕ)
 without_last keys = take (length keys - 1) keys
 

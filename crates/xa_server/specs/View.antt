@@ -1,11 +1,11 @@
 -- How the records of branches and rows stand for a state.
---     gather               the map of what is found in each record
+--     gather               the map of what is found in each record; keys at which nothing is found aren't in it
 --     mapped               the map with each value changed
---     branch_seen          a branch's record, with its writes and locks from the rows' records
+--     branch_seen          the branch that a record stands for, with its writes and locks from the rows' records
 --     state_of             the state that the records stand for
 --     times_listed         how often a branch's record lists a row
 --     is_holder            a row's record says that the branch holds the row
---     IsWhole              what the records keep
+--     IsWhole              what holds of the records of branches and rows together
 use Rattle.std.specs.Prelude.{◌≡◌, ℕ, Bool, cond, Option, Some, List, [], ◌∷◌, filter, length, is_none, is_some}
 use Rattle.std.specs.Option.{option_map_or, option_and_then}
 use Rattle.std.specs.declared.cmp.Ordering.{Ordering}
@@ -18,28 +18,29 @@ use Rattle.xa_server.specs.State.{Branch, State, is_prepared_phase}
 use Rattle.xa_server.specs.Tables.{BranchMap, owner_of}
 use Rattle.xa_server.specs.Rows.{RowMap, write_by, lock_by}
 
--- the entries with each value changed
+-- the entries with each value changed, by its key and value
 abbrev pub map_values : {K V W : Type 0} → (K → V → W) → List (K × V) → List (K × W)
 map_values change [] = []
 map_values change (entry ∷ entries) = (entry.0, change entry.0 entry.1) ∷ map_values change entries
 
 module _ {K V W : Type 0} {R : K → K → Ordering} where
-  -- what is found in the records at these keys
+  -- the map, at these keys, of what `found` finds in the record of each; a key without a record, or at which nothing is
+  -- found, isn't in it
   abbrev pub gather_at : (V → Option W) → map.FinMap R V → List K → map.FinMap R W
   gather_at found records [] = map.empty
   gather_at found records (key ∷ keys) =
       option_map_or (λ value. map.insert (gather_at found records keys) key value)
       (option_and_then found (map.get records key)) (gather_at found records keys)
 
-  -- the map of what is found in each record
+  -- the map of what `found` finds in each record; a key at which nothing is found isn't in it
   unfoldable pub gather : (V → Option W) → map.FinMap R V → map.FinMap R W
   gather found records = gather_at found records (map.keys records)
 
-  -- the map with each value changed
+  -- the map with each value changed, by its key and value
   unfoldable pub mapped : (K → V → W) → map.FinMap R V → map.FinMap R W
   mapped change records = map.from_sorted (map_values change (map.entries records))
 
--- a branch's record, with its writes and locks from the rows' records
+-- the branch of a state that a branch's record stands for: its writes and locks are those in the rows' records
 abbrev pub branch_seen : RowMap → Xid → BranchRecord → Branch
 branch_seen rows xid branch =
     record {
@@ -67,7 +68,7 @@ times_listed branches xid key = option_map_or (λ branch. times_in key branch.he
 abbrev pub is_holder : RowMap → Xid → List ℕ → Bool
 is_holder rows xid key = is_some (option_and_then (lock_by xid) (map.get rows key))
 
--- what the records of branches and rows keep: each part says what it has to do with the others
+-- what holds of the records of branches and rows together, between any two statements
 pub record IsWhole (branches : BranchMap) (rows : RowMap) : Type 0 where
   -- exactly the PREPARED branches have no owner
   pub attached : (xid : Xid) (branch : BranchRecord) → map.get branches xid ≡ Some branch

@@ -30,6 +30,7 @@ impl Server {
         if self.holds(own.xid(), key) {
             return Ok(());
         }
+        // The server lends `own`, and `share` changes the server.
         let own = own.try_clone()?;
         self.share(&own, key)
     }
@@ -46,6 +47,7 @@ impl Server {
         match self.association(session) {
             Association::Free => self.put_row(key, value),
             Association::Active(own) => {
+                // The server lends `own`, and `hold` changes the server.
                 let own = own.try_clone()?;
                 let value = SharedText::of(self.alloc(), value)?;
                 self.hold(&own, key, Change::Put(value))
@@ -69,6 +71,7 @@ impl Server {
                 Ok(())
             }
             Association::Active(own) => {
+                // The server lends `own`, and `hold` changes the server.
                 let own = own.try_clone()?;
                 self.hold(&own, key, Change::Delete)
             }
@@ -85,6 +88,8 @@ impl Server {
         match self.association(session) {
             Association::Free => {}
             Association::Active(own) => {
+                // The server lends `own`, and `end_branch` changes the server, so the identifier is copied. To add an
+                // owner by `try_clone` could fail.
                 let own = own.xid().copy();
                 self.end_branch(&own, false);
             }
@@ -109,6 +114,7 @@ impl Server {
             Statement::Start(xid) => return self.start_branch(session, xid),
             Statement::End(xid) => self.end_work(xid),
             Statement::Prepare(xid) => self.detach(xid),
+            // `ONE PHASE` matters only for the reply.
             Statement::Commit { xid, one_phase: _ } => self.end_branch(xid, true),
             Statement::Rollback(xid) => self.end_branch(xid, false),
             // `XA RECOVER` only lists.
@@ -125,8 +131,8 @@ impl Server {
 
     /// Carries out a session's statement that `reply` accepts, without making the reply again.
     ///
-    /// Error: `NoMemory`, only for an `XA START`, `PUT`, `DEL` or `GET` that makes a record. The server is
-    /// then unchanged. Doesn't wait.
+    /// Error: `NoMemory`, only for an `XA START`, `PUT`, `DEL` or `GET` that is logged. The server is then unchanged.
+    /// Doesn't wait.
     /// Source: docs/STATEMENTS.md#branches, which names the source of each rule.
     pub fn accept(&mut self, session: SessionNo, statement: &Statement) -> Result<(), NoMemory>
         requires { is_refused (reply_to self.old session statement.now) ≡ false }
@@ -143,9 +149,8 @@ impl Server {
 
     /// Replies to a session's statement and carries it out. A refused statement changes nothing.
     ///
-    /// Error: `NoMemory`, only for `XA RECOVER`, and for an `XA START`, `PUT`, `DEL` or `GET` that makes a
-    /// record. The server is then unchanged. A statement that ends a branch takes no memory, so it
-    /// succeeds. Doesn't wait.
+    /// Error: `NoMemory`, only for `XA RECOVER`, and for an `XA START`, `PUT`, `DEL` or `GET` that is logged. The
+    /// server is then unchanged. A statement that ends a branch takes no memory, so it can't fail. Doesn't wait.
     /// Source: docs/STATEMENTS.md#replies and docs/STATEMENTS.md#branches, which name the source of each
     /// rule.
     pub fn apply(&mut self, session: SessionNo, statement: &Statement) -> Result<Reply, NoMemory>

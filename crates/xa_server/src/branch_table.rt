@@ -25,7 +25,7 @@ use xa_xid::{Key, NoMemory, SessionNo, Xid};
 pub struct BranchTable {
     /// The record of each branch, by its identifier.
     by_xid: BTreeMap<Xid, BranchRecord>,
-    /// What each session has open, at the place of its number. A session past the end has nothing open.
+    /// The index by session: what each has open, at its number. A session past the end has nothing open.
     opened: Vec<Association>,
     /// Returned for a session past the end of `opened`: nothing open.
     nothing: Association,
@@ -91,7 +91,7 @@ fn set_place(opened: &mut Vec<Association>, session: SessionNo, association: Ass
     opened[place_of(session)] = association;
 }
 
-/// Marks the work of what a session has open as ended. The session has a place in the index.
+/// Marks the branch that a session has open as IDLE, if it has one. The session has a place in the index.
 fn end_place(opened: &mut Vec<Association>, session: SessionNo)
     requires { session < length opened.old.items }
     ensures { opened.new.items ≡ slice_set opened.old.items session (idle_of (opened_in opened.old.items session)) }
@@ -178,9 +178,11 @@ fn has_same_records(
     for (xid, branch) in by_xid {
         match rest.next() {
             Some((other, record)) if is_same_xid(xid, other) && branch.is_same(record) => {}
+            // Another one is there, or none: `others` has fewer records.
             _ => return false,
         }
     }
+    // `others` may have more records.
     rest.next().is_none()
 }
 
@@ -295,6 +297,7 @@ impl BranchTable {
     pub fn end_work(&mut self, xid: &Xid)
         ensures { self.new ≡ with_record self.old xid.now (λ branch. record branch { phase = Phase.Idle }) }
     {
+        // If there is no owner, no session has the branch open.
         if let Some(owner) = set_idle(&mut self.by_xid, xid) {
             end_place(&mut self.opened, owner);
         }
@@ -306,6 +309,7 @@ impl BranchTable {
         ensures { self.new ≡ with_record self.old xid.now (λ branch. record branch
             { phase = Phase.Prepared; owner = None }) }
     {
+        // If there was no owner, no session had the branch open.
         if let Some(owner) = set_prepared(&mut self.by_xid, xid) {
             set_place(&mut self.opened, owner, Association::Free);
         }
@@ -340,6 +344,7 @@ impl BranchTable {
             owner,
             held,
         } = self.by_xid.remove(xid)?;
+        // If there is no owner, no session has the branch open.
         if let Some(owner) = owner {
             set_place(&mut self.opened, owner, Association::Free);
         }

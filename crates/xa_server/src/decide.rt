@@ -11,7 +11,7 @@ use crate::association::{Association, is_same};
 use crate::{BranchState, Reply, Server, XaError};
 use xa_xid::{Key, NoMemory, SessionNo, Statement, Xid};
 
-// Each reply is made as the result that `reply` returns, so that it is moved once and not wrapped after
+// Each reply is made as the result that `decide` returns, so that it is moved once and not wrapped after
 // each call.
 
 /// Returns the reply `Ok` if the test `holds`, and else the refusal `error`; never `NoMemory`.
@@ -33,7 +33,8 @@ fn rmfail(state: BranchState) -> Result<Reply, NoMemory>
 }
 
 impl Server {
-    /// Replies to `XA START`: a free session may start a branch, if no branch has the identifier.
+    /// Replies to `XA START`: a free session may start a branch, if no branch has the identifier. Else it is refused:
+    /// by `Dupid`, or with the state of the session's branch if the session isn't free.
     #[tactic(auto, unfolding(crate::specs::Replies::table))]
     fn reply_to_start(&self, association: &Association, xid: &Xid) -> Result<Reply, NoMemory>
         ensures { result ≡ Ok (table self.now association.now (Start xid.now)) }
@@ -51,7 +52,8 @@ impl Server {
         }
     }
 
-    /// Replies to `XA END`: a session may end the work of its own ACTIVE branch.
+    /// Replies to `XA END`: a session may end the work of its own ACTIVE branch. Else it is refused: by `Nota` if the
+    /// session's ACTIVE branch has another identifier, and with the session's state if it has no ACTIVE one.
     #[tactic(auto, unfolding(crate::specs::Replies::table))]
     fn reply_to_end(&self, association: &Association, xid: &Xid) -> Result<Reply, NoMemory>
         ensures { result ≡ Ok (table self.now association.now (End xid.now)) }
@@ -63,7 +65,8 @@ impl Server {
         }
     }
 
-    /// Replies to `XA PREPARE`: a session may prepare its own IDLE branch.
+    /// Replies to `XA PREPARE`: a session may prepare its own IDLE branch. Else it is refused: by `Nota` if the
+    /// session's IDLE branch has another identifier, and with the session's state if it has no IDLE one.
     #[tactic(auto, unfolding(crate::specs::Replies::table))]
     fn reply_to_prepare(&self, association: &Association, xid: &Xid) -> Result<Reply, NoMemory>
         ensures { result ≡ Ok (table self.now association.now (Prepare xid.now)) }
@@ -75,8 +78,9 @@ impl Server {
         }
     }
 
-    /// Replies to `XA COMMIT`: a free session may commit a PREPARED branch, without `ONE PHASE`, and a session
-    /// its own IDLE branch, with it.
+    /// Replies to `XA COMMIT`: a free session may commit a PREPARED branch, without `ONE PHASE`, and a session its own
+    /// IDLE branch, with `ONE PHASE` (`one_phase`). Else it is refused: of a free session by `Nota` if no PREPARED
+    /// branch has the identifier, and else with the state PREPARED; of another session with the state of its branch.
     #[tactic(auto, unfolding(crate::specs::Replies::table))]
     fn reply_to_commit(
         &self,
@@ -91,6 +95,7 @@ impl Server {
                 if !self.has_prepared(xid) {
                     Ok(Reply::Refused(XaError::Nota))
                 } else if one_phase {
+                    // One phase is for a branch that wasn't prepared.
                     rmfail(BranchState::Prepared)
                 } else {
                     Ok(Reply::Ok)
@@ -98,6 +103,8 @@ impl Server {
             }
             Association::Active(_) => rmfail(BranchState::Active),
             Association::Idle(own) => {
+                // While a session has a branch open it can't finish another one, and its own, which isn't prepared,
+                // only in one phase.
                 if one_phase {
                     ok_if(is_same(xid, own.xid()), XaError::Rmfail(BranchState::Idle))
                 } else {
@@ -107,7 +114,8 @@ impl Server {
         }
     }
 
-    /// Replies to `XA ROLLBACK`: a free session may roll back a PREPARED branch, and a session its own IDLE one.
+    /// Replies to `XA ROLLBACK`: a free session may roll back a PREPARED branch, and a session its own IDLE one. Else
+    /// it is refused: by `Nota` to a free session, and else with the state of the session's branch.
     #[tactic(auto, unfolding(crate::specs::Replies::table))]
     fn reply_to_rollback(&self, association: &Association, xid: &Xid) -> Result<Reply, NoMemory>
         ensures { result ≡ Ok (table self.now association.now (Rollback xid.now)) }
@@ -115,6 +123,7 @@ impl Server {
         match association {
             Association::Free => ok_if(self.has_prepared(xid), XaError::Nota),
             Association::Active(_) => rmfail(BranchState::Active),
+            // While a session has a branch open it can't finish another one.
             Association::Idle(own) => ok_if(
                 is_same(xid, own.xid()),
                 XaError::Rmfail(BranchState::Idle),
@@ -122,8 +131,8 @@ impl Server {
         }
     }
 
-    /// Replies to `GET`: a free session reads the committed value. An ACTIVE branch reads what it sees, unless
-    /// another branch holds the row exclusively. An IDLE branch reads nothing.
+    /// Replies to `GET`: a free session reads the committed value. An ACTIVE branch reads what it sees, or is refused
+    /// by `RowLocked` if another branch holds the row exclusively. In an IDLE branch `GET` is refused with that state.
     #[tactic(auto, unfolding(crate::specs::Replies::table))]
     fn reply_to_get(&self, association: &Association, key: &Key) -> Result<Reply, NoMemory>
         ensures { result ≡ Ok (table self.now association.now (Get key.now)) }
@@ -141,8 +150,8 @@ impl Server {
         }
     }
 
-    /// Replies to `PUT` and `DEL`: they are refused if another branch holds the row, in share or exclusively, and
-    /// if the session's branch is IDLE.
+    /// Replies to `PUT` and `DEL`: they are refused with the state if the session's branch is IDLE, and else by
+    /// `RowLocked` if another branch holds the row, in share or exclusively.
     #[tactic(auto, unfolding(crate::specs::Replies::table))]
     fn reply_to_write(&self, association: &Association, key: &Key) -> Result<Reply, NoMemory>
         ensures put { (value : Text) → result ≡ Ok (table self.now association.now (Put key.now value)) }
@@ -188,7 +197,8 @@ impl Server {
         }
     }
 
-    /// Returns whether the statement, of a session that has `association` open, is logged if it is accepted.
+    /// Returns whether the statement, of a session that has `association` open, is logged if it is accepted. All are
+    /// but `XA RECOVER`, a `GET` that locks no row, and a `DISCONNECT` that ends no branch.
     #[tactic(auto, unfolding(crate::specs::Step::may_enter))]
     fn may_enter(&self, association: &Association, statement: &Statement) -> bool
         ensures { result ≡ may_enter_in self.now association.now statement.now }
@@ -204,7 +214,9 @@ impl Server {
             Statement::Rollback(_) => true,
             Statement::Put(_, _) => true,
             Statement::Del(_) => true,
+            // It only lists.
             Statement::Recover { convert: _ } => false,
+            // It is never accepted.
             Statement::Unsupported => false,
             // In a branch a `GET` makes the branch share a row that it doesn't hold yet.
             Statement::Get(key) => match association {

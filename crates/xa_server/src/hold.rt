@@ -57,7 +57,8 @@ fn hold_in(xid: &Xid, lock: &Lock) -> Option<Hold>
     }
 }
 
-/// Lists the rows that this branch holds, ascending by key. Returns `NoMemory` only if it holds one.
+/// Lists the rows that this branch holds, ascending by key. `by_key` has the records of all rows. Returns `NoMemory`
+/// only if the branch holds a row.
 pub fn held_in(
     alloc: Global,
     by_key: &BTreeMap<Key, RowRecord>,

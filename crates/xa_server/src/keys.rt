@@ -38,7 +38,7 @@ impl Keys {
         Ok(())
     }
 
-    /// Removes the last key, if there is one.
+    /// Removes and returns the last key; None if the list is empty.
     pub fn pop(&mut self) -> Option<Key>
         ensures { MatchOption result ((self.old ≡ []) × (self.new ≡ [])) (λ key. self.old ≡ self.new ++ key ∷ []) }
     {

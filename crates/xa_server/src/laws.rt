@@ -60,8 +60,8 @@ pub fn statement_outside_history_changes_nothing()
 /// States that there is an accepted `XA PREPARE` of a branch between any two of its finishes in one
 /// history.
 ///
-/// So a prepared branch is finished once. This holds for any state in which the history begins. Takes no
-/// memory. Doesn't wait.
+/// So a prepared branch is finished at most once for each time that it was prepared. This holds for any state in which
+/// the history begins. Takes no memory. Doesn't wait.
 /// Source: MySQL 8.0 Reference Manual, 'XA Transaction States'.
 pub fn prepared_branch_finishes_once()
     // Proved (server, finished-once): Between two finishes of a prepared branch in one history there is an accepted

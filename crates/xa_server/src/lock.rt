@@ -127,7 +127,8 @@ impl Lock {
         }
     }
 
-    /// Returns whether a branch that isn't the session's own holds the row, in share or exclusively.
+    /// Returns whether a branch holds the row, in share or exclusively, that isn't the one that the session has open,
+    /// its `association`.
     pub fn is_held_beside(&self, association: &Association) -> bool
         ensures { result ≡ held_beside association.now self.now }
     {
@@ -137,7 +138,8 @@ impl Lock {
         }
     }
 
-    /// Returns whether a branch that isn't the session's own holds the row exclusively.
+    /// Returns whether a branch holds the row exclusively that isn't the one that the session has open, its
+    /// `association`.
     pub fn is_locked_beside(&self, association: &Association) -> bool
         ensures { result ≡ locked_beside association.now self.now }
     {
@@ -164,6 +166,7 @@ impl Lock {
         ensures err { OnErr result (self.new ≡ self.old) }
     {
         match self {
+            // The server shares no row that is held exclusively, so this doesn't come.
             Lock::Exclusive {
                 holder: _,
                 change: _,

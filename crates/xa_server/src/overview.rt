@@ -1,4 +1,4 @@
-//! What a server holds, as a person looks at it.
+//! What a server holds, for a person to read: its branches, the rows that they hold, and values.
 ghost use Rattle.std.specs.Prelude.{◌≡◌, ◌≢◌, [], ◌∷◌, IfOk, OnErr, map};
 ghost use Rattle.std.specs.BTreeMap as tree;
 ghost use Rattle.xa_xid.specs.Xid.{xid_cmp};
@@ -87,7 +87,7 @@ impl Server {
 
     /// Lists the rows that the branch of this identifier holds, each once, ascending by key.
     ///
-    /// The list is empty if there is no such branch. Looks at every row of the server. May return
+    /// The list is empty if there is no such branch. Else the call visits every row of the server. May return
     /// `NoMemory`, only if the branch holds a row. Doesn't wait.
     /// Own rule: docs/COMMANDS.md#show.
     pub fn rows_of(&self, alloc: Global, xid: &Xid) -> Result<Vec<HeldRow>, NoMemory>

@@ -52,7 +52,7 @@ impl RowRecord {
     }
 }
 
-/// Adds an owner of a value, if there is one, and returns it.
+/// Returns a further owner of a value; None if there is no value.
 fn share_of_value(value: &Option<SharedText>) -> Result<Option<SharedText>, NoMemory>
     ensures { IfOk result (λ share. share ≡ value.now) }
 {
@@ -72,7 +72,8 @@ fn copy_of_value(value: &Option<SharedText>) -> Option<Bytes>
     }
 }
 
-/// Returns the value that all sessions see.
+/// Returns the value that all sessions see, or None if the row has none. `row` is the row's record; a row without one
+/// has no value.
 pub fn committed_value(row: Option<&RowRecord>) -> Option<Bytes>
     ensures { result ≡ committed_of (option_copied row.entry) }
 {
@@ -82,7 +83,8 @@ pub fn committed_value(row: Option<&RowRecord>) -> Option<Bytes>
     }
 }
 
-/// Returns whether a branch that isn't the session's own holds the row, in share or exclusively.
+/// Returns whether a branch holds the row, in share or exclusively, that isn't the one that the session has open, its
+/// `association`. `row` is the row's record; a row without one is held by nobody.
 pub fn is_held_against(association: &Association, row: Option<&RowRecord>) -> bool
     ensures { result ≡ held_against association.now (option_copied row.entry) }
 {
@@ -92,7 +94,8 @@ pub fn is_held_against(association: &Association, row: Option<&RowRecord>) -> bo
     }
 }
 
-/// Returns whether a branch that isn't the session's own holds the row exclusively.
+/// Returns whether a branch holds the row exclusively that isn't the one that the session has open, its `association`.
+/// `row` is the row's record; a row without one is held by nobody.
 pub fn is_locked_against(association: &Association, row: Option<&RowRecord>) -> bool
     ensures { result ≡ locked_against association.now (option_copied row.entry) }
 {
@@ -123,7 +126,8 @@ pub fn free(row: &mut RowRecord, alloc: Global, xid: &Xid, commits: bool) -> boo
     row.committed.is_some() || row.lock.is_held_beside(&Association::Free)
 }
 
-/// Returns whether this branch holds the row, in share or exclusively.
+/// Returns whether this branch holds the row, in share or exclusively. `row` is the row's record; a row without one is
+/// held by nobody.
 pub fn is_held_by(own: &Xid, row: Option<&RowRecord>) -> bool
     ensures { result ≡ is_some (option_and_then (lock_by own.now) (option_copied row.entry)) }
 {
@@ -138,6 +142,7 @@ pub fn is_held_by(own: &Xid, row: Option<&RowRecord>) -> bool
 pub fn value_within(own: &Xid, row: Option<&RowRecord>) -> Option<Bytes>
     ensures { result ≡ value_seen own.now (option_copied row.entry) }
 {
+    // A row without a record has no value.
     let record = row?;
     // A branch writes a row only while it holds it exclusively.
     let Lock::Exclusive { holder, change } = &record.lock else {

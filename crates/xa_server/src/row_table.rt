@@ -56,8 +56,8 @@ fn set_lock(by_key: &mut BTreeMap<Key, RowRecord>, key: &Key, lock: Lock) -> Opt
     }
 }
 
-/// Adds a branch to the sharers of a row's record. Returns whether the row has a record. After `NoMemory` the
-/// records are unchanged.
+/// Adds a branch to the sharers in a row's record, if the row has one. If the row is held exclusively, its record stays
+/// as it is. Returns whether the row has a record. After `NoMemory` the records are unchanged.
 fn share_in(
     by_key: &mut BTreeMap<Key, RowRecord>,
     key: &Key,
@@ -79,8 +79,9 @@ fn share_in(
     }
 }
 
-/// Ends a branch's hold of a row in the row's record. Returns whether the record is still needed; `true` also
-/// if the row has none, so that nothing is removed.
+/// Ends a branch's hold of a row in the row's record. If the branch `commits`, and held the row exclusively, its
+/// change becomes the row's value. Returns whether the record is still needed: the row has a value, or a branch holds
+/// it. `true` also if the row has no record, so that the caller removes nothing.
 fn free_in(
     by_key: &mut BTreeMap<Key, RowRecord>,
     alloc: Global,
@@ -115,9 +116,11 @@ fn has_same_records(by_key: &BTreeMap<Key, RowRecord>, others: &BTreeMap<Key, Ro
     for (key, row) in by_key {
         match rest.next() {
             Some((other, record)) if key == other && row.is_same(record) => {}
+            // Another one is there, or none: `others` has fewer records.
             _ => return false,
         }
     }
+    // `others` may have more records.
     rest.next().is_none()
 }
 
@@ -183,7 +186,8 @@ impl RowTable {
         held_in(alloc, &self.by_key, xid)
     }
 
-    /// Makes a branch hold a row exclusively, with this change. After `NoMemory` the records are unchanged.
+    /// Makes the branch `holder` hold a row exclusively, with this change, whatever lock the row had. After `NoMemory`
+    /// the records are unchanged.
     pub fn hold(&mut self, key: &Key, holder: SharedXid, change: Change) -> Result<(), NoMemory>
         ensures ok { OnOk result (self.new ≡ map.insert self.old key.now
             (held_row holder change (map.get self.old key.now))) }
@@ -194,6 +198,7 @@ impl RowTable {
         let Some(lock) = set_lock(&mut self.by_key, key, lock) else {
             return Ok(());
         };
+        // A row without a record has no value.
         let row = RowRecord {
             committed: None,
             lock,
@@ -213,6 +218,7 @@ impl RowTable {
         if share_in(&mut self.by_key, key, xid)? {
             return Ok(());
         }
+        // The row has no record, so nobody holds it, and it has no value.
         let mut lock = Lock::nobodys(self.alloc);
         lock.share(xid)?;
         let row = RowRecord {

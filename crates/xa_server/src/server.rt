@@ -46,7 +46,8 @@ impl Model for Server {
     ghost invariant = { λ server. IsWhole server.branches server.rows };
 }
 
-/// Removes the key that a branch listed last, if `held` says that no memory was left for the row's record.
+/// Removes the key that the branch `own` listed last if `held`, the result of taking the row's lock, is `NoMemory`.
+/// Else changes nothing.
 fn unlist_refused(branches: &mut BranchTable, own: &Xid, held: &Result<(), NoMemory>)
     ensures held { OnOk held.now (branches.new ≡ branches.old) }
     ensures refused { OnErr held.now (branches.new ≡ with_record branches.old own.now
@@ -166,28 +167,31 @@ impl Server {
         branch::is_prepared(self.branches.phase_of(xid))
     }
 
-    /// Returns the value of a row that all sessions see.
+    /// Returns the value of a row that all sessions see; None if the row has none.
     pub(crate) fn committed_value(&self, key: &Key) -> Option<Bytes>
         ensures { result ≡ committed_value_of self.now key.now }
     {
         row::committed_value(self.rows.row(key))
     }
 
-    /// Returns the value of a row that a branch sees.
+    /// Returns the value of a row that the branch `own` sees: by its own newest write of the row, and else the
+    /// committed one; None if that is no value.
     pub(crate) fn value_within(&self, own: &Xid, key: &Key) -> Option<Bytes>
         ensures { result ≡ value_within_of self.now own.now key.now }
     {
         row::value_within(own, self.rows.row(key))
     }
 
-    /// Returns whether a branch that isn't the session's own holds the row, in share or exclusively.
+    /// Returns whether a branch holds the row, in share or exclusively, that isn't the one that the session has open,
+    /// its `association`.
     pub(crate) fn is_held_against(&self, association: &Association, key: &Key) -> bool
         ensures { result ≡ is_held_against_of self.now association.now key.now }
     {
         row::is_held_against(association, self.rows.row(key))
     }
 
-    /// Returns whether a branch that isn't the session's own holds the row exclusively.
+    /// Returns whether a branch holds the row exclusively that isn't the one that the session has open, its
+    /// `association`.
     pub(crate) fn is_locked_against(&self, association: &Association, key: &Key) -> bool
         ensures { result ≡ is_locked_against_of self.now association.now key.now }
     {
@@ -252,8 +256,8 @@ impl Server {
         self.branches.detach(xid);
     }
 
-    /// Makes a branch hold a row exclusively, with this change. No other branch holds the row; its own
-    /// share is upgraded. After `NoMemory` the server is unchanged.
+    /// Makes the branch `own` hold a row exclusively, with this change at its commit. No other branch holds the row. A
+    /// share or an older change of the branch's own gives way to this. After `NoMemory` the server is unchanged.
     pub(crate) fn hold(
         &mut self,
         own: &SharedXid,
@@ -278,7 +282,7 @@ impl Server {
         held
     }
 
-    /// Makes a branch share a row that it doesn't hold yet. No other branch holds the row exclusively.
+    /// Makes the branch `own` share a row that it doesn't hold yet. No other branch holds the row exclusively.
     /// After `NoMemory` the server is unchanged.
     pub(crate) fn share(&mut self, own: &SharedXid, key: &Key) -> Result<(), NoMemory>
         requires known { is_known self.old own.now ≡ true }
@@ -319,6 +323,7 @@ impl Server {
         requires { is_known self.old xid.now ≡ true }
         ensures { self.new ≡ cond commits (committed self.old xid.now) (without_branch self.old xid.now) }
     {
+        // There is such a branch, so its keys are found.
         if let Some(keys) = self.branches.remove(xid) {
             self.rows.free_all(keys, xid, commits);
         }

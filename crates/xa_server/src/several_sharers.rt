@@ -14,7 +14,7 @@ use std::collections::BTreeSet;
 use std::marker::Model;
 use xa_xid::{NoMemory, Xid};
 
-/// How many branches the list of a row has room for: few, since a look-up passes all of them.
+/// How many branches the list of a row has room for: few, since a look-up passes all of them. Eight take 64 bytes.
 const FEW: usize = 8;
 
 /// Several branches that share a row.
@@ -48,14 +48,16 @@ fn is_in_list(few: &[SharedXid], xid: &Xid) -> bool
     few.iter().any(|own| is_same(xid, own.xid()))
 }
 
-/// Returns whether a branch that isn't the session's own is in the list.
+/// Returns whether a branch is in the list that isn't the session's own, its `association`. For a free session that is
+/// any branch.
 fn has_another_in_list(few: &[SharedXid], association: &Association) -> bool
     ensures { result ≡ list_any (is_another_of association.now) few.now }
 {
     few.iter().any(|own| association.is_another(own.xid()))
 }
 
-/// Returns whether a branch that isn't the session's own is in the set.
+/// Returns whether a branch is in the set that isn't the session's own, its `association`. For a free session that is
+/// any branch.
 fn has_another_in(many: &BTreeSet<Xid>, association: &Association) -> bool
     ensures { result ≡ list_any (is_another_of association.now) (keys many.now) }
 {
@@ -67,14 +69,14 @@ fn has_another_in(many: &BTreeSet<Xid>, association: &Association) -> bool
     false
 }
 
-/// Returns whether each branch of a list shares the row.
+/// Returns whether each branch of the list `few` is one of `sharers`.
 fn has_all_in_list(sharers: &Sharers, few: &[SharedXid]) -> bool
     ensures { result ≡ list_all (set.contains sharers.now) few.now }
 {
     few.iter().all(|own| sharers.contains(own.xid()))
 }
 
-/// Returns whether each branch of a set shares the row.
+/// Returns whether each branch of the set `many` is one of `sharers`.
 fn has_all_in(sharers: &Sharers, many: &BTreeSet<Xid>) -> bool
     ensures { result ≡ list_all (set.contains sharers.now) (keys many.now) }
 {
@@ -154,7 +156,8 @@ impl SeveralSharers {
         is_in_list(&self.few, xid) || self.many.contains(xid)
     }
 
-    /// Returns whether a branch that isn't the session's own is one of the sharers. Looks at two of them at most.
+    /// Returns whether a branch that isn't the session's own is one of the sharers. Tests two of them at most, since at
+    /// most one is the session's own.
     pub fn has_another(&self, association: &Association) -> bool
         ensures { result ≡ list_any (is_another_of association.now) (set.items self.now) }
     {

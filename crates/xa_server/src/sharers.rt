@@ -123,7 +123,7 @@ impl Sharers {
         self.has_all_of(other) && other.has_all_of(self)
     }
 
-    /// Returns true only if each of the others is one of these.
+    /// Returns true only if each branch of `other` is one of this set.
     fn has_all_of(&self, other: &Sharers) -> bool
         ensures { result ≡ true → set.is_subset other.now self.now ≡ true }
     {
@@ -155,7 +155,8 @@ impl Sharers {
         }
     }
 
-    /// Returns whether a branch that isn't the session's own is one of the sharers. Looks at two of them at most.
+    /// Returns whether a branch that isn't the session's own is one of the sharers. Tests two of them at most, since at
+    /// most one is the session's own.
     pub fn has_another(&self, association: &Association) -> bool
         ensures { result ≡ list_any (is_another_of association.now) (set.items self.now) }
     {
@@ -176,6 +177,7 @@ impl Sharers {
                 self.branches = Branches::One(xid.try_clone()?);
                 Ok(())
             }
+            // A second branch: from now on both are in a place of their own in memory.
             Branches::One(own) => {
                 self.branches = both(self.alloc, own, xid)?;
                 Ok(())

@@ -94,8 +94,8 @@ answered_outside base statement answer old new looked is =
       outside = λ _. record { whole = sym is.place; mine = looked.mine };
     }
 
--- a look, the server's reply at the end of what is seen to a statement that is logged there, and then an append of its
--- entry: the statement is answered
+-- if after a look the server's reply at the end of what is seen is to a statement that is logged there, and then its
+-- entry is appended, the statement is answered
 pub answered_entered : (base : State) (statement : Statement) (answer : Answer) (old mid new : Known) → Looked old mid
     → IsReply base statement answer true mid
     → IsAdded (entry_of mid.number statement) mid new → IsAnswered base statement answer old new

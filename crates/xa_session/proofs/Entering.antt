@@ -12,7 +12,7 @@ use Rattle.xa_server.specs.declared.association.Association.TheVariants.{Free, A
 use Rattle.xa_server.specs.declared.reply.Reply.TheVariants.{Ok as Accepted, Recovered}
 use Rattle.xa_server.specs.Step.{enters, may_enter, is_refused}
 
--- both don't hold if the second doesn't
+-- a test and a false one never hold together
 never_both : (b : Bool) → b && false ≡ true → ⊥
 never_both true is = cc
 never_both false is = cc

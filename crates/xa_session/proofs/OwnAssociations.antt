@@ -24,7 +24,7 @@ use Rattle.xa_server.proofs.Others.{IsOwn, own_association, own_found, none_foun
 use Rattle.xa_server.proofs.Changes.{idle, branch_after, effect-branch, accepted_done}
 use Rattle.xa_server.proofs.Keeping.{law_after}
 
--- a branch that the session owns
+-- the state has a branch of this identifier, and the session owns it
 pub record IsOwned (session : ℕ) (state : State) (xid : Xid) : Type 0 where
   pub branch : Branch
   pub found : map.get state.branches xid ≡ Some branch

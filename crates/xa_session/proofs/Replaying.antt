@@ -29,7 +29,7 @@ pub state_after-nil : (base : State) → state_after base [] ≡ base
 unfolding state_after
 state_after-nil base = refl
 
--- the state after a history and one entry more is that entry's, carried out last
+-- the state after a history and one entry more is what that entry's statement leaves of the state after the history
 pub state_after-last : (base : State) (xs : List Entry) (entry : Entry)
     → state_after base (xs ++ entry ∷ []) ≡ after (state_after base xs) entry.session entry.statement
 unfolding state_after

@@ -1,12 +1,12 @@
 -- The meaning of a session's answer and of its faults, in words of what the session knows before and after a call.
 --     entry_of         a session's statement as an entry
 --     AnswersAt        a reply at a place of a history
---     Advances         what no call undoes
+--     Advances         the same number, no less seen, no fewer looks and tries
 --     IsEntered        the statement was appended right after its answer's place
 --     IsOutside        the statement was not appended, and was answered from all that is seen
 --     IsAnswered       a statement was answered
 --     IsUnanswered     nothing of the statement was appended
---     IsFull           there is no room for a statement that is logged
+--     IsFull           there is no room for the statement, which would be logged
 --     Fails            the cause for which a statement was not answered
 --     IsFinal          a fault after which `execute` doesn't try again
 --     FullAfter        at Full the replica has replayed all that is seen
@@ -33,7 +33,8 @@ use Rattle.xa_session.specs.declared.fault.Fault.TheVariants.{Overtaken, Full, N
 abbrev pub entry_of : ℕ → Statement → Entry
 entry_of session statement = record { session = session; statement = statement }
 
--- the reply is the server's after a prefix of the history, and a statement that is logged there is the next entry
+-- the reply is the server's after the first `place` entries of the history, which has as many; and a statement that is
+-- logged there is the next entry
 pub record AnswersAt (base : State) (history : List Entry) (session : ℕ) (statement : Statement) (place : ℕ)
     (reply : Reply) : Type 0 where
   pub within : place ≤ length history
@@ -41,7 +42,8 @@ pub record AnswersAt (base : State) (history : List Entry) (session : ℕ) (stat
   pub next : enters (state_at base history place) session statement ≡ true
       → slice_get history place ≡ Some (entry_of session statement)
 
--- what is seen begins with what was seen, and counts never fall
+-- the session's number is the same, what is seen begins with what was seen, and there are no fewer looks and tries than
+-- before
 pub record Advances (old new : Known) : Type 0 where
   pub number : new.number ≡ old.number
   pub seen : Begins old.seen new.seen
@@ -58,8 +60,9 @@ pub record IsOutside (place : ℕ) (old new : Known) : Type 0 where
   pub whole : length new.seen ≡ place
   pub mine : new.mine ≡ old.mine
 
--- the reply is the server's at the answer's place, which isn't before what had been seen, and the session has looked; a
--- statement that enters there was appended right after that place, and of another one nothing was appended
+-- the reply is the server's at the answer's place, which isn't before the end of what had been seen, and the session
+-- has looked; a statement that enters there was appended right after that place; of another one nothing was appended,
+-- and the place is the end of what is seen
 pub record IsAnswered (base : State) (statement : Statement) (answer : Answer) (old new : Known) : Type 0 where
   pub advances : Advances old new
   pub looked : old.looks < new.looks
@@ -70,19 +73,21 @@ pub record IsAnswered (base : State) (statement : Statement) (answer : Answer) (
   pub outside : enters (state_at base new.seen answer.place) old.number statement ≡ false
       → IsOutside answer.place old new
 
--- nothing of the statement was appended
+-- nothing of the statement was appended, and no less is known than before, as `Advances` says
 pub record IsUnanswered (old new : Known) : Type 0 where
   pub advances : Advances old new
   pub mine : new.mine ≡ old.mine
 
--- nothing of the statement was appended, it would be logged, and as much is seen as the log can have
+-- nothing of the statement was appended; it would be logged after all that is seen, and that is as long as the log can
+-- be
 pub record IsFull (base : State) (capacity : ℕ) (statement : Statement) (old new : Known) : Type 0 where
   pub unanswered : IsUnanswered old new
   pub enters : enters (state_after base new.seen) old.number statement ≡ true
   pub full : length new.seen ≡ capacity
 
--- the cause of a fault, in a log of a capacity, with turns or without: at Overtaken an entry came first, at Full no
--- room is left; Busy comes only in a log with turns; nothing of the statement was appended
+-- the cause of a fault, in a log of a capacity, with turns or without; nothing of the statement was appended.
+-- Overtaken: a try was lost to another pass, and `front` entries are seen now. Full: no room is left. Busy: the log has
+-- turns. Of NoMemory no more is said
 abbrev pub Fails : Bool → ℕ → State → Statement → Fault → Known → Known → Type 0
 Fails turns capacity base statement (Overtaken front) old new = IsOvertaken front old new
 Fails turns capacity base statement Full old new = IsFull base capacity statement old new

@@ -3,8 +3,9 @@
 --                      its other sessions know, how many more statements it takes, and whether memory may have been
 --                      refused for one
 --     KeepsLimit       a limit is neither lifted nor raised
---     StaysOfLog       it is of the same log, no other session of the value spoke, and its limit isn't lifted
---     Takes            so many statements fewer are left, if they are limited
+--     StaysOfLog       it is of the same log, the value's other sessions know what they knew, and its limit is neither
+--                      lifted nor raised
+--     Takes            so many statements fewer are left, if there is a limit
 --     TakesUnanswered  how many are left after a fault: one fewer, or none as before at NoMemory
 --     TakesBy          how many are left after a result
 use Rattle.std.specs.Prelude.{◌≡◌, ◌≤◌, ◌+◌, ◌⊎◌, ℕ, Bool, true, List, Option, Some, None, Result, Ok, Err}
@@ -15,9 +16,9 @@ use Rattle.xa_session.specs.declared.answer.Answer.{Answer}
 use Rattle.xa_session.specs.declared.fault.Fault.{Fault}
 use Rattle.xa_session.specs.declared.fault.Fault.TheVariants.{NoMemory}
 
--- a session, as contracts see it: its log, and whether sessions of that have turns; the state in which its history
--- begins; what it knows, and what other sessions of the same value know; how many more statements it takes, or none if
--- they aren't limited; and whether memory may have been refused for a statement
+-- a session, as contracts see it: its log, and whether that has turns; the state in which its history begins; what it
+-- knows, and what other sessions of the same value know; how many more statements it takes, or None if they aren't
+-- limited; and whether memory may have been refused for a statement
 pub record SessionView : Type 0 where
   pub identity : LogIdentity
   pub turns : Bool
@@ -32,8 +33,9 @@ abbrev pub KeepsLimit : Option ℕ → Option ℕ → Type 0
 KeepsLimit None new = new ≡ None
 KeepsLimit (Some before) new = (after : ℕ) × (new ≡ Some after) × (after ≤ before)
 
--- the log is the same, its history begins in the same state, the value's other sessions know what they knew, its limit
--- isn't lifted, and what was refused stays noted
+-- the log is the same, with turns or without as before, its history begins in the same state, the value's other
+-- sessions know what they knew, the session's limit is neither lifted nor raised, and if memory may have been refused
+-- before, that stays noted
 pub record StaysOfLog (old new : SessionView) : Type 0 where
   pub identity : new.identity ≡ old.identity
   pub turns : new.turns ≡ old.turns
@@ -42,12 +44,12 @@ pub record StaysOfLog (old new : SessionView) : Type 0 where
   pub left : KeepsLimit old.left new.left
   pub starved : old.starved ≡ true → new.starved ≡ true
 
--- if there is a limit, so many statements fewer are left
+-- if there is a limit, `count` statements fewer are left; without a limit there is none afterwards
 abbrev pub Takes : ℕ → Option ℕ → Option ℕ → Type 0
 Takes count None new = new ≡ None
 Takes count (Some before) new = (after : ℕ) × (new ≡ Some after) × (after + count ≡ before)
 
--- the statement was taken: one fewer is left if they are limited, and at NoMemory it is noted that memory may have been
+-- the statement was taken: one fewer is left if there is a limit, and at NoMemory it is noted that memory may have been
 -- refused; or none was left to take, the fault is NoMemory, and none is left still
 abbrev pub TakesUnanswered : Fault → SessionView → SessionView → Type 0
 TakesUnanswered fault old new =

@@ -1,4 +1,4 @@
-//! A single try to answer a statement.
+//! A single attempt to answer a statement.
 ghost use Rattle.std.specs.Prelude.{◌≡◌, IfErr};
 ghost use Rattle.xa_session.specs.Outcome.{Answers};
 ghost use Rattle.xa_session.specs.Stays.{Stays};

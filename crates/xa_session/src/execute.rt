@@ -1,4 +1,4 @@
-//! Trying until a statement is answered.
+//! Attempts until a statement is answered, and disconnecting.
 ghost use Rattle.std.specs.Prelude.{◌≡◌, ◌<◌, ℕ, IfOk, IfErr, OnErr};
 ghost use Rattle.xa_server.specs.declared.reply.Reply.TheVariants.{Ok as Accepted};
 ghost use Rattle.xa_xid.specs.declared.statement.Statement.TheVariants.{Disconnect};
@@ -16,8 +16,8 @@ use xa_xid::Statement;
 impl<'a, L: DecisionLog> Session<'a, L> {
     /// Answers a statement as `attempt` does, and tries again after `Overtaken` and `Busy`.
     ///
-    /// Errors: `NoMemory` and `Full`, as for `attempt`. They are the result of the last try, never of a
-    /// lost one. `NoMemory` is never returned after an append. May wait: no number of tries is promised.
+    /// Errors: `NoMemory` and `Full`, as for `attempt`. They are the result of the last attempt, which has made no
+    /// try to append. `NoMemory` is never returned after an append. May wait: no number of tries is promised.
     /// Own rule: docs/RATTLE.md#sessions.
     pub fn execute<R: Wait>(&mut self, rt: &R, statement: &Statement) -> Result<Answer, Fault>
         // Proved (sessions, replayed-never-falls)
@@ -45,7 +45,7 @@ impl<'a, L: DecisionLog> Session<'a, L> {
     {
         for _ in rt.forever() {
             match self.attempt(statement) {
-                // Another session has appended first, or has the turn: its thread may go on before the next try.
+                // Another session has appended first, or has the turn: its thread may go on before the next attempt.
                 Err(Fault::Overtaken { .. }) | Err(Fault::Busy) => thread::yield_now(),
                 answered => return answered,
             }
@@ -56,8 +56,8 @@ impl<'a, L: DecisionLog> Session<'a, L> {
 
     /// Executes `DISCONNECT` and returns the pass.
     ///
-    /// Errors: as for `execute`, with the session as it is after them. May wait: no number of tries is
-    /// promised.
+    /// Errors: as for `execute`; the session comes back, and may have seen and replayed more. May wait: no number of
+    /// tries is promised.
     /// Own rule: docs/RATTLE.md#sessions.
     pub fn disconnect<R: Wait>(mut self, rt: &R) -> Result<L::Pass, (Session<'a, L>, Fault)>
         // Proved (sessions, disconnect): Disconnecting returns the pass only if `DISCONNECT` was answered
@@ -82,6 +82,7 @@ impl<'a, L: DecisionLog> Session<'a, L> {
         ensures since { IfErr result (λ refused. 0 < (L.known refused.0.pass).since) }
     {
         match self.execute(rt, &Statement::Disconnect) {
+            // `DISCONNECT` is never refused, so the answer is `OK`.
             Ok(_) => Ok(self.pass),
             Err(fault) => Err((self, fault)),
         }

@@ -64,6 +64,7 @@ impl From<AddFault> for Fault {
 
     ghost from_gives = { λ added fault. fault ≡ fault_of added };
 
+    /// Returns the fault of the same name.
     fn from(added: AddFault) -> Fault {
         match added {
             AddFault::Overtaken { front } => Fault::Overtaken { front },

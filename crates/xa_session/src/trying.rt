@@ -1,4 +1,4 @@
-//! A single try by a replica and a pass, which needn't be in a session then.
+//! A single attempt to answer a statement, by a replica and a pass, which needn't be in a session then.
 //!
 //! The parameter `base` is the state in which the history begins. Only the contracts need it: no code reads it.
 //!
@@ -20,7 +20,7 @@ use xa_words::Entry;
 use xa_xid::{NoMemory, SessionNo, Statement};
 
 impl Replica {
-    /// Replays the entry after those that were replayed.
+    /// Replays the first entry that wasn't replayed; the pass has seen it. After `NoMemory` the replica is unchanged.
     fn replay_next<L: DecisionLog>(
         &mut self,
         log: &L,
@@ -40,8 +40,8 @@ impl Replica {
         self.replay(&entry)
     }
 
-    /// Replays all entries that are seen and weren't replayed. `count` is how many are seen. After `NoMemory`
-    /// some are still left.
+    /// Replays all entries that are seen and weren't replayed, in order. `count` is how many are seen. After
+    /// `NoMemory` those before the one that failed are replayed, and at least this one is left.
     fn catch_up<L: DecisionLog>(
         &mut self,
         log: &L,
@@ -58,6 +58,7 @@ impl Replica {
         ensures known { L.known pass.new ≡ L.known pass.old }
         ensures catches_up { CatchesUp result self.new (L.known pass.new) }
     {
+        // As many rounds as entries are missing at the start. Each round replays one.
         for _ in self.replayed..count {
             self.replay_next(log, pass, base)?;
         }
@@ -87,7 +88,7 @@ impl Replica {
     }
 
     /// Carries out the next entry that the pass has seen: this statement of this session, which is logged in
-    /// the replica's state.
+    /// the replica's state. After `NoMemory` the replica is unchanged. Only the contract needs `pass` and `base`.
     fn keep<L: DecisionLog>(
         &mut self,
         log: &L,

@@ -22,6 +22,7 @@ pub fn replayed<L: DecisionLog>(
     ensures same { L.known pass.new ≡ L.known pass.old }
     ensures state { IfOk result (λ server. server ≡ state_after base.now (L.known pass.old).seen) }
 {
+    // A replica begins as a copy of `base`, so `base` is unchanged.
     let mut replica = Replica::of(base)?;
     for at in 0..log.length(pass) {
         let entry = log.entry(pass, at);

@@ -109,22 +109,22 @@ del_word : (rest : List ℕ) → bare (tokens_of (codes "DEL " ++ rest)) ≡ Wor
 unfolding token_at front behind belongs keyword_of statement_word clause_word is_word
 del_word rest = word_next (codes "DEL " ++ rest) (codes "EL " ++ rest) rest 68 DEL refl refl refl
 
--- the tokens of the words ONE PHASE at the end of XA COMMIT, by computation
+-- the text ` ONE PHASE`, at the end of XA COMMIT, is the words ONE and PHASE
 one_phase_end : bare (tokens_of (codes " ONE PHASE")) ≡ Word ONE ∷ Word PHASE ∷ []
 unfolding token_at front behind belongs keyword_of statement_word clause_word is_word pieces
 one_phase_end = refl
 
--- the tokens of the text XA RECOVER, by computation
+-- the text XA RECOVER is the words XA and RECOVER
 recover_text : bare (tokens_of (codes "XA RECOVER")) ≡ Word XA ∷ Word RECOVER ∷ []
 unfolding token_at front behind belongs keyword_of statement_word clause_word is_word pieces
 recover_text = refl
 
--- the tokens of the text XA RECOVER CONVERT XID, by computation
+-- the text XA RECOVER CONVERT XID is these four words
 convert_text : bare (tokens_of (codes "XA RECOVER CONVERT XID")) ≡ Word XA ∷ Word RECOVER ∷ Word CONVERT ∷ Word XID ∷ []
 unfolding token_at front behind belongs keyword_of statement_word clause_word is_word pieces
 convert_text = refl
 
--- the token of the text DISCONNECT, by computation
+-- the text DISCONNECT is that word
 disconnect_text : bare (tokens_of (codes "DISCONNECT")) ≡ Word DISCONNECT ∷ []
 unfolding token_at front behind belongs keyword_of statement_word clause_word is_word pieces
 disconnect_text = refl

@@ -32,7 +32,8 @@ bare-append (piece ∷ front) back = ap (λ ts. piece.0 ∷ ts) (bare-append fro
 ok_is_err : {A B : Type 0} (a : A) (b : B) → Ok a ≡ Err b → ⊥
 ok_is_err a b e = cc
 
--- `run_on` for the pieces behind a token, if it holds from each state that the token may have led to
+-- the step of `run_on`: if from each state reading goes on past `front` to `back`, so it does from the state, if
+-- there is one, to which a token before `front` leads
 run_next : (reached : Option State) (left : ℕ) (front back : List Piece) (last : State)
     → walk_on reached (bare front) ≡ Some last
     → ((s : State) → walk s (bare front) ≡ Some last → read_from s (front ++ back) ≡ read_from last back)

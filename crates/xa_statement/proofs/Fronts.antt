@@ -35,7 +35,7 @@ use Rattle.xa_statement.specs.Grammar.{put, del, disconnect, Says, ended_row}
 use Rattle.xa_statement.specs.Machine.{after_token, unended, ended, statement_of, xid_word, key_state, after_word}
 use Rattle.xa_statement.specs.Machine.{after_comma, after_value}
 
--- the words that lead to a verb
+-- the word leads to the verb
 abbrev pub VerbWord : Verb → Keyword → Type 0
 VerbWord Starts word = StartWord word
 VerbWord Ends word = word ≡ END
@@ -82,7 +82,7 @@ pub record XidOf (verb : Verb) (xid : Xid) (tokens : List Token) : Type 0 where
   pub form : XidTokens x xid
   pub before : Opened verb x tokens
 
--- the tokens that lead to each state
+-- the tokens are of a form that leads to the state
 abbrev pub Front : State → List Token → Type 0
 Front AtFirst tokens = tokens ≡ []
 Front AfterXa tokens = tokens ≡ Word XA ∷ []
@@ -136,7 +136,7 @@ key_more key tail tokens token k = record {
   same = ap (λ ts. ts ++ token ∷ []) k.same;
 }
 
--- a word behind a whole identifier leads to a state whose tokens are those before, and the word
+-- a word behind a whole identifier leads, if anywhere, to a state whose tokens are those before, and the word
 xid_next : (verb : Verb) (xid : Xid) (word : Keyword) (tokens : List Token) → XidOf verb xid tokens
     → FrontOf (xid_word verb xid word) (tokens ++ Word word ∷ [])
 xid_next Starts xid JOIN tokens f = rw f.before.same (start_clause f.before.is f.form is_join)
@@ -171,7 +171,7 @@ bqual_xid verb g b tokens f =
       before = f.1.1;
     }
 
--- a word leads to a state whose tokens are those before, and the word
+-- a word leads, if anywhere, to a state whose tokens are those before, and the word
 word_next : (state : State) (word : Keyword) (tokens : List Token) → Front state tokens
     → FrontOf (after_word state word) (tokens ++ Word word ∷ [])
 word_next AtFirst XA tokens f = ap (λ ts. ts ++ Word XA ∷ []) f
@@ -203,7 +203,7 @@ word_next AfterRecover CONVERT tokens f = ap (λ ts. ts ++ Word CONVERT ∷ []) 
 word_next AfterConvert XID tokens f = rw f recover_convert
 word_next _ word tokens f = tt
 
--- a comma leads to a state whose tokens are those before, and the comma
+-- a comma leads, if anywhere, to a state whose tokens are those before, and the comma
 comma_next : (state : State) (tokens : List Token) → Front state tokens
     → FrontOf (after_comma state) (tokens ++ Comma ∷ [])
 comma_next (AfterGtrid verb g) tokens f = (f.0, opened_more verb (Value (Some g) f.0 ∷ []) tokens Comma f.1)
@@ -212,7 +212,7 @@ comma_next (AfterBqual verb g b) tokens f =
 comma_next (AfterKey key) tokens f = key_more key [] tokens Comma f
 comma_next _ tokens f = tt
 
--- a literal in the place of a key leads to what its verb wants next
+-- a literal in the place of a key leads, unless it is empty, to what its verb wants next
 key_next : (verb : RowVerb) (text : Text) (number : Option ℕ) (tokens : List Token) (items : List ℕ)
     → items ≡ text.items → tokens ≡ Word (row_word verb) ∷ []
     → FrontOf (key_state verb items) (tokens ++ Value (Some text) number ∷ [])
@@ -237,7 +237,7 @@ put_row : (key : List ℕ) (text value : Text) (m n : Option ℕ) (tokens : List
     → tokens ≡ Word PUT ∷ Value (Some text) m ∷ Comma ∷ Value (Some value) n ∷ [] → Row tokens (Put key value)
 put_row key text value m n tokens some e same = rw (same, e) (put text value m n some)
 
--- a value leads to a state whose tokens are those before, and the value
+-- a value leads, if anywhere, to a state whose tokens are those before, and the value
 value_next : (state : State) (literal : Option Text) (number : Option ℕ) (tokens : List Token) → Front state tokens
     → FrontOf (after_value state literal number) (tokens ++ Value literal number ∷ [])
 value_next (WantsGtrid verb) (Some g) m tokens f = (m, opened_more verb [] tokens (Value (Some g) m) f)
@@ -284,7 +284,7 @@ semicolon_next : (found : Option Statement) (tokens : List Token) → RowOf foun
 semicolon_next None tokens row = tt
 semicolon_next (Some statement) tokens row = ended_row row
 
--- any token leads to a state whose tokens are those before, and the token
+-- any token leads, if anywhere, to a state whose tokens are those before, and the token
 pub next : (state : State) (token : Token) (tokens : List Token) → Front state tokens
     → FrontOf (after_token state token) (tokens ++ token ∷ [])
 unfolding after_token

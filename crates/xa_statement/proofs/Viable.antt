@@ -24,14 +24,16 @@ use Rattle.xa_statement.proofs.Walk.{walk, walk_on, walk-nil, walk-cons, walk_th
 use Rattle.xa_statement.proofs.Walk.{said_read}
 use Rattle.xa_statement.proofs.Fronts.{Front, FrontOf, RowOf, row_of, next}
 
--- `reach` for a token and those behind it, if it holds from the state that the token led to
+-- the step of `reach`: if the tokens behind a token lead, from the state that it led to, to a state whose tokens are
+-- all of them, so do the token and those behind it
 reach_on : (reached : Option State) (token : Token) (more tokens : List Token) → FrontOf reached (tokens ++ token ∷ [])
     → ((s : State) → Front s (tokens ++ token ∷ []) → FrontOf (walk s more) ((tokens ++ token ∷ []) ++ more))
     → FrontOf (walk_on reached more) (tokens ++ token ∷ more)
 reach_on None token more tokens f each = tt
 reach_on (Some s) token more tokens f each = rw append_assoc at (each s f)
 
--- tokens that lead from a state lead to one whose tokens are all of them
+-- tokens that lead on from a state lead, if anywhere, to one whose tokens are those that led to the first state, and
+-- these
 pub reach : (more : List Token) (state : State) (tokens : List Token) → Front state tokens
     → FrontOf (walk state more) (tokens ++ more)
 reach [] state tokens f = rw (walk-nil state, append-nil tokens) f
@@ -63,7 +65,7 @@ said AfterRecover tokens f = said_row (unended AfterRecover) tokens (row_of Afte
 said (Whole statement) tokens f = said_row (unended (Whole statement)) tokens f
 said _ tokens f = tt
 
--- if a state was reached, it says what its tokens say
+-- if a state was reached and is that of a statement, the tokens that lead to it say this statement
 said_of : (reached : Option State) (tokens : List Token) → FrontOf reached tokens → SaysOf (answer reached) tokens
 said_of None tokens f = tt
 said_of (Some state) tokens f = said state tokens f
@@ -77,7 +79,7 @@ way state tokens more statement e f = record {
   says = rw e at (said_of (walk state more) (tokens ++ more) (reach more state tokens f));
 }
 
--- tokens to go on with: a literal in the place of a gtrid or bqual
+-- a token that can be a gtrid or bqual: the empty literal, which is no number
 abbrev any_literal : Token
 any_literal = Value (Some no_text) None
 

@@ -179,7 +179,8 @@ plain_read quote body rest text closes items fits =
     ap text_literal_of (quoted_whole quote body rest closes ∙ ap (λ bytes. Some (bytes, rest)) (sym items))
     ∙ ap (λ found. sized found rest) (kept-fits text.items fits)
 
--- a literal in quotes without escapes, as the program takes it: its bytes are put into an empty text
+-- a literal in quotes without escapes, of at most 64 bytes, is read as the text that the program makes of it: an
+-- empty one into which the bytes up to the closing quote are put
 pub plain_taken : (quote : ℕ) (body plain closing rest : List ℕ) (old text : Text) → plain ≡ front (plain_in quote) body
     → closing ≡ behind (plain_in quote) body → Closes quote closing rest → old.items ≡ []
     → text.items ≡ old.items ++ plain
@@ -236,7 +237,7 @@ unfolding after_token
 gtrid_goes verb text middle rest found first comma =
     first.1 (WantsGtrid verb) (AfterGtrid verb found) refl ∙ comma (AfterGtrid verb found) (WantsBqual verb found) refl
 
--- a bqual at the end: the formatID is 1
+-- a bqual alone leads to the identifier with the formatID 1
 pub bqual_leads : (verb : Verb) (gtrid : Text) (text rest : List ℕ) (found : Text) → TakesLiteral text found rest
     → Leads (WantsBqual verb gtrid) text (statement_of verb (xid_of gtrid found 1)) rest
 unfolding after_token finish
@@ -252,19 +253,19 @@ bqual_goes verb gtrid text middle rest found first comma =
     first.1 (WantsBqual verb gtrid) (AfterBqual verb gtrid found) refl
     ∙ comma (AfterBqual verb gtrid found) (WantsFormatId verb gtrid found) refl
 
--- as `gtrid_leads`, with a bqual and a formatID that equal the empty text and 1
+-- a gtrid alone leads to the identifier with this bqual and this formatID, if they are the empty text and 1
 pub gtrid_said : (verb : Verb) (text rest : List ℕ) (found bqual : Text) (number : ℕ) → bqual ≡ no_text → number ≡ 1
     → TakesLiteral text found rest
     → Leads (WantsGtrid verb) text (statement_of verb (xid_of found bqual number)) rest
 gtrid_said verb text rest found bqual number none one first = rw (none, one) (gtrid_leads verb text rest found first)
 
--- as `bqual_leads`, with a formatID that equals 1
+-- a bqual alone leads to the identifier with this formatID, if it is 1
 pub bqual_said : (verb : Verb) (gtrid : Text) (text rest : List ℕ) (found : Text) (number : ℕ) → number ≡ 1
     → TakesLiteral text found rest
     → Leads (WantsBqual verb gtrid) text (statement_of verb (xid_of gtrid found number)) rest
 bqual_said verb gtrid text rest found number one first = rw one (bqual_leads verb gtrid text rest found first)
 
--- a number is the formatID, as a literal or in digits
+-- where a formatID is wanted, a token that has a number, whatever literal it also has, leads on with that formatID
 format_steps : (verb : Verb) (gtrid bqual : Text) (literal : Option Text) (number : ℕ)
     → after_token (WantsFormatId verb gtrid bqual) (Value literal (Some number))
     ≡ Some (AfterXid verb (xid_of gtrid bqual number))
@@ -285,7 +286,7 @@ key_some : (verb : RowVerb) (bytes : List ℕ) → 0 < length bytes → key_stat
 key_some verb [] some = absurd (omega arith)
 key_some verb (byte ∷ bytes) some = refl
 
--- a key leads to what its verb wants next
+-- a key that isn't empty, at the front of a text, leads to what its verb wants next
 key_goes : (verb : RowVerb) (text rest : List ℕ) (key : Text) → TakesLiteral text key rest → 0 < length key.items
     → Goes (WantsKey verb) text (after_key verb key.items) rest
 unfolding after_token

@@ -1,4 +1,6 @@
 -- The canonical text of a statement: capitals, one space between tokens but none beside a comma, no ; (own rule).
+--     statement_text statement     that text; [] for an unsupported one, which has none
+--     IsKey key                    what the type of a key allows
 use Rattle.std.specs.Prelude.{ℕ, ◌<◌, ◌≤◌, true, false, List, [], ◌∷◌, ◌++◌, length, codes}
 use Rattle.hex.specs.Hex.{IsBytes}
 use Rattle.xa_xid.specs.Limits.{text_bytes}

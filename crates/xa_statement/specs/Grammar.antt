@@ -1,8 +1,8 @@
 -- The grammar of statements, one constructor for each row of the table in docs/STATEMENTS.md#grammar.
 --     XidTokens tokens xid       the tokens are an identifier
---     Row tokens statement       the tokens are a row of the table
+--     Row tokens statement       the tokens are those of a row of the table, which is this statement
 --     Says tokens statement      the same, with at most one ; after it
---     Spells text statement      the text is blanks and such tokens
+--     Spells text statement      the tokens of the text say the statement
 --     MayGoOn tokens             a statement's tokens begin with these
 --     StartWord, JoinWord        the words START and BEGIN;  JOIN and RESUME
 --     Literal, Number            a token that can be this literal;  this number
@@ -43,7 +43,7 @@ pub data XidTokens : List Token → Xid → Type 0 where
       → XidTokens (Literal name number ∷ Comma ∷ Literal branch other ∷ Comma ∷ Number literal format_id ∷ [])
       (xid_of name branch format_id)
 
--- the words that may stand in XA START: START and BEGIN mean the same
+-- the second word of XA START: START or BEGIN, which mean the same
 pub data StartWord : Keyword → Type 0 where
   is_start : StartWord START
   is_begin : StartWord BEGIN
@@ -54,7 +54,7 @@ pub data JoinWord : Keyword → Type 0 where
   is_resume : JoinWord RESUME
 
 -- the rows of the table (manual, 'XA Transaction SQL Statements'; the last four are our own): which statement the
--- tokens are; with JOIN, RESUME or SUSPEND it is unsupported, and a key isn't empty
+-- tokens are. With JOIN, RESUME or SUSPEND it is unsupported. A key isn't empty
 pub data Row : List Token → Statement → Type 0 where
   start : {word : Keyword} {parts : List Token} {xid : Xid} → StartWord word → XidTokens parts xid
       → Row (Word XA ∷ Word word ∷ parts) (Start xid)
@@ -89,7 +89,8 @@ pub data Says : List Token → Statement → Type 0 where
   ended_row : {tokens : List Token} {statement : Statement} → Row tokens statement
       → Says (tokens ++ Semicolon ∷ []) statement
 
--- the text is the tokens of the statement, and maybe one ; with blanks before, between and after them
+-- the tokens of the text, cut with blanks before, between and after them, are those of the statement, maybe with one ;
+-- behind
 abbrev pub Spells : List ℕ → Statement → Type 0
 Spells text statement = Says (bare (tokens_of text)) statement
 

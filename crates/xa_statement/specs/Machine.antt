@@ -1,7 +1,8 @@
 -- How far a statement has been read after each token: a machine whose states carry what was read.
 --     after_token state token  the state after one more token
 --     finish state           the statement, if the tokens so far are one
---     xid_word, after_word, after_comma, after_value      the same for each kind of token; behind an identifier
+--     after_word, after_comma, after_value      the state after one more token of this kind
+--     xid_word               the state after a word behind an identifier
 --     unended state          the statement before its ;
 --     statement_of           the statement of a verb and an xid
 use Rattle.std.specs.Prelude.{ℕ, true, false, Option, Some, None, List, [], ◌∷◌}
@@ -49,7 +50,7 @@ xid_word Ends xid SUSPEND = Some AfterSuspend
 xid_word Commits xid ONE = Some (AfterOne xid)
 xid_word _ _ _ = None
 
--- the state after a word of the grammar, if it may stand there
+-- the state after a word of the grammar; none if it may not come in this state
 abbrev pub after_word : State → Keyword → Option State
 after_word AtFirst XA = Some AfterXa
 after_word AtFirst GET = Some (WantsKey Gets)
@@ -73,7 +74,7 @@ after_word AfterRecover CONVERT = Some AfterConvert
 after_word AfterConvert XID = Some (Whole (Recover true))
 after_word _ _ = None
 
--- the state after a comma, if one may stand there
+-- the state after a comma; none if one may not come in this state
 abbrev pub after_comma : State → Option State
 after_comma (AfterGtrid verb gtrid) = Some (WantsBqual verb gtrid)
 after_comma (AfterBqual verb gtrid bqual) = Some (WantsFormatId verb gtrid bqual)
@@ -101,7 +102,7 @@ after_value (WantsKey verb) (Some text) _ = key_state verb text.items
 after_value (WantsValue key) (Some text) _ = Some (Whole (Put key text))
 after_value _ _ _ = None
 
--- the statement that was read, if it is whole and its ; hasn't come yet
+-- the statement that was read, if it is whole and its ; hasn't come yet; else none
 abbrev pub unended : State → Option Statement
 unended (AfterGtrid verb gtrid) = Some (statement_of verb (xid_of gtrid no_text 1))
 unended (AfterBqual verb gtrid bqual) = Some (statement_of verb (xid_of gtrid bqual 1))
@@ -111,7 +112,7 @@ unended AfterRecover = Some (Recover false)
 unended (Whole statement) = Some statement
 unended _ = None
 
--- the state after a semicolon, if a whole statement stands before it
+-- the state after a semicolon, by the statement that was whole before it; none if there was none
 abbrev pub ended : Option Statement → Option State
 ended None = None
 ended (Some statement) = Some (Ended statement)
@@ -123,7 +124,7 @@ after_token state Comma = after_comma state
 after_token state Semicolon = ended (unended state)
 after_token state (Value literal number) = after_value state literal number
 
--- the statement, if the tokens so far are one, with or without a ;
+-- the statement, if the tokens so far are a whole one (a ; may have come or not); else none
 unfoldable pub finish : State → Option Statement
 finish (Ended statement) = Some statement
 finish state = unended state

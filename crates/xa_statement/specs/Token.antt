@@ -31,7 +31,7 @@ use Rattle.xa_statement.specs.declared.token.Token.TheVariants.{Word, Comma, Sem
 unfoldable pub is_word : List ℕ → List ℕ → Bool
 is_word word run = bytes_eq (map to_ascii_lowercase run) (map to_ascii_lowercase word)
 
--- the words that begin a statement, or come after XA
+-- the word, of those that begin a statement or come after XA, that a run is; none if it is no such word
 unfoldable pub statement_word : List ℕ → Option Keyword
 statement_word run =
     if is_word (codes "XA") run then Some XA else
@@ -47,7 +47,7 @@ statement_word run =
     if is_word (codes "DEL") run then Some DEL else
     if is_word (codes "DISCONNECT") run then Some DISCONNECT else None
 
--- the words of the clauses after an xid or RECOVER
+-- the word, of those in the clauses after an xid or RECOVER, that a run is; none if it is no such word
 unfoldable pub clause_word : List ℕ → Option Keyword
 clause_word run =
     if is_word (codes "JOIN") run then Some JOIN else
@@ -84,11 +84,11 @@ abbrev pub run_token : Option Keyword → List ℕ → Token
 run_token (Some word) text = Word word
 run_token None text = Value (part_of (literal_ahead text)) (part_of (number_ahead text))
 
--- a run of word bytes in front, as a token, and what is left
+-- the run of word bytes that a text begins with, as a token, and the text after it
 abbrev pub run_at : List ℕ → Token × List ℕ
 run_at text = (run_token (keyword_of (run text)) text, after_run text)
 
--- the text begins with a literal in quotes
+-- the text begins as a literal in quotes does: with a quote, or with X or x and a '
 abbrev pub opens_quoted : List ℕ → Bool
 opens_quoted text = opens_text text || opens_hex text
 

@@ -32,15 +32,16 @@ Closes quote text rest = (text ≡ quote ∷ rest) × (heads quote rest ≡ fals
 abbrev pub Goes : State → List ℕ → State → List ℕ → Type 0
 Goes state text next rest = read_from state (tokens_of text) ≡ read_from next (tokens_of rest)
 
--- the token comes first, after blanks: from each state that takes it, reading the text is reading `rest` from the next
+-- the token is the first of the text, after blanks, and `rest` comes after it: from each state that takes the token,
+-- reading the text is reading `rest` from the next state
 abbrev pub TakesToken : Token → List ℕ → List ℕ → Type 0
 TakesToken token text rest = (state next : State) → after_token state token ≡ Some next → Goes state text next rest
 
--- a literal comes first, whatever number it may be
+-- the text begins, after blanks, with a token that is this literal, and perhaps also a number; `rest` comes after it
 abbrev pub TakesLiteral : List ℕ → Text → List ℕ → Type 0
 TakesLiteral text found rest = (number : Option ℕ) × TakesToken (Value (Some found) number) text rest
 
--- a number comes first, whatever literal it may be
+-- the text begins, after blanks, with a token that is this number, and perhaps also a literal; `rest` comes after it
 abbrev pub TakesNumber : List ℕ → ℕ → List ℕ → Type 0
 TakesNumber text number rest = (literal : Option Text) × TakesToken (Value literal (Some number)) text rest
 
@@ -49,7 +50,8 @@ abbrev pub Leads : State → List ℕ → Statement → List ℕ → Type 0
 Leads state text said rest =
     (next : State) × (Goes state text next rest × ((unended next ≡ Some said) × (finish next ≡ Some said)))
 
--- reading the text from each state of a whole statement gives that statement: it is blanks, or a ; and blanks
+-- reading the text from each state of a whole statement, whose ; may still come, gives that statement; such texts are
+-- blanks, with or without one ; among them
 abbrev pub Ends : List ℕ → Type 0
 Ends text = (state : State) (said : Statement) → unended state ≡ Some said → finish state ≡ Some said
     → read_from state (tokens_of text) ≡ Ok said

@@ -2,6 +2,7 @@
 //! left.
 //!
 //! Each returns `None` if another token, a faulty one or none comes first. Their contracts say only what `Some` means.
+//! The functions for other files skip the blanks before the token.
 ghost use Rattle.std.specs.Prelude.{◌≡◌, ◌<◌, ℕ, Option, Some, [], ◌∷◌, None, Ok, length, IfSome, IsTrue};
 ghost use Rattle.xa_xid.specs.Bytes.{front, behind};
 ghost use Rattle.xa_xid.specs.Literal.{literal_ahead, text_literal_of};
@@ -14,7 +15,8 @@ ghost use Rattle.xa_statement.specs.Ways.{TakesToken, TakesLiteral, TakesNumber,
 use crate::token::{Keyword, Token, begins_quoted, number_part, token_of, word_of_run};
 use xa_xid::{ByteClass, Bytes, skip_blanks};
 
-/// Takes a word of the grammar; returns it with the text after it.
+/// Takes a word of the grammar, after any blanks; returns it with the text after it. `None` if another token or none
+/// comes first.
 pub(crate) fn first_word(text: &[u8]) -> Option<(Keyword, &[u8])>
     ensures { IfSome result (λ found. TakesToken (Word found.0) text.now found.1.now) }
 {
@@ -60,7 +62,8 @@ fn word_run(text: &[u8]) -> Option<(Keyword, &[u8])>
     }
 }
 
-/// Takes a number; returns it with the text after it.
+/// Takes a number, after any blanks; returns it with the text after it. `None` if another token or none comes first, or
+/// if the number is above 2^64-1.
 pub(crate) fn first_number(text: &[u8]) -> Option<(u64, &[u8])>
     ensures { IfSome result (λ found. TakesNumber text.now found.0 found.1.now) }
 {
@@ -102,6 +105,7 @@ fn number_run(text: &[u8]) -> Option<(u64, &[u8])>
         (λ found. run_at text.now ≡ (Value (part_of (literal_ahead text.now)) (Some found.0), found.1.now)) }
 {
     let (run, rest) = ByteClass::Word.split(text);
+    // `number_part` reads the same run.
     match (word_of_run(run), number_part(text)) {
         (None, Some(number)) => Some((number, rest)),
         _ => None,
@@ -118,7 +122,7 @@ fn behind_byte(byte: u8, text: &[u8]) -> Option<&[u8]>
     }
 }
 
-/// Returns the text after a comma, if the next token is one.
+/// Returns the text after a comma, if the first token after any blanks is one; else `None`.
 pub(crate) fn behind_comma(text: &[u8]) -> Option<&[u8]>
     ensures { IfSome result (λ rest. TakesToken Comma text.now rest.now) }
 {
@@ -137,15 +141,15 @@ pub(crate) fn ends(text: &[u8]) -> bool
     }
 }
 
-/// Puts the literal that comes first into `bytes`, which is empty, and returns the text after it.
+/// Puts the literal that comes first, after any blanks, into `bytes`, which is empty, and returns the text after it.
 ///
-/// `None` if no right literal comes first; `bytes` then holds anything.
+/// `None` if no literal of at most 64 bytes comes first; `bytes` then holds anything.
 pub(crate) fn take_literal<'a>(bytes: &mut Bytes, text: &'a [u8]) -> Option<&'a [u8]>
     requires { bytes.now.items ≡ [] }
     ensures { IfSome result (λ rest. TakesLiteral text.now bytes.new rest.now) }
 {
     let front = skip_blanks(text);
-    // Most literals are plain. The other way reads every form, and replaces whatever is in `bytes`.
+    // Most literals are plain. For those that aren't, `take_any` reads every form, and replaces whatever is in `bytes`.
     match take_plain(bytes, front) {
         Some(rest) => Some(rest),
         None => {
@@ -155,8 +159,8 @@ pub(crate) fn take_literal<'a>(bytes: &mut Bytes, text: &'a [u8]) -> Option<&'a 
     }
 }
 
-/// Puts a literal of any form into `bytes`, and returns the text after it; `None` if the text doesn't begin
-/// with one. Blanks aren't skipped.
+/// Puts a literal of any form into `bytes`, and returns the text after it; `None` if the text doesn't begin with a
+/// literal of at most 64 bytes. Blanks aren't skipped.
 fn take_any<'a>(bytes: &mut Bytes, text: &'a [u8]) -> Option<&'a [u8]>
     ensures some { IfSome result (λ rest. 0 < length text.now) }
     ensures token { IfSome result (λ rest. (number : Option ℕ)
@@ -195,7 +199,7 @@ fn take_plain<'a>(bytes: &mut Bytes, text: &'a [u8]) -> Option<&'a [u8]>
     }
 }
 
-/// Puts a literal in quotes into `bytes`, from the text behind its opening quote, and returns the text after it.
+/// Puts a literal in quotes into `bytes`, from the text after its opening quote, and returns the text after it.
 /// `None` if the literal has an escape or two quotes for one, isn't closed, or has more than 64 bytes.
 fn take_quoted<'a>(quote: u8, bytes: &mut Bytes, body: &'a [u8]) -> Option<&'a [u8]>
     requires { bytes.now.items ≡ [] }
@@ -209,14 +213,16 @@ fn take_quoted<'a>(quote: u8, bytes: &mut Bytes, body: &'a [u8]) -> Option<&'a [
     }
 }
 
-/// Returns whether the byte stands for itself between these quotes: it is neither the quote nor a backslash.
+/// Returns whether the byte stands for itself in a literal between two such quotes: it is neither `quote` nor a
+/// backslash.
 fn is_plain(quote: u8, byte: u8) -> bool
     ensures { result ≡ plain_in quote byte }
 {
     byte != quote && byte != b'\\'
 }
 
-/// Cuts a text behind the bytes at its beginning that stand for themselves between these quotes.
+/// Cuts `body`, which comes after an opening `quote`, in two: the longest beginning of bytes that each stand for
+/// themselves, and the rest.
 fn split_plain(quote: u8, body: &[u8]) -> (&[u8], &[u8])
     ensures front { result.0.now ≡ front (plain_in quote) body.now }
     ensures behind { result.1.now ≡ behind (plain_in quote) body.now }

@@ -37,6 +37,7 @@ pub fn canonical_text_is_spelled(statement: &Statement)
     // Proved (statements, canonical-text)
     ensures { Spells (statement_text statement.now) statement.now }
 {
+    // Each arm brings in what the types of the statement's parts promise: bytes, of no more than the greatest length.
     match statement {
         Statement::Start(xid) => is_writable(xid),
         Statement::End(xid) => is_writable(xid),

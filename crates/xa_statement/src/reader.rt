@@ -13,7 +13,7 @@ use xa_xid::{Statement, skip_blanks};
 
 /// Reads the statement that the whole text spells.
 ///
-/// Error: `SyntaxFault`, only if the text spells no statement. Its place is the first token with which no
+/// Error: `SyntaxFault`, only if the text spells no statement. Its place is where the first token begins with which no
 /// statement can go on, or the text's length if the text ends too soon. Takes no memory. Doesn't wait.
 /// Source: MySQL 8.0 Reference Manual, 'XA Transaction SQL Statements'.
 /// The row statements and the places are our own rule: docs/STATEMENTS.md#grammar,

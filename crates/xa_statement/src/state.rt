@@ -75,6 +75,7 @@ impl State {
         match token {
             Token::Word(word) => self.after_word(word),
             Token::Comma => self.after_comma(),
+            // A `;` comes only after a whole statement, and only once.
             Token::Semicolon => match self.unended() {
                 Some(statement) => Some(State::Ended(statement)),
                 None => None,
@@ -98,6 +99,7 @@ impl State {
                 Keyword::For => Some(State::AfterFor),
                 _ => None,
             },
+            // `XA END xid SUSPEND FOR MIGRATE` is recognised but not supported.
             State::AfterFor => match word {
                 Keyword::Migrate => Some(State::Whole(Statement::Unsupported)),
                 _ => None,
@@ -163,6 +165,7 @@ impl State {
                 Some(statement_of(verb, xid_of(gtrid, bqual, 1)))
             }
             State::AfterXid(verb, xid) => Some(statement_of(verb, xid)),
+            // `FOR MIGRATE` may follow, but needn't. With or without it the statement isn't supported.
             State::AfterSuspend => Some(Statement::Unsupported),
             State::AfterRecover => Some(Statement::Recover { convert: false }),
             State::Whole(statement) => Some(statement),
@@ -170,7 +173,7 @@ impl State {
         }
     }
 
-    /// Returns the statement, if the tokens so far are one, with or without a `;`.
+    /// Returns the statement, if the tokens so far are one, with or without a `;`; else `None`.
     #[tactic(auto, unfolding(crate::specs::Machine::finish))]
     pub fn finish(self) -> Option<Statement>
         ensures { result ≡ finish self }
@@ -216,6 +219,7 @@ fn xid_word(verb: Verb, xid: Xid, word: Keyword) -> Option<State>
     ensures { result ≡ xid_word verb xid word }
 {
     match (verb, word) {
+        // `JOIN`, `RESUME` and `SUSPEND` are recognised but not supported. What comes after `SUSPEND` is still read.
         (Verb::Starts, Keyword::Join | Keyword::Resume) => {
             Some(State::Whole(Statement::Unsupported))
         }
@@ -225,7 +229,7 @@ fn xid_word(verb: Verb, xid: Xid, word: Keyword) -> Option<State>
     }
 }
 
-/// Returns the state after the key: only `PUT` goes on.
+/// Returns the state after the key of a statement with this verb: only `PUT` goes on.
 fn after_key(verb: RowVerb, key: Key) -> State
     ensures { result ≡ after_key verb key }
 {

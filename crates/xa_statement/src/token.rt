@@ -88,7 +88,8 @@ pub(crate) fn begins_quoted(text: &[u8]) -> bool
     }
 }
 
-/// Cuts off a literal in quotes. A faulty one takes the rest of the text, and has no value.
+/// Cuts off the literal in quotes that the text begins with; returns its token with the text after it. A faulty one
+/// takes the rest of the text, and has no value.
 fn quoted_token(text: &[u8]) -> (Token, &[u8])
     ensures { (result.0, result.1.now) ≡ quoted_piece (literal_ahead text.now) }
 {
@@ -98,18 +99,21 @@ fn quoted_token(text: &[u8]) -> (Token, &[u8])
     }
 }
 
-/// Cuts off a run of word bytes: a word of the grammar, or else its values as a literal and as a number.
+/// Cuts off the run of word bytes that the text begins with; returns its token with the text after it. The token is a
+/// word of the grammar, or else the run's values as a literal and as a number.
 fn run_token(text: &[u8]) -> (Token, &[u8])
     ensures { (result.0, result.1.now) ≡ run_at text.now }
 {
     let (run, rest) = ByteClass::Word.split(text);
     match word_of_run(run) {
         Some(word) => (Token::Word(word), rest),
+        // Both read the same run: callers give no text that begins as a literal in quotes does.
         None => (Token::Value(literal_part(text), number_part(text)), rest),
     }
 }
 
-/// Returns the bytes of the literal that the text begins with; None if it begins with none or with a faulty one.
+/// Returns the bytes of the literal that the text begins with; None if it begins with none, or with one that is faulty
+/// or has more than 64 bytes.
 fn literal_part(text: &[u8]) -> Option<Bytes>
     ensures { result ≡ part_of (literal_ahead text.now) }
 {
@@ -140,8 +144,8 @@ pub(crate) fn word_of_run(run: &[u8]) -> Option<Keyword>
     }
 }
 
-/// Returns the word of the grammar that a run is, of those that begin a statement or follow `XA`; None if it is none of
-/// these.
+/// Returns the word that a run is, without regard to case, if that word can begin a statement or follow `XA`; else
+/// `None`.
 #[tactic(auto, unfolding(crate::specs::Token::statement_word))]
 fn first_word(run: &[u8]) -> Option<Keyword>
     ensures { result ≡ statement_word run.now }
@@ -175,8 +179,8 @@ fn first_word(run: &[u8]) -> Option<Keyword>
     }
 }
 
-/// Returns the word of the grammar that a run is, of those of the clauses after an xid or `RECOVER`; None if it is none
-/// of these.
+/// Returns the word that a run is, without regard to case, if that word is one of a clause after an xid or `RECOVER`;
+/// else `None`.
 #[tactic(auto, unfolding(crate::specs::Token::clause_word))]
 fn later_word(run: &[u8]) -> Option<Keyword>
     ensures { result ≡ clause_word run.now }

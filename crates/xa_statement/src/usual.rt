@@ -1,7 +1,7 @@
 //! The usual statements, each read in one go: statements that consist of a verb and an xid, and statements
 //! of rows.
 //!
-//! The machine of states reads every other text, so this way never returns a fault itself.
+//! The machine of states reads every other text, so only that returns faults.
 ghost use Rattle.std.specs.Prelude.{◌≡◌, ◌<◌, Some, [], length, IfSome};
 ghost use Rattle.xa_xid.specs.XidText.{xid_of, no_text};
 ghost use Rattle.xa_xid.specs.declared.statement.Statement.TheVariants.{Put};
@@ -69,6 +69,7 @@ fn read_branch(verb: Verb, text: &[u8], rest: &[u8]) -> Result<Statement, Syntax
     requires { Goes AtFirst text.now (WantsGtrid verb) rest.now }
     ensures { result ≡ seen_of (read_of text.now) }
 {
+    // If the text doesn't give them, the bqual is empty and the formatID 1.
     let mut xid = Xid {
         format_id: 1,
         gtrid: Bytes::new(),
@@ -80,8 +81,8 @@ fn read_branch(verb: Verb, text: &[u8], rest: &[u8]) -> Result<Statement, Syntax
     }
 }
 
-/// Reads an xid into `xid`, and returns the text after it; `None` if no whole one comes first. Parts that the
-/// text doesn't give stay as they are: an empty bqual and the formatID 1.
+/// Reads an xid into `xid`, and returns the text after it; `None` if no whole xid comes first, and `xid` then holds
+/// anything. Parts that the text doesn't give stay as they are: an empty bqual and the formatID 1.
 fn take_xid<'a>(xid: &mut Xid, text: &'a [u8]) -> Option<&'a [u8]>
     requires { xid.now ≡ xid_of no_text no_text 1 }
     ensures { IfSome result (λ rest. (verb : Verb) → Leads (WantsGtrid verb) text.now
@@ -98,7 +99,7 @@ fn take_xid<'a>(xid: &mut Xid, text: &'a [u8]) -> Option<&'a [u8]>
 }
 
 /// Reads a bqual and, if a comma follows, a formatID into an xid that has its gtrid. Returns the text after
-/// them; `None` if one of them is missing.
+/// them; `None` if the bqual is missing or faulty, or the formatID after the comma is.
 fn take_bqual<'a>(xid: &mut Xid, text: &'a [u8]) -> Option<&'a [u8]>
     requires { xid.now ≡ xid_of xid.now.gtrid no_text 1 }
     ensures { IfSome result (λ rest. (verb : Verb) → Leads (WantsBqual verb xid.old.gtrid) text.now
@@ -114,7 +115,7 @@ fn take_bqual<'a>(xid: &mut Xid, text: &'a [u8]) -> Option<&'a [u8]>
     }
 }
 
-/// Reads a formatID into an xid, and returns the text after it; `None` if no number comes first.
+/// Reads a formatID into an xid, and returns the text after it; `None` if no number below 2^64 comes first.
 fn take_format_id<'a>(xid: &mut Xid, text: &'a [u8]) -> Option<&'a [u8]>
     ensures { IfSome result (λ rest. (verb : Verb) → Leads (WantsFormatId verb xid.old.gtrid xid.old.bqual) text.now
         (statement_of verb xid.new) rest.now) }
@@ -134,7 +135,7 @@ fn read_get(text: &[u8], rest: &[u8]) -> Result<Statement, SyntaxFault>
     match take_literal(&mut bytes, rest) {
         Some(end) if ends(end) => match Key::of(bytes) {
             Some(key) => Ok(Statement::Get(key)),
-            // No key is empty: the other way finds the place of the fault.
+            // No key is empty: `read_tokens` finds the place of the fault.
             None => read_tokens(text),
         },
         _ => read_tokens(text),
@@ -151,7 +152,7 @@ fn read_del(text: &[u8], rest: &[u8]) -> Result<Statement, SyntaxFault>
     match take_literal(&mut bytes, rest) {
         Some(end) if ends(end) => match Key::of(bytes) {
             Some(key) => Ok(Statement::Del(key)),
-            // No key is empty: the other way finds the place of the fault.
+            // No key is empty: `read_tokens` finds the place of the fault.
             None => read_tokens(text),
         },
         _ => read_tokens(text),
@@ -169,15 +170,15 @@ fn read_put(text: &[u8], rest: &[u8]) -> Result<Statement, SyntaxFault>
     match take_row(&mut bytes, &mut value, rest) {
         Some(end) if ends(end) => match Key::of(bytes) {
             Some(key) => Ok(Statement::Put(key, value)),
-            // No key is empty: the other way finds the place of the fault.
+            // No key is empty: `read_tokens` finds the place of the fault.
             None => read_tokens(text),
         },
         _ => read_tokens(text),
     }
 }
 
-/// Reads a key, a comma and a value into two empty texts, and returns the text after them; `None` if one of the
-/// three is missing.
+/// Reads a key into `key`, a comma, and a value into `value`, and returns the text after the value; `None` if one of
+/// the three is missing or faulty. An empty key is left to the caller.
 fn take_row<'a>(key: &mut Bytes, value: &mut Bytes, text: &'a [u8]) -> Option<&'a [u8]>
     requires key { key.now.items ≡ [] }
     requires value { value.now.items ≡ [] }

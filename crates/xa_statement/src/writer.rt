@@ -51,7 +51,7 @@ pub fn write_statement(alloc: Global, statement: &Statement) -> Result<Vec<u8>, 
     }
 }
 
-/// Appends words, an xid and words to a text.
+/// Appends the words `before`, the canonical text of an xid, and the words `after` to a text.
 fn xid_statement(text: Vec<u8>, before: &[u8], xid: &Xid, after: &[u8]) -> Result<Vec<u8>, NoMemory>
     ensures { IfOk result (λ longer.
         longer.items ≡ text.items ++ (before.now ++ (xid_text xid.now ++ after.now))) }
@@ -59,7 +59,7 @@ fn xid_statement(text: Vec<u8>, before: &[u8], xid: &Xid, after: &[u8]) -> Resul
     with_text(with_xid(with_text(text, before)?, xid)?, after)
 }
 
-/// Appends words and a key to a text.
+/// Appends the words `before` and the canonical text of a key to a text.
 fn key_statement(text: Vec<u8>, before: &[u8], key: &Key) -> Result<Vec<u8>, NoMemory>
     ensures { IfOk result (λ longer. longer.items ≡ text.items ++ (before.now ++ part_text key.now)) }
 {

@@ -1,4 +1,5 @@
--- Answers in order: one more of them, and in a longer history.
+-- Answers in order: one more of them, and in a longer history; a session on its way through its statements, and a
+-- run that stops.
 use Rattle.std.proofs.Common.{◌≡◌, ◌⊎◌, ℕ, Bool, true, false, cond, ◌+◌, ◌<◌, ◌≤◌, List, [], ◌∷◌, ◌++◌, length, take}
 use Rattle.std.proofs.Common.{refl, ap, sym, ◌∙◌, subst, inl, inr}
 use Rattle.std.proofs.Common.{⊎_elim, Some, arith, length-append, append-nil}
@@ -67,7 +68,7 @@ module _ (base : State) (history : List Entry) (session : ℕ) where
   reached_more from (s ∷ statements) (a ∷ answers) statement answer before =
       reached_more (next_place base history session s a) statements answers statement answer before.2
 
-  -- what one statement adds, where it enters
+  -- the entry of a statement, if it is logged at its answer's place; else nothing
   added : Statement → Answer → List Entry
   added statement answer =
       cond (enters (state_at base history answer.place) session statement) (entry_of session statement ∷ []) []
@@ -279,7 +280,8 @@ legal_longer base history old new statements answers number part taken legal = r
       (length old.seen) statements answers legal.answered));
 }
 
--- the gate can have let the session in at one statement more
+-- if the gate can have let the session in at its first `count` statements, and at the next one, it can have at one
+-- more
 pub lets_in_more : (gate : ℕ → ℕ → Bool → Type 0) (session count : ℕ) → LetsIn gate session count
     → gate session count true → LetsIn gate session (count + 1)
 lets_in_more gate session count before here = below_more (λ line. gate session line true) count before here

@@ -1,4 +1,4 @@
--- What a race gives is legal.
+-- What a race gives is legal, and a run is to blame for the fault with which it stops.
 use Rattle.std.proofs.Common.{◌≡◌, ℕ, Bool, List, ap, sym, ◌∙◌, Some}
 use Rattle.std.specs.Prelude.{slice_get}
 use Rattle.xa_xid.specs.declared.statement.Statement.{Statement}

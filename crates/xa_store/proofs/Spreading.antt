@@ -17,7 +17,8 @@ pub when_err : {T E : Type 0} (r : Result T E) (P : E → Type 0) (x : E) → If
 when_err (Ok y) P x is same = absurd (cc)
 when_err (Err e) P x is same = let here : e ≡ x = cc in subst P here is
 
--- lists related place by place, of which the second changes into a third: the first is related to the third
+-- if a first list is related to a second place by place, and the second to a third, the first is related to the
+-- third, as each place's elements are
 pub zip_chain : {A B C : Type 0} (Z : A → B → Type 0) (R : B → C → Type 0) (Q : A → C → Type 0)
     → ((a : A) (b : B) (c : C) → Z a b → R b c → Q a c)
     → (xs : List A) (ys : List B) (zs : List C) → AllZip Z xs ys → AllZip R ys zs → AllZip Q xs zs
@@ -61,7 +62,7 @@ zip_all K P Q keep [] (b ∷ ys) zip is = absurd zip
 zip_all K P Q keep (a ∷ xs) [] zip is = absurd zip
 zip_all K P Q keep (a ∷ xs) (b ∷ ys) zip is = (keep a b zip.0 is.0, zip_all K P Q keep xs ys zip.1 is.1)
 
--- lists of which the first is mapped, related place by place: the elements themselves are related
+-- if a mapped list is related to another place by place, the elements themselves are, through their images
 pub zip_unmapped : {A B C : Type 0} (K : B → C → Type 0) (f : A → B) (xs : List A) (ys : List C)
     → AllZip K (map f xs) ys → AllZip (λ x y. K (f x) y) xs ys
 zip_unmapped K f [] [] zip = tt
@@ -81,7 +82,8 @@ zip_mapped K Q f keep [] (b ∷ ys) zip = absurd zip
 zip_mapped K Q f keep (a ∷ xs) [] zip = absurd zip
 zip_mapped K Q f keep (a ∷ xs) (b ∷ ys) zip = (keep a b zip.0, zip_mapped K Q f keep xs ys zip.1)
 
--- lists related place by place: at the place of an element of the second there is one of the first, related to it
+-- if two lists are related place by place, then at the place of an element of the second there is one of the first,
+-- related to it
 pub zip_get : {A B : Type 0} (K : A → B → Type 0) (xs : List A) (ys : List B) (place : ℕ) (y : B) → AllZip K xs ys
     → slice_get ys place ≡ Some y
     → (x : A) × (slice_get xs place ≡ Some x) × K x y
@@ -101,7 +103,7 @@ map_twice f g (x ∷ xs) = ap (λ rest. g (f x) ∷ rest) (map_twice f g xs)
 
 -- places of a longer list
 
--- what stands in the first of two lists stands in both
+-- what stands at a place of a list stands there also with another list behind it
 pub get_front : {A : Type 0} (xs ys : List A) (place : ℕ) (x : A) → slice_get xs place ≡ Some x
     → slice_get (xs ++ ys) place ≡ Some x
 get_front [] ys place x is = absurd (never x is)

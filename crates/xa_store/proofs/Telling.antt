@@ -28,7 +28,8 @@ front_or_end [] x (suc place) other is = absurd (never other is)
 front_or_end (a ∷ xs) x zero other is = inl is
 front_or_end (a ∷ xs) x (suc place) other is = front_or_end xs x place other is
 
--- lists related place by place: at the place of an element of the first there is one of the second, related to it
+-- if two lists are related place by place, then at the place of an element of the first there is one of the second,
+-- related to it
 pub zip_at : {A B : Type 0} (K : A → B → Type 0) (xs : List A) (ys : List B) (place : ℕ) (x : A) → AllZip K xs ys
     → slice_get xs place ≡ Some x
     → (y : B) × (slice_get ys place ≡ Some y) × K x y

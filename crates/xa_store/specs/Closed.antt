@@ -15,7 +15,8 @@ pub record HasLeft (history : List Entry) (old new : Pass) : Type 0 where
   pub adds_nothing : AddsNothing (known_of old) (known_of new)
   pub taken_in : IsTakenIn history (known_of new)
 
--- the history is what the last pass has seen, and the passes are as a renewal takes them
+-- the history is what the last new pass has seen, each old pass and its new one are as `HasLeft` says, and, if there
+-- are any, the new ones are as a renewal takes them
 pub record HasClosed (identity : LogIdentity) (old : List Pass) (history : List Entry) (new : List Pass) : Type 0 where
   pub left : AllZip (HasLeft history) old new
   pub last : history ≡ (last_known (map known_of new)).seen

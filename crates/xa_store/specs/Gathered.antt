@@ -8,7 +8,8 @@ use Rattle.decision_log.specs.declared.known.Known.{Known}
 use Rattle.decision_log.specs.Known.{newcomer}
 use Rattle.decision_log.specs.History.{Begins, entries_of}
 
--- the history begins with all that was seen, and its entries of the session's number are the session's own
+-- the history begins with all that the session has seen, and its entries of the session's number are just those that
+-- the session knows as its own
 pub record IsTakenIn (history : List Entry) (known : Known) : Type 0 where
   pub seen : Begins known.seen history
   pub mine : entries_of known.number history ≡ known.mine
@@ -21,7 +22,7 @@ pub record AddsNothing (old new : Known) : Type 0 where
   pub looks : old.looks ≤ new.looks
   pub tries : new.tries ≡ old.tries
 
--- what the last session of the list knows; nothing if the list is empty
+-- what the last session of the list knows; of an empty list, what a session of number 0 knows that has seen nothing
 abbrev pub last_known : List Known → Known
 last_known [] = newcomer 0
 last_known (known ∷ []) = known

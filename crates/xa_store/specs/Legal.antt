@@ -10,9 +10,9 @@
 --     IsTurnedAway    the gate can stop a session at a line, and the session does nothing
 --     Halts           why a session's statement isn't answered
 --     fault_at        the fault of a race for a session's fault
---     IsLetIn         a session's statement is answered
+--     IsLetIn         the gate can have let a session go on, and its statement is answered
 --     EndsOne         the statement is answered, or the run stops at it
---     IsReachedInRun  the statements before a line were answered
+--     IsReachedInRun  the statements of a run before a line were answered
 --     GoesNoFurther   a run has done nothing after the statement at which it stops
 --     IsShutAt        the gate can stop a run at a statement
 --     IsFullAt        a run's statement has no room in the history
@@ -47,8 +47,8 @@ module _ (base : State) (history : List Entry) (session : ℕ) where
   next_place statement answer =
       cond (enters (state_at base history answer.place) session statement) (answer.place + 1) answer.place
 
-  -- one answer for each statement, in order; no place is before an earlier one, nor before what earlier
-  -- statements have added
+  -- one answer for each statement, in order, each as `AnswersAt` says; the first answer's place is `from` or later, and
+  -- each later one's isn't before the `next_place` after the answer before it
   abbrev pub Answered : ℕ → List Statement → List Answer → Type 0
   Answered from [] [] = Unit {0}
   Answered from [] (answer ∷ answers) = ⊥
@@ -84,7 +84,8 @@ pub record IsReturned (history : List Entry) (run : Run) (pass : Pass) : Type 0 
   pub number : (known_of pass).number ≡ (known_of run.pass).number
   pub taken_in : IsTakenIn history (known_of pass)
 
--- the history is what the last pass has seen, and explains all answers
+-- the history is what the last pass has seen, and explains all answers; each run's pass is returned as `IsReturned`
+-- says
 pub record IsOutcome (base : State) (runs : List Run) (outcome : Outcome) : Type 0 where
   pub legal : Legal base outcome.history.items runs (map (λ answers. answers.items) outcome.answers.items)
   pub passes : AllZip (IsReturned outcome.history.items) runs outcome.passes.items
@@ -94,13 +95,14 @@ pub record IsOutcome (base : State) (runs : List Run) (outcome : Outcome) : Type
 abbrev pub LetsIn : (ℕ → ℕ → Bool → Type 0) → ℕ → ℕ → Type 0
 LetsIn gate session count = (line : ℕ) → line < count → gate session line true
 
--- the gate can stop the session at this line, and the session has done nothing for it
+-- the gate can stop the session at this line, and the session knows what it knew
 pub record IsTurnedAway (gate : ℕ → ℕ → Bool → Type 0) (session line : ℕ) (old new : Known) : Type 0 where
   pub shut : gate session line false
   pub same : new ≡ old
 
--- why the statement at this place of its run isn't answered: GateShut and Full name the session and the place, and the
--- gate stopped the run, or the history is full; NoMemory says nothing; ThreadRefused doesn't come
+-- why the statement at this place of its run isn't answered: GateShut and Full name the session and the place; at
+-- GateShut the gate can have stopped the run there, at Full no room is left for the statement; NoMemory says nothing;
+-- ThreadRefused doesn't come
 abbrev pub Halts : (ℕ → ℕ → Bool → Type 0) → State → ℕ → Statement → ℕ → RaceFault → Known → Known → Type 0
 Halts gate base capacity statement place (GateShut session line) old new =
     (session ≡ old.number) × (line ≡ place) × IsTurnedAway gate session line old new
@@ -109,8 +111,8 @@ Halts gate base capacity statement place (Full session line) old new =
 Halts gate base capacity statement place NoMemory old new = Unit {0}
 Halts gate base capacity statement place ThreadRefused old new = ⊥
 
--- a full history is returned with the statement that has no room, every other fault as NoMemory (`execute` of a session
--- returns only these two)
+-- Full is returned with the session and the statement that has no room, every other fault as NoMemory (`execute` of a
+-- session returns only these two)
 abbrev pub fault_at : ℕ → ℕ → Fault → RaceFault
 fault_at session line (Overtaken front) = NoMemory
 fault_at session line NoRoom = Full session line
@@ -129,7 +131,8 @@ abbrev pub EndsOne : (ℕ → ℕ → Bool → Type 0) → State → ℕ → Sta
 EndsOne gate base capacity statement place (Ok answer) old new = IsLetIn gate base statement place answer old new
 EndsOne gate base capacity statement place (Err fault) old new = Halts gate base capacity statement place fault old new
 
--- the run is this session's, and its statements before this line were answered as the history explains
+-- the run is this session's and has a statement on this line, and the history explains answers to its statements before
+-- that one
 pub record IsReachedInRun (base : State) (history : List Entry) (before : Known) (statements : List Statement)
     (session line : ℕ) : Type 0 where
   pub number : session ≡ before.number
@@ -147,15 +150,15 @@ GoesNoFurther base before statements (Full session line) after =
 GoesNoFurther base before statements NoMemory after = Unit {0}
 GoesNoFurther base before statements ThreadRefused after = ⊥
 
--- after the statements before this one were answered, the gate can stop the run
+-- after the run's statements before this line were answered, the gate can stop the run there
 pub record IsShutAt (gate : ℕ → ℕ → Bool → Type 0) (base : State) (before : Known) (statements : List Statement)
     (session line : ℕ) : Type 0 where
   pub history : List Entry
   pub reached : IsReachedInRun base history before statements session line
   pub shut : gate session line false
 
--- after the statements before this one were answered, it is to be logged in a history that is as long as the
--- log can be
+-- after the run's statements before this line were answered, the one on it is to be logged, in a history that is as
+-- long as the log can be
 pub record IsFullAt (base : State) (capacity : ℕ) (before : Known) (statements : List Statement)
     (session line : ℕ) : Type 0 where
   pub history : List Entry

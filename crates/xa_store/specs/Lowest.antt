@@ -9,7 +9,7 @@
 --     IsTold          the fault is as IsOfLowest or as IsOfNone says
 --     IsRunThrough    a run was answered to its end
 --     AreRunThrough   the runs of all lower sessions were answered to their ends
---     TellsLowest     the fault that a race returns is that of the lowest session
+--     TellsLowest     the fault that a race returns is that of the lowest session that has one
 use Rattle.std.specs.Prelude.{◌≡◌, ◌<◌, ◌≤◌, ◌==◌, ◌⊎◌, ℕ, Bool, not, List, length, slice_get, Some, Result, Ok, Err}
 use Rattle.std.specs.Prelude.{vec_len}
 use Rattle.xa_server.specs.State.{State}
@@ -26,7 +26,7 @@ use Rattle.xa_store.specs.declared.run.Run.{Run}
 abbrev pub speaks : Run → Bool
 speaks run = not (vec_len run.lines == 0)
 
--- the fault is this session's own
+-- the fault that is told is this one, of the session of this number
 pub record IsOwn (number : ℕ) (fault : RaceFault) (told : FirstFault) : Type 0 where
   pub session : told.session ≡ number
   pub same : told.fault ≡ fault
@@ -42,14 +42,16 @@ pub record IsLower (other : FirstFault) (number : ℕ) (fault : RaceFault) (told
   pub below_other : told.session ≤ other.session
   pub below_own : told.session ≤ number
 
--- a task of this number ends after the others; memory can run out only if none of them has a fault
+-- the fault that is told when one more task, of this number, has ended after the others: that of the lowest session
+-- that has one; if no task has one, NoMemory of outside the tasks. The others had told `other`, or no fault
 abbrev pub Joins : {A B : Type 0} → Result A FirstFault → ℕ → Result B RaceFault → FirstFault → Type 0
 Joins (Ok all) number (Ok gain) told = IsOutside told
 Joins (Ok all) number (Err fault) told = IsOwn number fault told
 Joins (Err other) number (Ok gain) told = told ≡ other
 Joins (Err other) number (Err fault) told = IsLower other number fault told
 
--- the task stops, or has no thread, and the tasks of all lower sessions have done their part
+-- the task of the told session stops with the told fault, or it got no thread; and the tasks of all lower sessions have
+-- done their part
 pub record IsOfLowest {Task Gain : Type 0} (number : Task → ℕ) (gains : Task → Gain → Type 0)
     (stops : Task → RaceFault → Type 0) (tasks : List Task)
     (told : FirstFault) : Type 0 where
@@ -61,13 +63,13 @@ pub record IsOfLowest {Task Gain : Type 0} (number : Task → ℕ) (gains : Task
   pub lower : (place : ℕ) (other : Task) → slice_get tasks place ≡ Some other → number other < told.session
       → (gain : Gain) × gains other gain
 
--- memory ran out, and all tasks have done their part
+-- memory ran out outside the tasks, and all tasks have done their part
 pub record IsOfNone {Task Gain : Type 0} (gains : Task → Gain → Type 0) (tasks : List Task)
     (told : FirstFault) : Type 0 where
   pub outside : IsOutside told
   pub all : (place : ℕ) (other : Task) → slice_get tasks place ≡ Some other → (gain : Gain) × gains other gain
 
--- the fault is that of the lowest session; want of memory outside of the tasks is returned only if none has a
+-- the fault is that of the lowest session that has one; want of memory outside the tasks is told only if none has a
 -- fault
 abbrev pub IsTold : {Task Gain : Type 0} → (Task → ℕ) → (Task → Gain → Type 0) → (Task → RaceFault → Type 0) → List Task
     → FirstFault → Type 0
@@ -79,7 +81,7 @@ pub record IsRunThrough (gate : ℕ → ℕ → Bool → Type 0) (base : State) 
   pub answers : List Answer
   pub answered : HasAnswered gate base (known_of run.pass) known run.lines.items answers
 
--- all statements of the runs of lower sessions were answered
+-- all statements of the runs of sessions below this number were answered
 abbrev pub AreRunThrough : (ℕ → ℕ → Bool → Type 0) → State → List Run → ℕ → Type 0
 AreRunThrough gate base runs session =
     (place : ℕ) (run : Run) → slice_get runs place ≡ Some run → (known_of run.pass).number < session

@@ -13,12 +13,13 @@ use Rattle.decision_log.specs.Known.{LogIdentity}
 use Rattle.xa_store.specs.Passes.{Pass, log_of, known_of}
 use Rattle.xa_store.specs.Gathered.{IsTakenIn, last_known}
 
--- the state after sessions 1 to the last have disconnected, in order
+-- the state after sessions 1 to this number have disconnected, in order
 abbrev pub disconnected : ℕ → State → State
 disconnected zero state = state
 disconnected (suc sessions) state = after (disconnected sessions state) (suc sessions) Disconnect
 
--- the old base after the history, and then after each session's end: PREPARED branches stay, all others are rolled back
+-- the old base after the history, and then after sessions 1 to this number have disconnected: PREPARED branches stay,
+-- all others are rolled back
 abbrev pub renewed : State → List Entry → ℕ → State
 renewed base history sessions = disconnected sessions (state_after base history)
 

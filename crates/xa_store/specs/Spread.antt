@@ -36,6 +36,6 @@ pub record HasStopped {Run : Type 0} (stops : Run → RaceFault → Type 0) (run
   pub found : slice_get runs index ≡ Some run
   pub cause : stops run fault
 
--- there is no memory or no thread, or else one of the runs stops
+-- the fault is NoMemory or ThreadRefused, or one of the runs stops with it
 abbrev pub StopsSome : {Run : Type 0} → (Run → RaceFault → Type 0) → List Run → RaceFault → Type 0
 StopsSome stops runs fault = (fault ≡ NoMemory) ⊎ (fault ≡ ThreadRefused) ⊎ HasStopped stops runs fault

@@ -11,13 +11,13 @@ use std::sync::Wait;
 use xa_session::{Answer, Fault, Session};
 use xa_xid::{SessionNo, Statement};
 
-/// The fault of a run at a statement that its session couldn't execute.
+/// The fault of a run whose session couldn't execute its statement at `line`, counted from 0 in the run.
 fn unanswered(session: SessionNo, line: u64, fault: Fault) -> RaceFault
     ensures { result ≡ fault_at session line fault }
 {
     match fault {
         Fault::Full => RaceFault::Full { session, line },
-        // `execute` returns no other fault than `NoMemory`.
+        // Besides `Full`, `execute` returns only `NoMemory`.
         _ => RaceFault::NoMemory,
     }
 }

@@ -1,4 +1,4 @@
-//! How the sessions of a race end: they synchronise, and return their passes.
+//! How the sessions of a race end: they meet the last one, and return their passes.
 ghost use Rattle.std.specs.Prelude.{◌≡◌, map, IfOk};
 ghost use Rattle.std.specs.List.{All};
 ghost use Rattle.xa_store.specs.Closed.{HasClosed};
@@ -23,7 +23,7 @@ pub(crate) struct Closed<D> {
     pub(crate) done: Vec<D>,
 }
 
-/// Splits what the threads returned into the sessions and their answers, each in the order given.
+/// Splits what the threads returned into the sessions and what each was answered, both in the order given.
 fn part<'a, D: Drop>(
     alloc: Global,
     mut returned: Vec<Returned<'a, Log, D>>,
@@ -40,8 +40,8 @@ fn part<'a, D: Drop>(
     and_both(others, session, done)
 }
 
-/// Has the sessions synchronise and return their passes, after the threads of a race have ended. The history is
-/// what the last of them has seen then. After `NoMemory` the sessions are dropped.
+/// Has the sessions meet the last one and return their passes, after the threads of a race have ended. The history is
+/// what the last one has seen then. After `NoMemory` the sessions are dropped.
 pub(crate) fn close_all<D: Drop>(
     alloc: Global,
     store: &Store,
@@ -60,6 +60,7 @@ pub(crate) fn close_all<D: Drop>(
             passes,
             done,
         }),
+        // Without memory the sessions come back, and are dropped here.
         Err((_, error)) => Err(error),
     }
 }

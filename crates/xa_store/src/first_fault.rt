@@ -7,14 +7,14 @@ use crate::RaceFault;
 /// A fault, and the session whose run had it. Of several faults that of the lowest session is returned.
 #[derive(Clone, Copy, Drop)]
 pub struct FirstFault {
-    /// The session's number. It is above all numbers if no run had the fault.
+    /// The session's number. It is above the numbers of all sessions if no run had the fault.
     session: u64,
     /// The fault.
     pub fault: RaceFault,
 }
 
 impl FirstFault {
-    /// The fault of the run of the session with this number.
+    /// A fault of the run of the session with this number.
     pub(crate) fn of(session: u64, fault: RaceFault) -> FirstFault
         ensures fault { result.fault ≡ fault }
         ensures session { result.session ≡ session }

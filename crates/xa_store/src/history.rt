@@ -12,7 +12,7 @@ use xa_words::Entry;
 use xa_xid::NoMemory;
 
 impl Store {
-    /// Returns the history that the last of these sessions has seen, after it looked and met all others.
+    /// Returns the history that the last of these sessions has seen, after it looked and all others met it.
     ///
     /// It begins with what each session has seen, and its entries of a session's number are that session's
     /// own. It is empty if no session is given. Errors: `NoMemory`, if an allocation fails.
@@ -47,7 +47,7 @@ impl Store {
         if sessions.is_empty() {
             return Ok(Vec::new(alloc));
         }
-        // The last one is taken out to meet the others, and put back into its place.
+        // The last one is taken out to meet the others, and put back into its place, also if there is no memory.
         let mut last = sessions.take_last();
         meet_all(sessions, &mut last);
         let history = copy_seen(alloc, &mut last);

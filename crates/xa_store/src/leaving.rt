@@ -11,7 +11,8 @@ use xa_session::Session;
 use xa_words::Entry;
 use xa_xid::NoMemory;
 
-/// The passes of all sessions, in their order. Without memory the sessions come back: none has left then.
+/// Has all sessions leave, and returns their passes, in order. Without memory for the list the sessions come back: none
+/// has left then.
 fn leave_all(
     alloc: Global,
     sessions: Vec<Session<'_, Log>>,

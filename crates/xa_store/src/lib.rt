@@ -1,4 +1,5 @@
-//! A store that threads share: an empty server as the base, and the log of the statements that sessions add.
+//! A store that threads share: a base, which is an empty server at first, and the log of the statements that sessions
+//! add.
 //!
 //! Opening a store returns a pass for each of its sessions: the session's handle on the log. Connect a pass
 //! to get an `xa_session::Session`, which may move to a thread of yours. `race` runs sessions on threads and

@@ -1,4 +1,4 @@
-//! Sessions of one log synchronise, so that one of them has seen all that any of them has.
+//! Sessions of one log meet one of them, which has then seen all that any of them has.
 ghost use Rattle.std.specs.Prelude.{◌≡◌, ◌<◌, IfOk, vec_capacity};
 ghost use Rattle.std.specs.List.{All, AllZip};
 ghost use Rattle.decision_log.specs.History.{Begins, entries_of};
@@ -11,8 +11,8 @@ use xa_session::Session;
 use xa_words::Entry;
 use xa_xid::NoMemory;
 
-/// Each of the others meets the last, which has then seen what each of them has. If it had seen all of that
-/// before, it sees no more, and its entries of each session's number are exactly that session's own.
+/// Each of the others meets the last, which has then seen what each of them has. If the last had seen all of that
+/// before, it sees no more, and what it has seen has of each of the others exactly that session's own entries.
 pub(crate) fn meet_each<L: DecisionLog>(others: &mut Vec<Session<'_, L>>, last: &mut Session<'_, L>)
     requires { All (λ session. L.belongs_to session.pass ≡ L.belongs_to last.old.pass) others.old.items }
     ensures others { AllZip
@@ -34,11 +34,11 @@ pub(crate) fn meet_each<L: DecisionLog>(others: &mut Vec<Session<'_, L>>, last: 
     }
 }
 
-/// The last looks, and meets all others. Then it has seen what each of them has, and its entries of each
-/// session's number are exactly that session's own.
+/// The last looks, and the others meet it. Then it has seen what each of them has, and what it has seen has of each
+/// session exactly that session's own entries.
 ///
-/// It meets them twice. After the first round it has seen the most, so the second adds nothing to that, and
-/// what is known of the others' entries is known of one and the same history.
+/// They meet it twice. After the first round the last has seen the most. So the second round adds nothing to what it
+/// has seen, and what is known of the others' entries is known of one and the same history.
 pub(crate) fn meet_all<L: DecisionLog>(others: &mut Vec<Session<'_, L>>, last: &mut Session<'_, L>)
     requires { All (λ session. L.belongs_to session.pass ≡ L.belongs_to last.old.pass) others.old.items }
     ensures others { AllZip

@@ -62,11 +62,12 @@ fn start_all<'a, G: Gate>(
     let Some(run) = runs.pop() else {
         return Ok(Vec::new(alloc));
     };
+    // The others are started first, so the last one goes to the end of the list.
     let others = start_all(alloc, store, runs, gate);
     and_last(others, start(alloc, store, run, gate))
 }
 
-/// How many runs have a statement.
+/// How many runs have a statement. A run without one never comes to the gate: others would wait for it there in vain.
 fn count_speakers(runs: &[Run]) -> u64
     ensures { result ≡ count_by speaks runs.now }
 {
@@ -79,8 +80,8 @@ fn count_speakers(runs: &[Run]) -> u64
 /// stopped a run, `Full` if a run's statement is to be logged and the log has no room, `NoMemory` if an
 /// allocation failed, `ThreadRefused` if a run's thread couldn't be started. Of several the fault of the
 /// lowest session is returned; `NoMemory` outside of the runs only if no run has a fault.
-/// After an error the passes are dropped. The other runs went on, and the store's history keeps what was
-/// answered. If memory was missing before the first thread started, no run began.
+/// After an error the passes are dropped. A fault of one run doesn't stop the others, and the store's history keeps
+/// what was logged. If memory was missing before the first thread started, no run began.
 /// May return `NoMemory`. Waits for its threads, which may wait: no number of tries is promised.
 /// Own rule: docs/RATTLE.md#races.
 pub fn race<G: Gate + Sync, R: Threads + Wait + Sync>(

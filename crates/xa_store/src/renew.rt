@@ -13,14 +13,14 @@ use xa_server::Server;
 use xa_session::replayed;
 use xa_xid::{NoMemory, SessionNo, Statement};
 
-/// The server after sessions 1 to the last have disconnected, in order. Branches that aren't PREPARED are
-/// rolled back.
+/// The server after the sessions 1 to `sessions` have disconnected, in order. Their branches, which aren't PREPARED,
+/// are rolled back.
 fn disconnect_all(mut server: Server, sessions: u64) -> Server
     requires { sessions ≤ 16 }
     ensures { result ≡ disconnected sessions server }
 {
     for index in 0..sessions {
-        // There are at most 16 sessions, and DISCONNECT takes no memory.
+        // Neither fails: session numbers go up to 16, and DISCONNECT takes no memory.
         let session = SessionNo::of(index + 1).unwrap();
         let _reply = server.apply(session, &Statement::Disconnect).unwrap();
     }
@@ -28,7 +28,8 @@ fn disconnect_all(mut server: Server, sessions: u64) -> Server
 }
 
 impl Store {
-    /// The store with this base and an empty log of this store's sizes, and the log's passes.
+    /// A new store with this base and an empty log, and the log's passes. The log has room for as many entries, and as
+    /// many sessions, as this store's.
     fn reopened(&self, alloc: Global, base: Server) -> Result<(Store, Vec<Pass>), NoMemory>
         ensures base { IfOk result (λ opened. opened.0.base ≡ base) }
         ensures ok { IfOk result
@@ -43,8 +44,8 @@ impl Store {
         Ok((Store { base, log }, passes))
     }
 
-    /// The store that begins with this base after all that the last pass has seen, and after a `DISCONNECT` of
-    /// each session. Its log is empty. Its passes are returned with it.
+    /// A new store with an empty log, and its passes. Its base is this store's after all that the pass `last` has seen,
+    /// and after a `DISCONNECT` of each session. `last` knows as much as before, also after `NoMemory`.
     fn anew(&self, alloc: Global, last: &mut Pass) -> Result<(Store, Vec<Pass>), NoMemory>
         requires { log_of last.old ≡ identity_of self.now.log }
         ensures belongs { log_of last.new ≡ log_of last.old }

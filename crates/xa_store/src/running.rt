@@ -45,6 +45,8 @@ where
         self.session.number()
     }
 
+    /// Answers the run's statements in order, and returns the session with all answers. Errors: as for `answers_to`;
+    /// the session is then dropped.
     fn work<R: Wait>(self, rt: &R) -> Result<Returned<'a, L, Vec<Answer>>, RaceFault> {
         let Started {
             mut session,

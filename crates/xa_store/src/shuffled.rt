@@ -42,6 +42,7 @@ impl ShuffledGate {
         // The generator is at its start for each line, so the turns depend on seed, session and line alone.
         let mut stream = Pcg32::new(self.seed, session.get());
         stream.advance(line);
+        // 64 divides 2^32, so each number of turns is equally likely.
         stream.next_word() % 64
     }
 }
@@ -55,7 +56,7 @@ impl Gate for ShuffledGate {
     }
 
     fn enter(&self, session: SessionNo, line: u64) -> bool {
-        // First statements begin together. The session's own turns come after that.
+        // First statements begin together. The session's own turns come after that. `TogetherGate` stops no run.
         let opened = self.together.enter(session, line);
         for _ in 0..self.turns(session, line) {
             yield_now();

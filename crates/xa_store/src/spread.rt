@@ -21,8 +21,8 @@ impl<T: Task> Promise<Result<T::Gain, RaceFault>> for DoesItsPart<T> {
     ghost kept_by = { λ promise ended. IfOk ended (T.gains promise.0.value) × IfErr ended (T.stops promise.0.value) };
 }
 
-/// The fault that is returned if one more task stops with the fault `own`: of that and the fault of the others, if
-/// they have one, the one of the lower session.
+/// The fault that is returned if one more task stops with the fault `own`. `others` is what the tasks before it came
+/// to. If that is a fault, too, the one of the lower session is returned, else `own`.
 fn fault_of<D: Drop>(others: Result<Vec<D>, FirstFault>, own: FirstFault) -> FirstFault
     ensures either { (others ≡ Err result) ⊎ (result ≡ own) }
     ensures lowest { (result.session ≤ own.session) × IfErr others
@@ -34,8 +34,9 @@ fn fault_of<D: Drop>(others: Result<Vec<D>, FirstFault>, own: FirstFault) -> Fir
     own
 }
 
-/// Appends what one more task returned, that of the session of this number, to what all others returned.
-/// Error: of their faults that of the lowest session; `NoMemory` of no session if the list can't grow.
+/// Appends `ended`, what one more task returned, to what all others returned. `number` is that of its session.
+/// Error: of all these faults that of the lowest session; `NoMemory` of no session if there is none and the list can't
+/// grow.
 fn join_task<D: Drop>(
     others: Result<Vec<D>, FirstFault>,
     number: u64,
@@ -87,7 +88,8 @@ where
     // The task moves to its thread, so its number is kept for a fault.
     let number = task.number().get();
     let thread = scope.spawn_with(DoesItsPart(Snapshot::of(&task)), move || task.work(rt));
-    // The other tasks are started before this one's thread is waited for.
+    // The other tasks are started before this one's thread is waited for. This one is the last of the list, so what it
+    // returns is appended to what they return.
     let others = spread(scope, rt, alloc, tasks);
     match thread {
         Ok(thread) => join_task(others, number, thread.join(rt)),

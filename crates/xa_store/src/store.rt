@@ -58,7 +58,7 @@ impl Store {
         Ok((Store { base, log }, passes))
     }
 
-    /// Makes a session of a pass that this store's `open` returned.
+    /// Makes a session of a pass of this store, as `open` returns them.
     ///
     /// Errors: `NoMemory`, if an allocation fails; the pass then comes back unchanged.
     /// May return `NoMemory`. Doesn't wait.

@@ -32,7 +32,7 @@ pub trait Task {
 
     /// Does this session's part of a race, on the thread that it was given.
     ///
-    /// Errors: the reason for which it stops. May wait.
+    /// Errors: the reason for which the session stops. May wait.
     fn work<R: Wait>(self, rt: &R) -> Result<Self::Gain, RaceFault>
         ensures ok { IfOk result (gains self) }
         ensures fault { IfErr result (stops self) };

@@ -54,7 +54,8 @@ impl Gate for TogetherGate {
     ghost may_answer = { λ _ _ _ opened. IsTrue opened };
 
     fn announce(&self, speakers: u64) {
-        // A gate may serve one race after another, so the count begins anew. No run has started yet.
+        // A gate may serve one race after another, so the count begins anew. No run has started yet, so the order of
+        // these two steps doesn't matter.
         self.arrived.store(0, Ordering::SeqCst);
         self.awaited.store(speakers, Ordering::SeqCst);
     }

@@ -1,4 +1,4 @@
--- A statement and its parts: the parts give the statement back.
+-- A statement and its parts: the parts give the statement back, and keep its limits.
 use Rattle.std.proofs.Common.{◌≡◌, ℕ, ◌<◌, ◌≤◌, ◌^◌, true, false, cond, nat_eq, IsTrue, List, [], refl, ap, sym, ◌∙◌}
 use Rattle.std.proofs.Common.{arith, lit<, lit≤}
 use Rattle.xa_xid.specs.declared.xid.Xid.{Xid}

@@ -137,7 +137,7 @@ pub pieces_of : (words : List ℕ) (entry : Entry) → words ≡ words_of entry
 unfolding words_of
 pieces_of words entry same = pieces words entry.session (parts_of entry.statement) same
 
--- texts that were read from the words of an entry are its texts
+-- the parts of an entry's statement are its two texts, with the kind and the formatID that stand in the entry's words
 pub parts_read : (words : List ℕ) (entry : Entry) → words ≡ words_of entry → (first second : List ℕ)
     → first ≡ (parts_of entry.statement).first → second ≡ (parts_of entry.statement).second
     → parts_of entry.statement

@@ -18,7 +18,7 @@ pub record Entry : Type 0 where
   pub session : ℕ
   pub statement : Statement
 
--- bytes, at most `text_bytes` (C193 for gtrid and bqual, own rule for values)
+-- bytes, at most `text_bytes` of them (C193 for gtrid and bqual, own rule for keys and values)
 pub record IsText (text : List ℕ) : Type 0 where
   pub fits : length text ≤ text_bytes
   pub bytes : (i : ℕ) → slice_index text i < 256
@@ -40,7 +40,7 @@ may_be_entry (Recover convert) = false
 may_be_entry Unsupported = false
 may_be_entry statement = true
 
--- the parts of a statement are within the limits of its type
+-- the identifier, the key and the value of a statement, if it has them, are within their limits
 abbrev pub KeepsLimits : Statement → Type 0
 KeepsLimits (Start xid) = IsXid xid
 KeepsLimits (End xid) = IsXid xid

@@ -2,7 +2,7 @@
 --     Parts           the parts of a statement that the numbers hold: its kind, its formatID and its two texts
 --     parts_of        the table of kinds, one line for each
 --     eight_bytes     eight bytes of a text from a place on, zeros past its end
---     text_words      a text as eight numbers of eight bytes, the highest byte first
+--     text_words      a text of at most 64 bytes as eight numbers of eight bytes, the highest byte first
 --     words_of        the numbers of an entry
 --     RowParts        the parts are those of a statement without an identifier
 --     byte_of         the byte at a place of eight such numbers
@@ -47,7 +47,7 @@ parts_of Disconnect = of_texts 10 [] []
 parts_of (Recover convert) = of_texts 0 [] []
 parts_of Unsupported = of_texts 0 [] []
 
--- the bytes of a text from a place on, zeros past its end
+-- the eight bytes of a text from a place on, zeros past its end
 abbrev pub eight_bytes : List ℕ → ℕ → List ℕ
 eight_bytes text place =
     slice_index text place ∷ slice_index text (place + 1) ∷ slice_index text (place + 2) ∷ slice_index text (place + 3)
@@ -58,7 +58,7 @@ eight_bytes text place =
 unfoldable pub text_word : List ℕ → ℕ → ℕ
 text_word text place = from_be_bytes w64 (eight_bytes text place)
 
--- a text as eight numbers, of eight bytes each
+-- the first 64 bytes of a text as eight numbers of eight bytes each, zeros past its end
 abbrev pub text_words : List ℕ → List ℕ
 text_words text =
     text_word text 0 ∷ text_word text 8 ∷ text_word text 16 ∷ text_word text 24

@@ -17,7 +17,8 @@ pub fn decode(words: &[u64; WORDS]) -> Option<Entry>
     ensures every { (entry : Entry) → IsEntry entry → words.now ≡ words_of entry → result ≡ Some entry }
 {
     let entry = read_back(words)?;
-    // Words that no entry has are read back as one, too, but aren't its words: a byte past a text's end, say.
+    // `read_back` also returns an entry for some words that no entry has, as those with a byte past a text's end.
+    // They aren't the words of that entry.
     if encode(&entry) != *words {
         return None;
     }

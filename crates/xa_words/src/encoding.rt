@@ -6,7 +6,8 @@ ghost use Rattle.xa_words.specs.Words.{words_of};
 use crate::Entry;
 use crate::layout::{Parts, WORDS, text_words};
 
-/// Returns the words of an entry.
+/// Returns the words of an entry: the session's number, the number of the statement's kind, the lengths of both texts
+/// in bytes, the formatID, and eight words for each text.
 ///
 /// Takes no memory. Doesn't wait.
 /// Own rule: docs/INTERNALS.md#words-of-an-entry.

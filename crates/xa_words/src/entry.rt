@@ -44,8 +44,8 @@ impl Entry {
         match statement {
             Statement::Recover { .. } | Statement::Unsupported => None,
             _ => {
+                // The proof needs that the statement's parts are within their limits, and the number in `[1, 16]`.
                 limits::of_statement(statement);
-                // The proof needs that the number is one of 1 to 16.
                 let _number = session.get();
                 Some(Entry {
                     session,
@@ -63,8 +63,8 @@ impl Entry {
         requires { IsTrue (may_be_entry statement) }
         ensures { result ≡ record { session = session; statement = statement } }
     {
+        // The proof needs that the statement's parts are within their limits, and the number in `[1, 16]`.
         limits::of_statement(&statement);
-        // The proof needs that the number is one of 1 to 16.
         let _number = session.get();
         Entry { session, statement }
     }

@@ -13,7 +13,7 @@ pub(crate) const MOST_BYTES: u64 = 64;
 
 /// The parts of a statement that the words hold: the number of its kind, its formatID and its two texts.
 pub(crate) struct Parts<'a> {
-    /// 1 to 10, or 0 of a statement that can't be logged.
+    /// The number of the statement's kind: 1 to 10, or 0 of a statement that can't be logged.
     pub(crate) kind: u64,
     /// The formatID of an identifier, else 0.
     pub(crate) format_id: u64,
@@ -24,7 +24,7 @@ pub(crate) struct Parts<'a> {
 }
 
 impl<'a> Parts<'a> {
-    /// The parts of a statement about a branch.
+    /// The parts of a statement about a branch: `kind` is the number of the statement's kind.
     fn of_xid(kind: u64, xid: &'a Xid) -> Parts<'a>
         ensures { (result.kind ≡ kind)
             × (result.format_id ≡ xid.now.format_id)
@@ -39,7 +39,7 @@ impl<'a> Parts<'a> {
         }
     }
 
-    /// The parts of a statement about a row, or of one without texts.
+    /// The parts of a statement about a row, or of one without texts. A text that it doesn't have is empty.
     fn of_texts(kind: u64, key: &'a [u8], value: &'a [u8]) -> Parts<'a>
         ensures { (result.kind ≡ kind) × (result.format_id ≡ 0) × (result.first.now ≡ key.now)
             × (result.second.now ≡ value.now) }
@@ -52,7 +52,8 @@ impl<'a> Parts<'a> {
         }
     }
 
-    /// Returns the parts of a statement. The kind is 0 if the statement can't be logged.
+    /// Returns the parts of a statement, with the kinds of docs/INTERNALS.md#words-of-an-entry. The kind is 0 if the
+    /// statement can't be logged.
     pub(crate) fn of(statement: &'a Statement) -> Parts<'a>
         ensures kind { result.kind ≡ (parts_of statement.now).kind }
         ensures format_id { result.format_id ≡ (parts_of statement.now).format_id }
@@ -76,15 +77,15 @@ impl<'a> Parts<'a> {
     }
 }
 
-/// Returns the byte at a place of a text, or 0 past its end.
+/// Returns the byte at the index `place` of a text, or 0 past the text's end.
 fn byte_or_zero(text: &[u8], place: usize) -> u8
     ensures { result ≡ slice_index text.now place }
 {
     if place < text.len() { text[place] } else { 0 }
 }
 
-/// Returns the eight bytes of a text from a place on as one number: the first byte is the highest, and zeros
-/// stand past the end. Most texts are short, so most words are past their end.
+/// Returns the eight bytes of a text from the index `place` on as one number: the first byte is the highest, and zeros
+/// stand past the text's end. Most texts are short, so most of their words are past the end.
 fn text_word(text: &[u8], place: usize) -> u64
     requires { place < 64 }
     ensures { result ≡ text_word text.now place }
@@ -92,7 +93,7 @@ fn text_word(text: &[u8], place: usize) -> u64
     if text.len() <= place {
         return 0;
     }
-    // The last bytes of a text, with zeros behind them.
+    // The text ends within this word: zeros stand after its last bytes.
     if text.len() - place < 8 {
         return last_word(text, place);
     }
@@ -108,7 +109,7 @@ fn text_word(text: &[u8], place: usize) -> u64
     ])
 }
 
-/// Returns the eight bytes of a text from a place on as one number, byte by byte: the text may end among them.
+/// Returns the same as `text_word`, byte by byte, for a text that may end among the eight bytes.
 fn last_word(text: &[u8], place: usize) -> u64
     requires { place < 64 }
     ensures { result ≡ text_word text.now place }
@@ -125,7 +126,8 @@ fn last_word(text: &[u8], place: usize) -> u64
     ])
 }
 
-/// Returns a text as eight words of eight bytes each. Most texts fill only the first.
+/// Returns a text of at most 64 bytes as eight words of eight bytes each, with zeros past its end. Most texts have at
+/// most eight bytes.
 pub(crate) fn text_words(text: &[u8]) -> [u64; 8]
     ensures { result ≡ text_words text.now }
 {
@@ -144,7 +146,7 @@ pub(crate) fn text_words(text: &[u8]) -> [u64; 8]
     ]
 }
 
-/// Returns whether the word of an entry at `index` is 0 because its text ends before it.
+/// Returns whether the word at `index` of an entry lies after the end of its text, and so is 0.
 ///
 /// `index` is in `[0, 20]`. The words before it give the length of the text. Takes no memory. Doesn't wait.
 /// Own rule: docs/INTERNALS.md#words-of-an-entry.
@@ -162,7 +164,8 @@ pub fn is_behind_text(words: &[u64; WORDS], index: usize) -> bool
     if index < 5 {
         return false;
     }
-    // Words 5 to 12 are the first text's, 13 to 20 the second's. Words 2 and 3 have their lengths.
+    // Words 5 to 12 are the first text's, 13 to 20 the second's. Words 2 and 3 have their lengths in bytes, of which
+    // each word holds 8.
     if index < 13 {
         words[2] <= 8 * (index as u64 - 5)
     } else {

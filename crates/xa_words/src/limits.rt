@@ -5,7 +5,7 @@ ghost use Rattle.xa_words.specs.Entry.{IsText, IsXid, IsNonEmptyText, KeepsLimit
 
 use xa_xid::{Bytes, Key, Statement, Xid};
 
-/// States that a text of at most 64 bytes is one of an entry.
+/// States that a text of at most 64 bytes keeps the limit of an entry's texts.
 fn of_bytes(bytes: &[u8])
     requires { length bytes.now ≤ text_bytes }
     ensures { IsText bytes.now }

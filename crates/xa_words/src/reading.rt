@@ -11,7 +11,7 @@ use crate::Entry;
 use crate::layout::{MOST_BYTES, WORDS};
 use xa_xid::{Bytes, Key, SessionNo, Statement, Xid};
 
-/// Appends the first `count` bytes of a word, of which the first is the highest.
+/// Appends the first `count` bytes of a word to a text. A word's first byte is its highest.
 fn push_bytes(text: &mut Bytes, word: u64, count: usize)
     requires count { count ≤ 8 }
     requires fits { length text.old.items + count ≤ text_bytes }
@@ -36,7 +36,7 @@ fn whole_words(words: &[u64], count: usize) -> Bytes
     text
 }
 
-/// Returns the first `size` bytes of eight words. Most texts are shorter than a word.
+/// Returns the first `size` bytes, at most 64, of eight words.
 fn bytes_of(words: &[u64], size: usize) -> Bytes
     requires length { length words.now ≡ 8 }
     requires fits { size ≤ text_bytes }
@@ -45,7 +45,7 @@ fn bytes_of(words: &[u64], size: usize) -> Bytes
 {
     let whole = size / 8;
     let mut text = whole_words(words, whole);
-    // The last word is filled in part.
+    // Of the last word only a part belongs to the text.
     if size % 8 > 0 {
         push_bytes(&mut text, words[whole], size % 8);
     }
@@ -91,6 +91,7 @@ fn with_xid(kind: u64, xid: Xid) -> Option<Statement>
             one_phase: true,
         }),
         6 => Some(Statement::Rollback(xid)),
+        // Kind 0, since the kind is at most 6.
         _ => None,
     }
 }
@@ -119,11 +120,12 @@ fn with_texts(kind: u64, first: Bytes, second: Bytes) -> Option<Statement>
         7 if second.is_empty() => Some(Statement::Get(key)),
         8 => Some(Statement::Put(key, second)),
         9 if second.is_empty() => Some(Statement::Del(key)),
+        // A `GET` or `DEL` with a value, or a kind above 10.
         _ => None,
     }
 }
 
-/// Returns the statement of these parts, or `None` if there is none.
+/// Returns the statement of these parts, or `None` if no statement that can be logged has them.
 fn statement_of(kind: u64, format_id: u64, first: Bytes, second: Bytes) -> Option<Statement>
     ensures some { IfSome result
         (λ statement. IsTrue (may_be_entry statement)
@@ -136,7 +138,7 @@ fn statement_of(kind: u64, format_id: u64, first: Bytes, second: Bytes) -> Optio
         → parts_of statement ≡ record { kind = kind; format_id = format_id; first = first.items; second = second.items }
         → ⊥) }
 {
-    // Kinds 1 to 6 have an identifier; of all others the formatID is 0.
+    // Kinds 1 to 6 have an identifier; of all others the formatID is 0. Of kind 0 `with_xid` returns no statement.
     if kind <= 6 {
         let xid = Xid {
             format_id,

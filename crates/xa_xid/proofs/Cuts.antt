@@ -7,13 +7,14 @@ use Rattle.std.proofs.Math.Seq.{take-suc}
 use Rattle.std.proofs.lemmas.List.{drop_all, take_all, append-nil}
 use Rattle.xa_xid.specs.Bytes.{front, behind}
 
--- `front` has the bytes up to the first that doesn't pass, and `behind` has the rest: a byte that passes is in front
+-- `front` has the bytes up to the first that doesn't pass, and `behind` has the rest: a first byte that passes is in
+-- front
 pub front-passes : (p : ℕ → Bool) (byte : ℕ) (text : List ℕ) → p byte ≡ true
     → front p (byte ∷ text) ≡ byte ∷ front p text
 unfolding front
 front-passes p byte text e = rw e refl
 
--- a byte that doesn't pass ends the front
+-- if the first byte doesn't pass, nothing is in front
 pub front-stops : (p : ℕ → Bool) (byte : ℕ) (text : List ℕ) → p byte ≡ false → front p (byte ∷ text) ≡ []
 unfolding front
 front-stops p byte text e = rw e refl
@@ -23,7 +24,7 @@ pub behind-passes : (p : ℕ → Bool) (byte : ℕ) (text : List ℕ) → p byte
 unfolding behind
 behind-passes p byte text e = rw e refl
 
--- from a byte that doesn't pass on, all bytes are behind
+-- if the first byte doesn't pass, all bytes are behind
 pub behind-stops : (p : ℕ → Bool) (byte : ℕ) (text : List ℕ) → p byte ≡ false → behind p (byte ∷ text) ≡ byte ∷ text
 unfolding behind
 behind-stops p byte text e = rw e refl
@@ -62,7 +63,7 @@ passed_stop p text place within fails so_far = (
   so_far.left ∙ rw (drop-cons text place 0 within) (behind-stops p _ _ fails),
 )
 
--- if the loop comes to the end of a text, all of it has passed
+-- the loop's end: if all bytes of a text pass, all of it is in front, and nothing is behind
 pub passed_all : (p : ℕ → Bool) (text : List ℕ) (place : ℕ) → length text ≤ place → Passed p text place
     → (front p text ≡ take (length text) text) × (behind p text ≡ drop (length text) text)
 passed_all p text place past so_far =

@@ -49,7 +49,7 @@ apart n x y s t less below =
     let more : suc x * weight n ≤ y * weight n = mul-le-mul_right (weight n) less in
     omega (arith, more, suc-mul x (weight n), below)
 
--- what holds by how two first bytes stand
+-- if A follows whichever of two bytes is less, and also if they are equal, A holds
 split : (x y : ℕ) (A : Type 0) → (x < y → A) → (y < x → A) → (x ≡ y → A) → A
 split x y A less more same =
     dite (dec_lt x y) less (λ not_less. dite (dec_lt y x) more (λ not_more. same (omega (arith, not_less, not_more))))

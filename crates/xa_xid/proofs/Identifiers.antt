@@ -73,7 +73,8 @@ abbrev pub XidSpelled : List ℕ → Parse → Type 0
 XidSpelled text (Ok found) = XidAt text found.0 found.1
 XidSpelled text (Err fault) = FaultyXid text fault.0 fault.1
 
--- a formatID behind gtrid and bqual: what is read is spelled, and each fault is told rightly
+-- if gtrid and bqual, each with a comma behind it, are spelled, then a formatID that is read behind them is spelled,
+-- and each fault there is told rightly
 format_spelled : (text second third fourth fifth : List ℕ) (gtrid bqual : Text) → TextAt (unblank text) gtrid second
     → CommaAt (unblank second) third
     → TextAt (unblank third) bqual fourth → CommaAt (unblank fourth) fifth
@@ -85,8 +86,8 @@ format_spelled text second third fourth fifth gtrid bqual first comma part last 
     faulty_format_id text second third fourth fifth gtrid bqual fault first comma part last
     (read_faulty_number (unblank fifth) fault e)
 
--- the part of an identifier behind its bqual, a formatID or nothing: what is read is spelled, and each fault is told
--- rightly
+-- if gtrid, comma and bqual are spelled, then what is read behind them, a formatID or nothing, is spelled, and each
+-- fault there is told rightly
 after_bqual_spelled : (text second third fourth : List ℕ) (gtrid bqual : Text) → TextAt (unblank text) gtrid second
     → CommaAt (unblank second) third
     → TextAt (unblank third) bqual fourth → (next : Option (List ℕ)) → CommaFound (unblank fourth) next
@@ -96,7 +97,8 @@ after_bqual_spelled text second third fourth gtrid bqual first comma part None n
 after_bqual_spelled text second third fourth gtrid bqual first comma part (Some fifth) last =
     format_spelled text second third fourth fifth gtrid bqual first comma part last (number_ahead (unblank fifth)) refl
 
--- the part of an identifier from its bqual on: what is read is spelled, and each fault is told rightly
+-- if gtrid and comma are spelled, then what is read behind them, from the bqual on, is spelled, and each fault there
+-- is told rightly
 bqual_spelled : (text second third : List ℕ) (gtrid : Text) → TextAt (unblank text) gtrid second
     → CommaAt (unblank second) third
     → (found : Reading Text) → literal_ahead (unblank third) ≡ found
@@ -108,7 +110,7 @@ bqual_spelled text second third gtrid first comma (Ok (bqual, fourth)) e =
 bqual_spelled text second third gtrid first comma (Err fault) e =
     faulty_bqual text second third gtrid fault first comma (read_faulty (unblank third) fault e)
 
--- the part of an identifier behind its gtrid: what is read is spelled, and each fault is told rightly
+-- if a gtrid is spelled, then what is read behind it is spelled, and each fault there is told rightly
 after_gtrid_spelled : (text second : List ℕ) (gtrid : Text) → TextAt (unblank text) gtrid second
     → (next : Option (List ℕ))
     → CommaFound (unblank second) next → XidSpelled text (after_gtrid gtrid second next)
@@ -116,7 +118,7 @@ after_gtrid_spelled text second gtrid first None none = gtrid_alone gtrid first 
 after_gtrid_spelled text second gtrid first (Some third) comma =
     bqual_spelled text second third gtrid first comma (literal_ahead (unblank third)) refl
 
--- an identifier from its gtrid on: what is read is spelled, and each fault is told rightly
+-- what is read of an identifier from its gtrid on is spelled, and each fault is told rightly
 gtrid_spelled : (text : List ℕ) (found : Reading Text) → literal_ahead (unblank text) ≡ found
     → XidSpelled text (gtrid_found (unblank text) found)
 gtrid_spelled text (Ok (gtrid, second)) e =
@@ -183,7 +185,7 @@ one_xid text xid other rest behind form again =
     (spelled_xid_read text other behind again) in
     (ap (λ pair. pair.0) same, ap (λ pair. pair.1) same)
 
--- each fault and its place are a row of the table
+-- each fault of reading an identifier, with its place, is a row of the table of faults
 pub read_faulty_xid : (text : List ℕ) (fault : LiteralFault) (rest : List ℕ) → xid_ahead text ≡ Err (fault, rest)
     → FaultyXid text fault rest
 read_faulty_xid text fault rest e = rw e at (xid_spelled text)

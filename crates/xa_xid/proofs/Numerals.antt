@@ -130,7 +130,7 @@ decimal_read digit digits rest all s =
     written_read (digit ∷ digits) rest (fitting (digits_value 10 (digit ∷ digits)))
     (words_decimal (digit ∷ digits) (only_passes (belongs Decimal) (digit ∷ digits) all)) s found
 
--- an x isn't a decimal digit
+-- a text that begins with `0x` (the bytes 48 and 120) isn't of decimal digits alone
 prefixed_not_decimal : (digits : List ℕ) → only (belongs Decimal) (48 ∷ 120 ∷ digits) ≡ false
 unfolding behind belongs
 prefixed_not_decimal digits = ne_eqb _ _ (λ e. omega arith)
@@ -202,7 +202,7 @@ fitting_told rest value =
     cond_both (nat_lt value (2 ^ 64)) (Ok value) (Err NumberTooLarge)
     (λ found. number_found rest found ≡ Err NotALiteral → ⊥) (λ _ e. cc) (λ _ e. cc)
 
--- a fault of reading is a row of the table of faults
+-- a fault of reading a number, if it is told rightly, is a row of the table of faults
 fault_row : (text : List ℕ) (fault : LiteralFault) → number_ahead text ≡ Err fault → NumberSpelled text (Err fault)
     → FaultyNumber text fault
 fault_row text NotALiteral e s =

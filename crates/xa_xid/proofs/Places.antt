@@ -108,7 +108,7 @@ between Spelled text at value rest form end = record {
   spelled = rw (end_place text rest (end_of_end text (drop at text) rest (end_from text at) end)) form;
 }
 
--- the place at which a rest begins, by the rest's length
+-- a place in a text is the text's length less the length of what stands from that place on
 next_place : (text : List ℕ) (next : ℕ) → next ≤ length text → length text - length (drop next text) ≡ next
 next_place text next within = rw (length-drop next text) (omega arith)
 

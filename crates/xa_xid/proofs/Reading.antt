@@ -44,13 +44,13 @@ pub escape_letter : (quote byte : ℕ) (text : List ℕ) → read_in_quotes quot
 unfolding read_in_quotes
 escape_letter quote byte text = refl
 
--- a second quote is one quote of the text
+-- a quote right behind a quote makes, with it, one quote of the text
 pub quote_again : (quote byte : ℕ) (text : List ℕ) → byte ≡ quote
     → read_in_quotes quote Quote (byte ∷ text) ≡ onto (quote ∷ []) (read_in_quotes quote Plain text)
 unfolding read_in_quotes
 quote_again quote byte text e = rw (eq-eqb byte quote e) refl
 
--- another byte behind a quote isn't of the text any more
+-- another byte right behind a quote isn't of the text any more: the quote has closed it
 pub quote_closes : (quote byte : ℕ) (text : List ℕ) → (byte ≡ quote → ⊥)
     → read_in_quotes quote Quote (byte ∷ text) ≡ Some ([], byte ∷ text)
 unfolding read_in_quotes
@@ -82,7 +82,8 @@ pub record ReadTo (quote : ℕ) (text : List ℕ) (mode : Mode) (held : Option T
 pub read_none : (quote : ℕ) (text : List ℕ) (held : Option Text) → held ≡ kept [] → ReadTo quote text Plain held 0
 read_none quote text held e = record { so_far = []; held_is = e; same = onto-nil _ }
 
--- the loop over bytes: after one that stands for no byte, as a backslash, only the mode is another
+-- the loop over bytes: if the byte at a place stands for no byte, as a backslash, the same bytes are held at the next
+-- place, and the mode may be another
 pub read_mark : (quote : ℕ) (text : List ℕ) (mode next : Mode) (held : Option Text) (place : ℕ) → place < length text
     → ((rest : List ℕ) → read_in_quotes quote mode (get_or text place 0 ∷ rest) ≡ read_in_quotes quote next rest)
     → ReadTo quote text mode held place → ReadTo quote text next held (place + 1)
@@ -92,7 +93,8 @@ read_mark quote text mode next held place within step so_far = record {
   same = so_far.same ∙ rw (drop-cons text place 0 within, step, add-one) refl;
 }
 
--- the loop over bytes: after one for which the literal gets bytes, these are held too, and the mode may be another
+-- the loop over bytes: if the byte at a place gives the literal bytes, these are held too at the next place, and the
+-- mode may be another
 pub read_more : (quote : ℕ) (text : List ℕ) (mode next : Mode) (old new : Option Text) (place : ℕ) (bytes : List ℕ)
     → place < length text
     → ((rest : List ℕ) → read_in_quotes quote mode (get_or text place 0 ∷ rest)
@@ -105,7 +107,8 @@ read_more quote text mode next old new place bytes within step grows so_far = re
   same = so_far.same ∙ rw (drop-cons text place 0 within, step, add-one) (onto-onto so_far.so_far bytes _);
 }
 
--- the quote has ended the text: what was held is the literal, if it isn't too long
+-- if a quote has closed the text at the place that reading has come to, what is held there is the literal, if it
+-- isn't too long
 closed : (quote : ℕ) (text rest : List ℕ) (mode : Mode) (held : Option Text) (place : ℕ)
     → read_in_quotes quote mode (drop place text) ≡ Some ([], rest)
     → ReadTo quote text mode held place → text_literal_of (read_in_quotes quote Plain text) ≡ sized held rest

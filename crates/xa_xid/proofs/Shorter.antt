@@ -30,7 +30,8 @@ abbrev Short : ℕ → Option (List ℕ × List ℕ) → Type 0
 Short most None = Unit {0}
 Short most (Some found) = length found.1 ≤ most
 
--- reading a byte more leaves no more bytes
+-- if what is left is at most so long, it is at most one longer than that, also with bytes put in front of what was
+-- read
 short-onto : (most : ℕ) (first : List ℕ) (found : Option (List ℕ × List ℕ)) → Short most found
     → Short (suc most) (onto first found)
 short-onto most first None short = tt

@@ -70,7 +70,8 @@ text_spelled quote text None is e s =
     (sym e ∙ quoted_found quote text bytes rest is q))
 text_spelled quote text (Some (bytes, rest)) is e s = quoted_spelled quote text bytes rest is s
 
--- a reading is spelled if, where a test refuses it, the fault is one of the table's
+-- a reading is spelled if, where a test refuses it, the fault is one of the table's, and, where the test doesn't, the
+-- reading is spelled
 unless_fault : (text : List ℕ) (test : Bool) (fault : LiteralFault) (other : Reading Text)
     → (test ≡ true → FaultyLiteral text fault)
     → (test ≡ false → SpelledAs text other) → SpelledAs text (if test then Err fault else other)
@@ -193,12 +194,12 @@ run_spelled (a ∷ b ∷ digit ∷ digits) rest s none =
       | false ↦ λ e. none (rw e refl)
     ] refl
 
--- a run that is `0x` and digits is found
+-- where `0x` and digits stand, these digits are found in the run of word bytes in front
 run_found : (text digits rest : List ℕ) → HexRunAt text digits rest → hex_digits_of (run text) ≡ Some digits
 run_found _ _ _ (hex_run_at digit digits rest hex s) =
     (hex_run_cut digit digits rest (only_passes (belongs Hexadecimal) (digit ∷ digits) hex) s).0
 
--- a run that isn't `0x` with digits is no literal
+-- a text that opens no quotes, and whose run of word bytes in front isn't `0x` with digits, begins with no literal
 no_run : (text : List ℕ) → opens_text text ≡ false → opens_hex text ≡ false → hex_digits_of (run text) ≡ None
     → FaultyLiteral text NotALiteral
 no_run text no_text no_hex e =
@@ -235,7 +236,7 @@ literal_spelled text =
     (λ no_text. cond_both (opens_hex text) as_hex as_run (SpelledAs text) (λ e. hex_opened_spelled text e)
     (λ no_hex. run_read_spelled text no_text no_hex))
 
--- what is read is spelled, and is few enough bytes
+-- a literal that is read is spelled so, and has at most 64 bytes
 pub read_spelled : (text : List ℕ) (found : Text) (rest : List ℕ) → literal_ahead text ≡ Ok (found, rest)
     → LiteralAt text found.items rest × (length found.items ≤ 64)
 read_spelled text found rest e = rw e at (literal_spelled text)
@@ -244,7 +245,7 @@ read_spelled text found rest e = rw e at (literal_spelled text)
 pub read_faulty : (text : List ℕ) (fault : LiteralFault) → literal_ahead text ≡ Err fault → FaultyLiteral text fault
 read_faulty text fault e = rw e at (literal_spelled text)
 
--- a text that holds no run of `0x` and digits isn't read as one
+-- if no `0x` with digits stands at the front of a text, none is found in the run of word bytes there
 run_none : (written rest : List ℕ) → StartsNo (belongs Word) rest
     → ((digits behind : List ℕ) → HexRunAt (written ++ rest) digits behind → ⊥)
     → hex_digits_of written ≡ None
@@ -263,7 +264,7 @@ run_none (a ∷ b ∷ digit ∷ digits) rest s refused =
       | false ↦ λ e. refl
     ] refl
 
--- a run that isn't `0x` with digits is told as no literal
+-- a text that opens no quotes, and whose run of word bytes in front isn't `0x` with digits, is told as no literal
 no_run_read : (text : List ℕ) → opens_text text ≡ false → opens_hex text ≡ false → hex_digits_of (run text) ≡ None
     → literal_ahead text ≡ Err NotALiteral
 unfolding literal_ahead

@@ -55,7 +55,7 @@ abbrev pub Spelled : ℕ → List ℕ → Option (List ℕ × List ℕ) → Type
 Spelled quote text None = Unit {0}
 Spelled quote text (Some found) = QuotedAt quote text found.0 found.1
 
--- a plain byte more in front is spelled so
+-- with a plain byte more in front, what was read between quotes is still spelled there, with that byte
 more_plain : (quote byte : ℕ) (text : List ℕ) (found : Option (List ℕ × List ℕ)) → (byte ≡ quote → ⊥) → (byte ≡ 92 → ⊥)
     → Spelled quote text found
     → Spelled quote (byte ∷ text) (onto (byte ∷ []) found)
@@ -67,7 +67,8 @@ more_plain quote byte text (Some (bytes, rest)) differs unescaped s = record {
   last = s.last;
 }
 
--- an escaped byte more in front is spelled so
+-- with an escaped byte more in front, what was read between quotes is still spelled there, with what the escape
+-- stands for
 more_escaped : (quote letter : ℕ) (text : List ℕ) (found : Option (List ℕ × List ℕ)) → Spelled quote text found
     → Spelled quote (92 ∷ letter ∷ text) (onto (escaped letter) found)
 more_escaped quote letter text None s = tt
@@ -78,7 +79,7 @@ more_escaped quote letter text (Some (bytes, rest)) s = record {
   last = s.last;
 }
 
--- a doubled quote more in front is spelled so
+-- with a doubled quote more in front, what was read between quotes is still spelled there, with one quote
 more_doubled : (quote : ℕ) (text : List ℕ) (found : Option (List ℕ × List ℕ)) → Spelled quote text found
     → Spelled quote (quote ∷ quote ∷ text) (onto (quote ∷ []) found)
 more_doubled quote text None s = tt
@@ -175,7 +176,7 @@ x_cases letter is =
       | inr b ↦ inr (eqb-true letter 120 b)
     ]
 
--- digits of few bytes are decoded, and of more are too long
+-- digits of at most 64 bytes are read as these bytes, and digits of more are too long
 digits_sized : (digits bytes rest : List ℕ) → decode_of digits ≡ Ok bytes → (long : Bool)
     → (long ≡ true → 64 < length bytes)
     → (long ≡ false → length bytes ≤ 64)
@@ -201,7 +202,8 @@ pub evened_length : (digits : List ℕ) → (odd : Bool) → (length digits % 2 
 evened_length digits true e = rw e (omega arith, omega arith)
 evened_length digits false e = rw e (omega arith, omega arith)
 
--- the digits of `0x..` with a 0 in front, if they are odd, are the bytes; more than 64 bytes are too long
+-- the digits of `0x..`, with a 0 in front if their number is odd, are read as the decoded bytes; more than 64 bytes
+-- are too long
 run_sized : (digits bytes rest : List ℕ) → decode_of (evened digits) ≡ Ok bytes
     → hex_run_of (Some digits) rest ≡ sized (kept bytes) rest
 run_sized digits bytes rest e =

@@ -50,7 +50,7 @@ kept_grown bytes byte old new is room most grown =
     omega (arith, ap length same, length-append bytes (byte ∷ []), room) in
     ap (λ items. Some (record { items = items })) longer ∙ sym (kept-fits _ short)
 
--- one byte more than 64 isn't kept
+-- if 64 bytes are kept, none are with one more
 pub kept_full : (bytes : List ℕ) (byte : ℕ) (old : Text) → Some old ≡ kept bytes → length old.items ≡ 64
     → None ≡ kept (bytes ++ byte ∷ [])
 kept_full bytes byte old is full =

@@ -40,7 +40,7 @@ behind-starts : (p : ℕ → Bool) (rest : List ℕ) → StartsNo p rest → beh
 behind-starts p [] s = behind-nil p
 behind-starts p (byte ∷ rest) s = behind-stops p byte rest s
 
--- bytes that pass are cut whole
+-- bytes that all pass are the front of a text, if what stands behind them begins with none that passes
 pub front-append : (p : ℕ → Bool) (text rest : List ℕ) → Passes p text → StartsNo p rest → front p (text ++ rest) ≡ text
 front-append p [] rest all s = front-starts p rest s
 front-append p (byte ∷ text) rest all s =
@@ -255,7 +255,7 @@ third_back : (gtrid bqual : Text) (n : ℕ) (text rest : List ℕ) → unblank t
 third_back gtrid bqual n text rest blank e =
     ap (format_id_next gtrid bqual) blank ∙ ap (format_found gtrid bqual text) e
 
--- the bqual and the comma behind it are read back
+-- the bqual and the comma behind it are read back, and reading goes on to the formatID
 second_back : (gtrid : Text) (bqual text next : List ℕ) (answer : Parse) → text ≡ part_text bqual ++ (44 ∷ next)
     → IsBytes bqual → length bqual ≤ 64
     → format_id_next gtrid (record { items = bqual }) (unblank next) ≡ answer → bqual_next gtrid (unblank text) ≡ answer
@@ -266,7 +266,7 @@ second_back gtrid bqual text next answer e all fits more =
     ap (bqual_next gtrid) blank ∙ ap (bqual_found gtrid text) part
     ∙ ap (λ t. after_bqual gtrid (record { items = bqual }) (44 ∷ next) (comma_next t)) (comma_unblank next) ∙ more
 
--- the gtrid and the comma behind it are read back
+-- the gtrid and the comma behind it are read back, and reading goes on to the bqual
 first_back : (gtrid text next : List ℕ) (answer : Parse) → text ≡ part_text gtrid ++ (44 ∷ next) → IsBytes gtrid
     → length gtrid ≤ 64
     → bqual_next (record { items = gtrid }) (unblank next) ≡ answer → gtrid_next (unblank text) ≡ answer
@@ -277,7 +277,8 @@ first_back gtrid text next answer e all fits more =
     ap gtrid_next blank ∙ ap (gtrid_found text) part
     ∙ ap (λ t. after_gtrid (record { items = gtrid }) (44 ∷ next) (comma_next t)) (comma_unblank next) ∙ more
 
--- the text of an identifier with more behind it, written out part by part
+-- the canonical text of an identifier with more behind it is its parts, with a comma (44) behind gtrid and behind
+-- bqual, and then what is behind
 pub xid_text-append : (xid : Xid) (rest : List ℕ) → xid_text xid ++ rest
     ≡ part_text xid.gtrid.items ++ (44 ∷ (part_text xid.bqual.items ++ (44 ∷ (decimal xid.format_id ++ rest))))
 xid_text-append xid rest =

@@ -20,7 +20,7 @@ abbrev pub is_word : ℕ → Bool
 is_word byte = (nat_le 65 byte && nat_le byte 90) || (nat_le 97 byte && nat_le byte 122) ||
     (nat_le 48 byte && nat_le byte 57) || byte == 95 || byte == 36 || nat_le 128 byte
 
--- the bytes of each kind
+-- whether the byte is of the kind
 unfoldable pub belongs : ByteClass → ℕ → Bool
 belongs Blank byte = is_blank byte
 belongs Word byte = is_word byte
@@ -49,11 +49,11 @@ unblank text = behind (belongs Blank) text
 abbrev pub run : List ℕ → List ℕ
 run text = front (belongs Word) text
 
--- the rest of the text behind its first run of word bytes
+-- the rest of the text behind the word bytes that it begins with; all of it if it begins with none
 abbrev pub after_run : List ℕ → List ℕ
 after_run text = behind (belongs Word) text
 
--- the text doesn't begin with a byte that passes p
+-- the text is empty, or its first byte doesn't pass p
 abbrev pub StartsNo : (ℕ → Bool) → List ℕ → Type 0
 StartsNo p [] = Unit {0}
 StartsNo p (byte ∷ text) = p byte ≡ false

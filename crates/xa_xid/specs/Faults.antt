@@ -1,5 +1,7 @@
 -- Why a text begins with no literal, no number or no identifier: the table of faults, a constructor for each row.
 --     number_of_literal_fault       the number of a fault
+--     AreHex digits                 there are only hexadecimal digits
+--     HexRunAt text digits rest     the text begins with `0x` and these digits, and `rest` comes after them
 --     FaultyLiteral text fault      the text begins with no literal of at most `text_bytes` bytes, and this is the
 --                                   first fault that holds
 --     NumeralAt text value rest     the text begins with the digits of a number, of any size, and `rest` comes after
@@ -32,12 +34,13 @@ number_of_literal_fault NumberTooLarge = 5
 abbrev pub AreHex : List ℕ → Type 0
 AreHex digits = IsTrue (only (belongs Hexadecimal) digits)
 
--- the text begins with `0x` and one or more hexadecimal digits, and then comes no word byte
+-- the text is `0x`, one or more hexadecimal digits, `digits`, and `rest`, which doesn't begin with a word byte
 pub data HexRunAt : List ℕ → List ℕ → List ℕ → Type 0 where
   hex_run_at : (digit : ℕ) (digits rest : List ℕ) → AreHex (digit ∷ digits) → StartsNo (belongs Word) rest
       → HexRunAt (48 ∷ 120 ∷ digit ∷ digits ++ rest) (digit ∷ digits) rest
 
--- the rows of the table, each with what keeps those before it from holding (own rule)
+-- the text begins with no literal of at most `text_bytes` bytes, for this reason: the rows of the table, each with what
+-- keeps those before it from holding (own rule)
 pub data FaultyLiteral : List ℕ → LiteralFault → Type 0 where
   no_closing_quote : (quote : ℕ) (text : List ℕ) → IsTrue (is_quote quote)
       → ((bytes rest : List ℕ) → QuotedAt quote text bytes rest → ⊥)
@@ -58,7 +61,8 @@ pub data FaultyLiteral : List ℕ → LiteralFault → Type 0 where
   no_form : (text : List ℕ) → opens_text text ≡ false → opens_hex text ≡ false
       → ((digits rest : List ℕ) → HexRunAt text digits rest → ⊥) → FaultyLiteral text NotALiteral
 
--- only decimal digits, or `0x` and one or more hexadecimal digits. No word byte follows, and the value has no limit
+-- the text begins with one or more decimal digits, or `0x` and one or more hexadecimal digits, of this value, which has
+-- no limit. `rest` comes after them, and doesn't begin with a word byte
 pub data NumeralAt : List ℕ → ℕ → List ℕ → Type 0 where
   decimal_numeral : (digit : ℕ) (digits rest : List ℕ) → IsTrue (only (belongs Decimal) (digit ∷ digits))
       → StartsNo (belongs Word) rest
@@ -66,14 +70,15 @@ pub data NumeralAt : List ℕ → ℕ → List ℕ → Type 0 where
   hexadecimal_numeral : (text digits rest : List ℕ) → HexRunAt text digits rest
       → NumeralAt text (digits_value 16 digits) rest
 
--- no number at all, or one above 2^64-1 (own rule)
+-- the text begins with no number at all, or with one above 2^64-1 (own rule)
 pub data FaultyNumber : List ℕ → LiteralFault → Type 0 where
   no_number : (text : List ℕ) → ((value : ℕ) (rest : List ℕ) → NumeralAt text value rest → ⊥)
       → FaultyNumber text NotALiteral
   too_large : (text : List ℕ) (value : ℕ) (rest : List ℕ) → NumeralAt text value rest → 2 ^ 64 ≤ value
       → FaultyNumber text NumberTooLarge
 
--- the gtrid, the bqual or the formatID is faulty, and no token before it is (own rule)
+-- the gtrid, the bqual or the formatID is faulty, and no token before it is; the last list is the text from the faulty
+-- one on (own rule)
 pub data FaultyXid : List ℕ → LiteralFault → List ℕ → Type 0 where
   faulty_gtrid : (text : List ℕ) (fault : LiteralFault) → FaultyLiteral (unblank text) fault
       → FaultyXid text fault (unblank text)

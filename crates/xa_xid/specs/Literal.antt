@@ -1,7 +1,7 @@
 -- Literals: a text literal, hexadecimal digits in quotes, and a run of hexadecimal digits.
 --     LiteralAt text bytes rest      the text begins with a literal of the bytes, and `rest` comes after it
 --     TextAt text found rest         the same of a literal of at most `text_bytes` bytes
---     Between Spelled text at value next     the text from `at` up to `next` is spelled so
+--     Between Spelled text at value next     the text spells the value from `at` up to `next`
 --     literal_ahead text             the literal that a text begins with, and the text after it, or its fault
 --     literal_from text at           the same at a place, and the place after the literal
 --     evened digits                  an odd number of digits with a 0 in front
@@ -33,7 +33,7 @@ is_quote byte = byte == 39 || byte == 34
 abbrev pub is_x : ℕ → Bool
 is_x byte = byte == 88 || byte == 120
 
--- the text begins with a quote
+-- the text begins with a quote, ' or "
 abbrev pub opens_text : List ℕ → Bool
 opens_text [] = false
 opens_text (first ∷ _) = is_quote first
@@ -59,18 +59,18 @@ pub data LiteralAt : List ℕ → List ℕ → List ℕ → Type 0 where
       → IsTrue (only (belongs Hexadecimal) (digit ∷ digits)) → StartsNo (belongs Word) rest
       → LiteralAt (48 ∷ 120 ∷ digit ∷ digits ++ rest) bytes rest
 
--- a literal of at most `text_bytes` bytes
+-- the text begins with a literal of at most `text_bytes` bytes, and `rest` comes after it
 pub record TextAt (text : List ℕ) (found : Text) (rest : List ℕ) : Type 0 where
   pub literal : LiteralAt text found.items rest
   pub fits : length found.items ≤ text_bytes
 
--- a spelling, between two places in one text
+-- the text from `at` on spells the value, as `Spelled` has it, and the rest after that is the text from `next` on
 pub record Between {Value : Type 0} (Spelled : List ℕ → Value → List ℕ → Type 0) (text : List ℕ) (at : ℕ)
     (value : Value) (next : ℕ) : Type 0 where
   pub within : next ≤ length text
   pub spelled : Spelled (drop at text) value (drop next text)
 
--- the text of these bytes, if they are at most `text_bytes`
+-- the text of these bytes; none if they are more than `text_bytes`
 unfoldable pub kept : List ℕ → Option Text
 kept bytes = if nat_le (length bytes) text_bytes then Some (record { items = bytes }) else None
 
@@ -98,7 +98,7 @@ hex_in_quotes_of digits (byte ∷ rest) =
     if nat_lt text_digits (length digits) then Err TooLong else
     decoded digits rest
 
--- the digits of a run that is `0x` and one or more hexadecimal digits
+-- the digits of a run that is `0x` and one or more hexadecimal digits; none of any other run
 abbrev pub hex_digits_of : List ℕ → Option (List ℕ)
 hex_digits_of (zero_digit ∷ letter ∷ digit ∷ digits) =
     if zero_digit == 48 && letter == 120 && only (belongs Hexadecimal) (digit ∷ digits) then Some
@@ -110,7 +110,7 @@ abbrev pub hex_run_of : Option (List ℕ) → List ℕ → Reading Text
 hex_run_of None rest = Err NotALiteral
 hex_run_of (Some digits) rest = if nat_lt text_digits (length digits) then Err TooLong else decoded (evened digits) rest
 
--- the literal that a text begins with, or the first fault that holds
+-- the literal that a text begins with, and the text after it, or the first fault that holds
 unfoldable pub literal_ahead : List ℕ → Reading Text
 literal_ahead text =
     if opens_text text then text_literal_of (read_in_quotes (slice_index text 0) Plain (drop 1 text)) else
@@ -123,6 +123,6 @@ abbrev pub placed : {Value : Type 0} → List ℕ → Reading Value → Result (
 placed text (Ok (value, rest)) = Ok (value, length text - length rest)
 placed text (Err fault) = Err fault
 
--- the literal at a place, and the place after it
+-- the literal at a place, and the place after it, or its fault
 abbrev pub literal_from : List ℕ → ℕ → Result (Text × ℕ) LiteralFault
 literal_from text at = placed text (literal_ahead (drop at text))

@@ -12,7 +12,7 @@ use Rattle.std.specs.Coded.{Coded, code_by, coded×, coded_ℕ}
 use Rattle.arrayvec.specs.ArrayVec.{ArrayVec, array_vec_code}
 use Rattle.xa_xid.specs.declared.xid.Xid.{Xid}
 
--- a gtrid, a bqual or a value, of at most 64 bytes
+-- a gtrid, a bqual or a value. The type sets no limit; those of a program have at most 64 bytes (`text_bytes`)
 abbrev pub Text : Type 0
 Text = ArrayVec ℕ
 

@@ -27,7 +27,7 @@ no_text = record { items = [] }
 abbrev pub xid_of : Text → Text → ℕ → Xid
 xid_of gtrid bqual format_id = record { format_id = format_id; gtrid = gtrid; bqual = bqual }
 
--- the text begins with a comma
+-- the text begins with a comma, and `rest` comes after it
 abbrev pub CommaAt : List ℕ → List ℕ → Type 0
 CommaAt text rest = text ≡ 44 ∷ rest
 
@@ -59,7 +59,7 @@ abbrev pub comma_next : List ℕ → Option (List ℕ)
 comma_next [] = None
 comma_next (byte ∷ text) = if byte == 44 then Some text else None
 
--- a formatID after the second comma
+-- reading goes on with the formatID, after the second comma
 abbrev pub format_id_next : Text → Text → List ℕ → Parse
 format_id_next gtrid bqual text = elim (number_ahead text) [
   | Ok found ↦ Ok (xid_of gtrid bqual found.0, found.1)
@@ -71,7 +71,7 @@ abbrev pub after_bqual : Text → Text → List ℕ → Option (List ℕ) → Pa
 after_bqual gtrid bqual rest None = Ok (xid_of gtrid bqual 1, rest)
 after_bqual gtrid bqual rest (Some text) = format_id_next gtrid bqual (unblank text)
 
--- a bqual after the first comma
+-- reading goes on with the bqual, after the first comma
 abbrev pub bqual_next : Text → List ℕ → Parse
 bqual_next gtrid text = elim (literal_ahead text) [
   | Ok found ↦ after_bqual gtrid found.0 found.1 (comma_next (unblank found.1))
@@ -90,7 +90,8 @@ gtrid_next text = elim (literal_ahead text) [
   | Err fault ↦ Err (fault, text)
 ]
 
--- the identifier that a text begins with, blanks before it skipped
+-- the identifier that a text begins with, blanks before it skipped, and the text after it; or its fault and the text
+-- from there
 unfoldable pub xid_ahead : List ℕ → Parse
 xid_ahead text = gtrid_next (unblank text)
 
@@ -103,16 +104,18 @@ places text (Err (fault, rest)) = Err (fault, length text - length rest)
 abbrev pub xid_from : List ℕ → ℕ → Result (Xid × ℕ) (LiteralFault × ℕ)
 xid_from text at = places text (xid_ahead (drop at text))
 
--- a gtrid, bqual, key or value: `X''` if it is empty, else `0x` and two small digits for each byte (own rule)
+-- the canonical text of a gtrid, bqual, key or value: `X''` if it is empty, else `0x` and two digits for each byte,
+-- with small letters (own rule)
 abbrev pub part_text : List ℕ → List ℕ
 part_text [] = codes "X''"
 part_text (byte ∷ bytes) = codes "0x" ++ encode_lower (byte ∷ bytes)
 
--- the three parts with commas between them, no blanks (own rule)
+-- the canonical text of an identifier: its three parts with commas between them, no blanks (own rule)
 abbrev pub xid_text : Xid → List ℕ
 xid_text xid = part_text xid.gtrid.items ++ (44 ∷ (part_text xid.bqual.items ++ (44 ∷ decimal xid.format_id)))
 
--- both texts are at most `text_bytes` bytes and the formatID is below 2^64; this holds of every `Xid` of a program
+-- gtrid and bqual are at most `text_bytes` bytes each, and the formatID is below 2^64; this holds of every `Xid` of a
+-- program
 pub record IsWritable (xid : Xid) : Type 0 where
   pub gtrid_bytes : IsBytes xid.gtrid.items
   pub gtrid_fits : length xid.gtrid.items ≤ text_bytes

@@ -65,7 +65,7 @@ pub fn skip_blanks(text: &[u8]) -> &[u8]
     ByteClass::Blank.split(text).1
 }
 
-/// Returns the text from a place on.
+/// Returns the text from the index `at` on.
 ///
 /// `at` is in `[0, length]`. Takes no memory. Doesn't wait.
 pub(crate) fn text_from(text: &[u8], at: usize) -> &[u8]

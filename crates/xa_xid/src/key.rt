@@ -18,8 +18,8 @@ use std::marker::Model;
 /// Own rule: docs/STATEMENTS.md#rows-and-locks.
 #[derive(Debug, Drop)]
 pub struct Key {
-    /// The first eight bytes as one number. It decides most comparisons, and a search among rows is mostly
-    /// these.
+    /// The first eight bytes as one number. It decides most comparisons of keys, and a search among rows is mostly
+    /// comparisons.
     head: u64,
     /// The key, 1 to 64 bytes.
     bytes: Bytes,
@@ -36,7 +36,7 @@ impl Model for Key {
     ghost invariant = { λ k. (0 < length k.bytes.items) × (k.head ≡ head_of k.bytes.items) };
 }
 
-/// Returns the byte at a place of a text, or 0 past its end.
+/// Returns the byte at the index `place` of a text, or 0 past the text's end.
 fn byte_or_zero(text: &[u8], place: usize) -> u8
     ensures { result ≡ slice_index text.now place }
 {
@@ -61,8 +61,8 @@ fn head_of(text: &[u8]) -> u64
     ])
 }
 
-/// Compares two texts that have the same head. If one of them ends within it, the shorter text is the
-/// longer one's beginning, so the lengths decide.
+/// Compares two texts whose heads are equal: their first eight bytes, with zeros for missing ones. If one of the texts
+/// has at most eight bytes, the shorter text is the longer one's beginning, so the lengths decide.
 fn order_behind(left: &[u8], right: &[u8]) -> Ordering
     requires { head_of left.now ≡ head_of right.now }
     ensures { result ≡ bytes_cmp left.now right.now }
@@ -80,7 +80,7 @@ fn order_behind(left: &[u8], right: &[u8]) -> Ordering
     left.cmp(right)
 }
 
-/// Compares two texts by their bytes. Their heads, which are given, decide if they differ.
+/// Compares two texts by their bytes. Their heads, as `head_of` returns them, are given, and decide if they differ.
 fn order_of(left_head: u64, left: &[u8], right_head: u64, right: &[u8]) -> Ordering
     requires left { left_head ≡ head_of left.now }
     requires right { right_head ≡ head_of right.now }

@@ -52,8 +52,8 @@ pub fn order_of_keys(left_key: &Key, right_key: &Key) -> Ordering
 
 /// States that reading literals and their grammar agree.
 ///
-/// A text is read as a literal only if it begins with that literal, of at most 64 bytes. A text that begins
-/// with a literal is read as its bytes, or is too long. A text begins with at most one literal of at most
+/// A text is read as a literal only if it begins with that literal, of at most 64 bytes. If a text begins with a
+/// literal, that literal's bytes are read, or it is found too long. A text begins with at most one literal of at most
 /// 64 bytes.
 ///
 /// Takes no memory. Doesn't wait.
@@ -124,7 +124,7 @@ pub fn faults_are_the_table()
 
 /// States that the canonical text of an identifier is read as that identifier.
 ///
-/// Anything may follow the text, except a byte of a word. Takes no memory. Doesn't wait.
+/// Anything may follow the text, except a word byte right after it. Takes no memory. Doesn't wait.
 pub fn written_xid_is_read_back(xid: &Xid)
     // Proved (statements, written-xid-is-read-back): A written identifier is read back as the same
     //   identifier, if no letter, digit, `_`, `$` or byte from 128 to 255 follows it.
@@ -134,7 +134,7 @@ pub fn written_xid_is_read_back(xid: &Xid)
     is_writable(xid);
 }
 
-/// States that the parts of every identifier are bytes, at most 64 each.
+/// States that the gtrid and the bqual of every identifier are at most 64 bytes each, and its formatID is below 2^64.
 ///
 /// Takes no memory. Doesn't wait.
 pub fn is_writable(xid: &Xid)

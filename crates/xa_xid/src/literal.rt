@@ -73,7 +73,8 @@ fn begins_hex(text: &[u8]) -> bool
     text.len() >= 2 && (text[0] == b'X' || text[0] == b'x') && text[1] == b'\''
 }
 
-/// Reads the hexadecimal digits after `X'`, up to the closing quote; returns their bytes and the text after it.
+/// Reads the hexadecimal digits after `X'`, up to the closing quote; returns the bytes that they spell and the text
+/// after the quote.
 fn hex_in_quotes(body: &[u8]) -> Result<(Bytes, &[u8]), LiteralFault>
     ensures value { let digits = front (belongs ByteClass.Hexadecimal) body.now in
         let rest = behind (belongs ByteClass.Hexadecimal) body.now in
@@ -98,7 +99,8 @@ fn hex_in_quotes(body: &[u8]) -> Result<(Bytes, &[u8]), LiteralFault>
     }
 }
 
-/// Reads a run of word bytes that is `0x` and hexadecimal digits; returns their bytes and the text after it.
+/// Reads the run of word bytes that the text begins with, as `0x` and hexadecimal digits; returns the bytes that they
+/// spell and the text after the run. Errors: `NotALiteral` for any other run, `TooLong` for more than 64 bytes.
 fn hex_run(text: &[u8]) -> Result<(Bytes, &[u8]), LiteralFault>
     ensures value { let digits = hex_digits_of (run text.now) in
         MatchResult result
@@ -151,8 +153,8 @@ fn even_digits(digits: &[u8]) -> ArrayVec<u8, 128>
     even
 }
 
-/// Returns the bytes that hexadecimal digits spell, with `rest`, the text after the literal. The digits are even
-/// in number; else the fault is `NotALiteral`.
+/// Returns the bytes that hexadecimal digits spell, with `rest`, the text after the literal. The fault is `NotALiteral`
+/// if the digits are odd in number or one isn't hexadecimal; no caller gives such.
 fn bytes_of<'a>(digits: &[u8], rest: &'a [u8]) -> Result<(Bytes, &'a [u8]), LiteralFault>
     requires { length digits.now ≤ text_digits }
     ensures value { MatchResult result

@@ -34,7 +34,7 @@ impl Kept {
         }
     }
 
-    /// Adds one byte. From the 65th on, no bytes are kept any more.
+    /// Adds one byte. The 65th drops all bytes, and no later one is kept.
     fn add(&mut self, byte: u8)
         ensures { (xs : List ℕ) → self.old.bytes ≡ kept xs → self.new.bytes ≡ kept (xs ++ byte ∷ []) }
     {
@@ -60,19 +60,20 @@ impl Kept {
         }
     }
 
-    /// Adds what a backslash and a letter stand for.
+    /// Adds what a backslash and a letter stand for, as in MySQL.
     #[tactic(auto, unfolding(crate::specs::Quoted::escaped))]
     fn add_escaped(&mut self, letter: u8)
         ensures { (xs : List ℕ) → self.old.bytes ≡ kept xs → self.new.bytes ≡ kept (xs ++ escaped letter) }
     {
         match letter {
             b'0' => self.add(0),
+            // 8 is a backspace; 26, at `Z`, is Control+Z.
             b'b' => self.add(8),
             b'n' => self.add(b'\n'),
             b'r' => self.add(b'\r'),
             b't' => self.add(b'\t'),
             b'Z' => self.add(26),
-            // As in MySQL, a backslash before `%` or `_` stays.
+            // A backslash before `%` or `_` stays.
             b'%' => {
                 self.add(b'\\');
                 self.add(b'%');
@@ -125,6 +126,7 @@ pub fn text_literal(quote: u8, body: &[u8]) -> Result<(Bytes, &[u8]), LiteralFau
             }
         }
     }
+    // The text has ended. In mode `Quote` its last byte closed the literal; in the other modes nothing did.
     match mode {
         Mode::Quote => kept.end(text_from(body, body.len())),
         Mode::Plain | Mode::Escape => Err(LiteralFault::Unclosed),

@@ -45,7 +45,8 @@ pub enum Statement {
     Disconnect,
 }
 
-// An arm of `copy` with a large value is a function of its own, so that only the arm that is taken has a place to fill.
+// An arm of `copy` with a large value is a function of its own, so that memory for one is filled only in the arm that
+// is taken.
 
 /// Copies `XA START`.
 fn start_of(xid: &Xid) -> Statement

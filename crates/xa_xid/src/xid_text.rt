@@ -74,8 +74,8 @@ fn read_gtrid(text: &[u8]) -> Parse<'_>
     }
 }
 
-/// Reads the bqual and what follows of an xid with this gtrid; returns the xid with the text after it. If no comma
-/// follows the bqual, the formatID is 1. After a fault it returns the text from the faulty token on.
+/// Reads the bqual and, if a comma follows, the formatID of an xid with this gtrid; returns the xid with the text after
+/// it. Without a comma the formatID is 1. After a fault it returns the text from the faulty token on.
 fn read_bqual(gtrid: Bytes, text: &[u8]) -> Parse<'_>
     ensures value { MatchResult result
         (λ found. bqual_next gtrid text.now ≡ Ok (found.0, found.1.now))
@@ -123,7 +123,7 @@ fn read_format_id(gtrid: Bytes, bqual: Bytes, text: &[u8]) -> Parse<'_>
     }
 }
 
-/// Returns the text after a comma, if the next token is one, and else None.
+/// Returns the text after a comma, if the first byte that isn't a blank is one; else `None`.
 fn after_comma(text: &[u8]) -> Option<&[u8]>
     ensures value { option_copied result ≡ comma_next (unblank text.now) }
     ensures within { IfSome result (λ next. length next.now ≤ length text.now) }

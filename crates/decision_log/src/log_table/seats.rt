@@ -41,8 +41,9 @@ impl<R: LogWords> LogTable<R> {
         self.inner.shared.join_seat::<Seating>(seat, other);
     }
 
-    /// Loads word 0 at a seat with two passes, and returns it. The first pass stays as it was. The second has
-    /// then seen all that the first has. If it had seen less, the word is `newest` of what it has seen now.
+    /// Loads word 0 at a seat with two passes, and returns it. The first pass stays as it was. The second has then seen
+    /// all that the first has. If it had seen less, the word is the one that stands for what it has seen now
+    /// (`R.newest`).
     ///
     /// Takes no memory. Doesn't wait.
     pub fn load_for_pair(&self, seat: &mut Seat<Entry, SeatView>) -> u64
@@ -91,8 +92,8 @@ impl<R: LogWords> LogTable<R> {
         self.inner.shared.split_seat::<Seating>(seat)
     }
 
-    /// Lets two passes meet, and returns word 0. The first pass stays as it was. The second has then seen all
-    /// that the first has. If it had seen less, the word is `newest` of what it has seen now.
+    /// Lets two passes meet, and returns word 0. The first pass stays as it was. The second has then seen all that the
+    /// first has. If it had seen less, the word is the one that stands for what it has seen now (`R.newest`).
     ///
     /// Takes no memory. Doesn't wait.
     pub fn meet(&self, first: &mut Seat<Entry, SeatView>, second: &mut Seat<Entry, SeatView>) -> u64

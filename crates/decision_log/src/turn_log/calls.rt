@@ -49,6 +49,11 @@ impl DecisionLog for TurnLog {
         self.read_entry(&mut pass.seat, at)
     }
 
+    /// Appends an entry of the pass's own session, if the pass has seen the whole history.
+    ///
+    /// Errors, in this order: `Full` if the pass has seen as many entries as the log can have. `Busy` if another pass
+    /// has the turn. `Overtaken` if the history had more entries than the pass had seen; the pass has then seen
+    /// `front`.
     fn try_add(&self, pass: &mut TurnPass, entry: &Entry) -> Result<(), AddFault> {
         // The history only grows, so a log that was seen full is still full.
         if pass.front == self.capacity {
@@ -59,7 +64,7 @@ impl DecisionLog for TurnLog {
         if had != 0 {
             return Err(AddFault::Busy);
         }
-        // With the turn no other pass adds, so this count holds until the turn is given back.
+        // While this pass has the turn no other appends, so this count holds until the turn is given back.
         let front = self.load_count(&mut pass.seat);
         // Another pass appended since this one looked.
         if front != pass.front {
@@ -67,6 +72,8 @@ impl DecisionLog for TurnLog {
             pass.front = front;
             return Err(AddFault::Overtaken { front });
         }
+        // The words go first: the new count makes their row one of the history. The turn goes last, since others may
+        // append from then on.
         self.write_entry(&mut pass.seat, front, entry);
         self.store_count(&mut pass.seat, entry, front + 1);
         self.give_turn(&mut pass.seat);
@@ -74,6 +81,7 @@ impl DecisionLog for TurnLog {
         Ok(())
     }
 
+    /// Lets two passes meet: the second has then seen all that the first has. The first stays as it is.
     fn meet(&self, first: &mut TurnPass, second: &mut TurnPass) {
         let count = self.table.meet(&mut first.seat, &mut second.seat);
         // The count was loaded at a seat that knows both passes. If the second had seen less, it has now seen as many

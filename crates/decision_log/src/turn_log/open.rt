@@ -46,6 +46,8 @@ impl SeatedPass for TurnPass {
 
     ghost known = { known_of };
 
+    /// Makes the pass of the session `number` at its seat, with nothing seen. It has no table, so it takes no memory,
+    /// and needs no sizes.
     fn at_seat(
         _alloc: Global,
         seat: Seat<Entry, SeatView>,

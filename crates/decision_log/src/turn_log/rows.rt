@@ -24,6 +24,7 @@ impl TurnLog {
         ensures read { (entry : Entry) → slice_get (pass_view seat.old).known.seen place ≡ Some entry
             → IsEntry entry × (result ≡ words_of entry) }
     {
+        // The rows lie one after another, after the count and the turn.
         let row = ROWS + place as usize * WORDS;
         let mut words = [0; WORDS];
         for index in 0..WORDS {

@@ -9,8 +9,8 @@ pub struct Turns;
 
 // Proved (log, one-history): Whatever the schedule of threads, what the passes of a log have seen are
 //   prefixes of one history, which grows only at its end. Each step keeps the rule of its log that says so:
-//   `specs/TurnRule.antt` (`rows`) or `specs/ChainRule.antt` (`cells`), and `specs/LogRule.antt` (`seats`).
-//   Premises: atomic steps are sequentially consistent, and a pass came from this log's `open`.
+//   `specs/TurnRule.antt` (`rows`), or in `chain_log` `specs/ChainRule.antt` (`cells`), and `specs/LogRule.antt`
+//   (`seats`). Premises: atomic steps are sequentially consistent, and a pass came from this log's `open`.
 impl TableRule<Entry, SeatView, Sizes> for Turns {
     ghost use Rattle.decision_log.specs.Seats.{all_passes};
     ghost use Rattle.decision_log.specs.TurnRule.{TurnRule};

@@ -46,7 +46,7 @@ impl TurnLog {
         self.table.load::<SeeAll>(seat, COUNT)
     }
 
-    /// Loads a word of the row of an entry that was seen.
+    /// Loads the word `word` of the table, which is in the row of an entry that was seen.
     pub(super) fn load_word(&self, seat: &mut Seat<Entry, SeatView>, word: usize) -> u64
         requires seat { IsSeat self.now seat.old }
         requires word { (0 < word) × (word < row_at self.now.capacity) }
@@ -62,7 +62,8 @@ impl TurnLog {
         self.table.load::<ReadWord>(seat, word)
     }
 
-    /// Tries to take the turn. Returns the session that had it, or 0.
+    /// Tries to take the turn for the pass, whose session is `number`. Returns 0 if the pass has the turn now, and
+    /// else the session that had it.
     pub(super) fn take_turn(&self, seat: &mut Seat<Entry, SeatView>, number: u64) -> u64
         requires seat { IsSeat self.now seat.old }
         requires number { number ≡ (pass_view seat.old).known.number }
@@ -75,7 +76,7 @@ impl TurnLog {
             .compare_exchange::<TakeTurn>(seat, TURN, 0, number)
     }
 
-    /// Stores a word of an entry into the row at the count.
+    /// Stores `new`, a word of an entry, as the word `word` of the table, which is in the row at the count.
     pub(super) fn store_word(&self, seat: &mut Seat<Entry, SeatView>, word: usize, new: u64)
         requires seat { IsSeat self.now seat.old }
         requires fresh { (pass_view seat.old).turn ≡ Fresh }
@@ -90,11 +91,13 @@ impl TurnLog {
             → word ≡ row_at (length (pass_view seat.old).known.seen) + index
             → pass_view seat.new ≡ drafted (pass_view seat.old) index new }
     {
-        // The count was loaded with the turn, so it is still the same, and no other pass stores in its row.
+        // The pass has had the turn since it loaded the count. So that is still the same, and no other pass stores in
+        // the row at it.
         self.table.store::<DraftWord>(seat, word, new)
     }
 
-    /// Stores the count: the entry is appended.
+    /// Stores the count, `new`, which is one higher than before: `entry`, whose words are in the row, is appended by
+    /// this. Only the proof needs `entry`.
     pub(super) fn store_count(&self, seat: &mut Seat<Entry, SeatView>, entry: &Entry, new: u64)
         requires seat { IsSeat self.now seat.old }
         requires fresh { (pass_view seat.old).turn ≡ Fresh }
