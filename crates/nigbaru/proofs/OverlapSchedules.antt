@@ -58,7 +58,7 @@ in_or_out (suc count) = elim (cases_lt count 16) [
       (λ is. absurd (omega (arith, is.1)))
 ]
 
--- at the end of the history, if no session has a line left, nothing is left to be written down
+-- at the end of the history, if no session has a line left, the lines are written down by no events
 done : (base : State) (history : List Entry) (lines : Lines) (config : Config) → StandsWithin lines config
     → config.state ≡ state_at base history (length history)
     → ((session : ℕ) → IsSession session → lines session ≡ []) → Goes lines config

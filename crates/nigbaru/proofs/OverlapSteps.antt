@@ -71,7 +71,7 @@ effect_now : (config : Config) (session : ℕ) (line : RunLine)
 unfolding effect_of carried_out
 effect_now config session line found = ap (λ (o : Option ClientState). carried_out o config session) found
 
--- the call of a session that has its answer returns what the answer shows
+-- the call of a session that has its answer can return what shows that answer
 return_now : (config : Config) (session : ℕ) (line : RunLine) (answer : Answer)
     → slice_get config.clients session ≡ Some (Answered answer)
     → shows_answer line.seen answer ≡ true
@@ -81,7 +81,7 @@ return_now config session line answer found shows =
     ap (λ (o : Option ClientState). returned o config session line.seen) found
     ∙ ap (λ b. cond b (Some (with_client config session Idle)) None) shows
 
--- an idle session calls for its next line
+-- an idle session can call for the statement of a line
 call_now : (config : Config) (session : ℕ) (line : RunLine) → slice_get config.clients session ≡ Some Idle
     → observed config (Call session (Given line.statement))
     ≡ Some (with_client config session (Called (Given line.statement)))
@@ -311,7 +311,7 @@ begins (suc count) within lines config have =
           (one.back (first_calls count lines ++ events) (all.back events run));
     }
 
--- each element of a repeated one is that one
+-- each element of a list of `count` times `x` is `x`
 get_replicate : {A : Type 0} (count place : ℕ) (x : A) → place < count
     → slice_get (replicate count x) place ≡ Some x
 get_replicate zero place x within = absurd (omega arith)

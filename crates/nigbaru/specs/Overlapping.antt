@@ -1,5 +1,5 @@
 -- How the runs of a race are written down as a record of overlapping calls.
--- Every rule here is the project's own: docs/PROOF.md#the-judge.
+-- Every rule here is the project's own: docs/PROOF.md#from-one-call-to-linearizability.
 --     RunLine               a statement of a run, its answer, and what the record shows of that answer
 --     Lines                 the lines of each session
 --     next_call             the call for the first line of a list
@@ -24,7 +24,7 @@ use Rattle.xa_judge.specs.declared.event.Event.TheVariants.{Call, Return}
 use Rattle.xa_judge.specs.Explained.{shows_answer, IsSession, Explained}
 use Rattle.xa_races.specs.LinesLeft.{with_lines}
 
--- a statement of a run, its answer in the race, and what the record shows as its return
+-- a statement of a run, its answer in the race, and its return in the record, which shows the reply of that answer
 pub record RunLine : Type 0 where
   pub statement : Statement
   pub answer : Answer
@@ -54,8 +54,8 @@ pub data Overlap : Lines → List Event → Type 0 where
       → Overlap (with_lines lines session rest) events
       → Overlap lines (Return session line.seen ∷ (next_call session rest ++ events))
 
--- written down as overlapping calls, in some order of the returns, the lines make a record that is explained from this
--- base
+-- written down as overlapping calls of up to 16 sessions, in some order of the returns, the lines make a record that is
+-- explained from this base
 abbrev pub IsExplainedOverlap : State → Lines → Type 0
 IsExplainedOverlap base lines =
     (events : List Event) × Overlap lines events × Explained base (first_calls 16 lines ++ events)

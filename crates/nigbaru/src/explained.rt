@@ -1,4 +1,4 @@
-//! Whatever a race returns is explained: a law, stated as the contract of a function that does nothing.
+//! What a race of fresh sessions answers is explained: a law, stated as the contract of a function that does nothing.
 ghost use Rattle.std.specs.Prelude.{◌≤◌, List, length, map};
 ghost use Rattle.xa_server.specs.State.{State};
 ghost use Rattle.decision_log.specs.Known.{AllOf};
@@ -14,10 +14,10 @@ ghost use Rattle.nigbaru.specs.Overlapping.{Lines, AreFreshRuns, AreLinesOf, IsE
 /// shows the answer that the race gave, and the session calls for its next statement right after it. Some
 /// order of the returns makes such a record explained, from the state in which the race began. Nothing is
 /// claimed about other orders.
-/// Premises: there are at most 16 runs, their passes have seen nothing and added nothing, and each entry of
-/// the history is of one of their sessions. A race of a script shows these premises itself. Sessions that did
-/// something before the race aren't covered.
-/// Takes no memory. Doesn't wait. Own rule: docs/PROOF.md#the-judge.
+/// Premises: there are at most 16 runs, of the sessions 1, 2 and so on in this order, whose passes have seen
+/// nothing and added nothing, and each entry of the history is of one of these sessions. A race of a script
+/// shows these premises itself. Sessions that did something before the race aren't covered.
+/// Takes no memory. Doesn't wait. Own rule: docs/PROOF.md#from-one-call-to-linearizability.
 pub fn race_is_explained()
     // Proved (records, race-is-explained): The answers of a race of at most 16 fresh sessions, whose history
     //   has only their entries, are explained when they are written down as overlapping calls, in some order

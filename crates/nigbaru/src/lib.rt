@@ -6,9 +6,9 @@
 //! `specs/`, as in `Rattle.nigbaru.specs.store.Passes.{log_of}`. Read docs/RATTLE.md first.
 //!
 //! `race_is_explained` is a law that ties the judge to the store, the contract of a function that does nothing:
-//! whatever a race of fresh sessions returns, the judge's definition of an explained record accepts, once it is
+//! whatever a race of fresh sessions answers, the judge's definition of an explained record accepts, once it is
 //! written down as overlapping calls. Read `specs/Overlapping.antt` first: it says how a race becomes a record. Then
-//! read docs/PROOF.md#the-judge.
+//! read docs/PROOF.md#from-one-call-to-linearizability.
 #![tactic(auto)]
 
 pub mod conversation;

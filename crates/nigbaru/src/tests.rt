@@ -3,16 +3,16 @@
 //! sessions and coordinators over logs and stores are in `xa_store_tests`, and the program's in cases/.
 //!
 //! `lines` has the jobs that read lines, and `events` the judge on events without a text. `counted_races` and
-//! `long_races` race scripts and lists of statements, `sixteen` has sixteen threads over one store, and `sizes` the
-//! greatest store. Memory is there, so no call may report that it ran out; no contract says so. `scripts/sizes` does
-//! the same with all that the program can show.
+//! `long_races` race scripts and lists of statements, `sixteen` has sixteen threads over one store, whose history
+//! `replay` replays, and `sizes` the greatest store. Memory is there, so no call may report that it ran out; no
+//! contract says so. `scripts/sizes` does the same with all that the program can show.
 //!
-//! `texts` has the text of every fault, once, also of what stands below a store, and its number if no other test has
-//! it. Callers print these texts, and most of them reach no job of the program. No clause can name them, since the
+//! `texts` has the texts of faults, also of what stands below a store, and the numbers of those of races and scripts.
+//! Callers print these texts, and most of them reach no job of the program. No clause can name them, since the
 //! derive that writes them has no contract. `named` compares the limits and numbers that pages of docs/ state.
 //!
 //! `servers` says by example what `xa_server` means: copies, what a call lists, and the codes and texts of refusals.
-//! `opened` has how logs are opened.
+//! `opened` has how logs are opened, and the numbers of their faults and of those of sessions.
 
 mod counted_races;
 mod events;

@@ -1,7 +1,7 @@
--- What an act does: a request is carried out, and its session isn't open any more.
+-- What an act does: a request is carried out, and its session has no open request any more.
 --     ActsAs, acts_as              the request, and what becomes of the client
---     asked_closed, asked_acts     what is open was called for, also once one client is no more;  and after an act
---     answered_called, answered_gone  an answered client has no open call;  nor is it gone with one
+--     asked_closed, asked_acts     the hints name each open request, once one client has none any more;  after an act
+--     answered_called, answered_gone  an answered client has no open request;  nor is it gone with one
 use Rattle.std.proofs.Common.{◌≡◌, ◌⊎◌, ℕ, Option, Some, None, List, set, refl, ap, sym, ◌∙◌, subst, inl, inr}
 use Rattle.std.specs.Prelude.{slice_get}
 use Rattle.std.proofs.lemmas.Option.{none-some, same_Some}
@@ -21,9 +21,9 @@ use Rattle.xa_judge.proofs.Places.{same_number, get_written, get_apart}
 
 -- ---- acts
 
--- an act carries out a request, which the session has called for or which is its DISCONNECT. After it no call of the
--- session is open (`closed`, `gone`). It does the same in each configuration in which the session's client is the
--- same (`again`)
+-- an act carries out a request, which the session has called for or which is its DISCONNECT. After it the session has
+-- no request that can still take effect (`closed`, `gone`). It does likewise in each configuration in which the
+-- session's client is the same, whatever the state is (`again`)
 pub record ActsAs (old : Config) (session : ℕ) (act : Act) (new : Config) : Type 0 where
   pub request : Request
   pub client : Answer → ClientState
@@ -130,8 +130,8 @@ acts_as old new session ItsDisconnect leads = by (slice_get old.clients session)
         left_gone one f = cc
     by (Some Left) at e = absurd (none-some new e)
 
--- where the hints have the request of each open call (`AreAsked`), they still do once one client is replaced by one
--- without an open call, whatever the state is then
+-- where the hints name each open request (`AreAsked`), they still do once one client is replaced by one without an
+-- open request, whatever the state is then
 pub asked_closed : (hints : List Hint) (old : Config) (state : State) (session : ℕ) (was c : ClientState)
     → AreAsked hints old → slice_get old.clients session ≡ Some was
     → ((request : Request) → c ≡ Called request → ⊥) → ((request : Request) → c ≡ Gone (Some request) → ⊥)
@@ -156,7 +156,7 @@ asked_closed hints old state session was c asked at first second = record {
     shut request (inl is) = first request (same_Some c (Called request) (sym now ∙ is))
     shut request (inr is) = second request (same_Some c (Gone (Some request)) (sym now ∙ is))
 
--- where the hints have the request of each open call (`AreAsked`), they still do after an act
+-- where the hints name each open request (`AreAsked`), they still do after an act
 pub asked_acts : (hints : List Hint) (old new : Config) (session : ℕ) (act : Act) → AreAsked hints old
     → effect_of old session act ≡ Some new → AreAsked hints new
 asked_acts hints old new session act asked leads =
@@ -166,10 +166,10 @@ asked_acts hints old new session act asked leads =
     (a.client (answer_to old.state session a.request)) asked a.found
     (a.closed (answer_to old.state session a.request)) (a.gone (answer_to old.state session a.request)))
 
--- an answered client isn't one with an open call
+-- an answered client isn't one that has called and isn't answered
 pub answered_called : (answer : Answer) (request : Request) → Answered answer ≡ Called request → ⊥
 answered_called answer request e = cc
 
--- an answered client isn't one that is gone with an open call
+-- an answered client isn't one that is gone with an open request
 pub answered_gone : (answer : Answer) (request : Request) → Answered answer ≡ Gone (Some request) → ⊥
 answered_gone answer request e = cc

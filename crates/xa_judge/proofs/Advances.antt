@@ -97,7 +97,8 @@ reached_of base events trunk list one all has =
       runs = subst (λ c. LeadsThrough (opening_config base) events (trunk ++ place.1.path) c) place.4 reach;
     }
 
--- before a return: the answers that the session can have are those of the closed and settled configurations
+-- before a return: the answers that the session can have are those that it has in `ready`, which has the closed list's
+-- configurations once what it called for has taken effect
 answers_to : (old closed ready : List Configuration) (answers : List Answer) (session : ℕ) → Grows old closed
     → IsClosedBelow (length closed) (Some session) closed
     → ((one : Config) → Has closed one → Has ready (after_settling one session)) → KeepsReach closed ready

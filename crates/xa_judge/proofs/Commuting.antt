@@ -1,4 +1,4 @@
--- Statements of two sessions that don't touch the same branch nor the same row commute.
+-- A step of a session's branch commutes with a statement of another session that has nothing to do with it.
 --     untouched                    a branch that a statement doesn't name, and its session hasn't open, stays as it was
 --     beside_unowned               a session hasn't a branch open that it doesn't own
 --     held_alike, locked_alike     whether a row is held against a session, in two states;  exclusively
@@ -321,7 +321,7 @@ pub record IsAbout (state : State) (session : ℕ) (statement : Statement) (xid 
   pub beside : (other : Xid) → same_xid other xid ≡ false → IsBeside (association_of state session) other
 
 -- each row has the same committed value after both statements, in either order: `own` is the state after `one`,
--- `other` the one after `two`
+-- `other` the one after `two`, and `a` and `b` are what their sessions have open
 abbrev pub WriteAlike : State → State → State → Association → Statement → Association → Statement → Type 0
 WriteAlike state own other a one b two = (key : List ℕ) (found : Option Text)
     → written other a one key (written state b two key found) ≡ written own b two key (written state a one key found)
@@ -463,7 +463,7 @@ by_ending P (Put key value) xid is commit roll = absurd is
 by_ending P (Del key) xid is commit roll = absurd is
 by_ending P Disconnect xid is commit roll = absurd is
 
--- a row that nobody holds is locked by nobody
+-- if no branch but the session's own holds a row, no such branch holds it exclusively
 unlocked : (state : State) (a : Association) (key : List ℕ) → is_held_against state a key ≡ false
     → is_locked_against state a key ≡ false
 unfolding is_held_against is_locked_against
@@ -1131,7 +1131,7 @@ step_held state session other one two xid rows key step clear beside e = λ at.
           unheld_after state other two at key (λ row f. away_key row key (clear.apart key row its.1 f)) none ∙ sym none
     ]
 
--- the row that the step names has the same value after a clear statement of another session
+-- the row that the step names has the same committed value after a clear statement of another session
 step_value : (state : State) (session other : ℕ) (one two : Statement) (xid : Xid) (rows : List (List ℕ))
     (key : List ℕ) → LockLaw state → IsOwnStep state session one xid rows → IsClearOf one two xid rows
     → key_of one ≡ Some key → committed_value (after state other two) key ≡ committed_value state key
@@ -1168,7 +1168,7 @@ asked_one state session other one two xid rows law apart step clear = record {
     here at is = subst (λ x. map.get (after state other two).branches x ≡ map.get state.branches x) (sym is)
         (untouched state other two xid clear.avoids beside)
 
--- a step leaves the value of a row that it isn't about
+-- a step leaves the committed value of a row that isn't one of its rows
 step_leaves : (state : State) (session : ℕ) (one : Statement) (xid : Xid) (rows : List (List ℕ)) (key : List ℕ)
     → LockLaw state → IsOwnStep state session one xid rows
     → ((row : List ℕ) → IsAmong row rows → eq_by_cmp bytes_cmp key row ≡ false) → (found : Option Text)
@@ -1253,8 +1253,8 @@ written_same old new (Active own) (Del row) key found same = refl
 written_same old new (Idle own) (Del row) key found same = refl
 written_same old new a Disconnect key found same = refl
 
--- if the other statement doesn't name the step's branch, nor this row if the branch holds it, the row gets the same
--- value whether what the branch wrote to it is committed before that statement or after it
+-- if a statement doesn't name this branch, nor this row if the branch holds it, the row gets the same value whether
+-- what the branch wrote to it is committed before that statement or after it
 either_order : (state : State) (other : ℕ) (two : Statement) (xid : Xid) (key : List ℕ) (found : Option Text)
     → LockLaw state → Avoids two xid
     → ((mode : LockMode) (row : List ℕ) → lock_at state xid key ≡ Some mode → key_of two ≡ Some row

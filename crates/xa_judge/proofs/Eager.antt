@@ -1,11 +1,11 @@
--- A step of a session's branch that no other session has to do with until it returns takes effect at once.
+-- A step of a session's branch that no other session has to do with until it returns may take effect at once.
 --     exchanged                            an act of another session may come after the step
 --     seen_later, event_aside              an event of another session may, too;  what is open after it is still aside
 --     returns_past, returns_here           what a call returns, by the next event
 --     shown_there                          an answered call has the answer that its return shows
 --     goes_first                           the step may come first of all moves
 --     steps_first, steps_none              in what is kept the step is taken;  or that stays as it is
---     goes_stepped, goes_same, goes_past   orders go on from a list in which each has taken it;  or none has;  past two
+--     goes_stepped, goes_same, goes_past   orders go on from a list after steps;  after none;  over two lists
 --     StepsBoth, steps_more, steps_end     a loop in which each of a list takes its step
 use Rattle.std.proofs.Common.{◌≡◌, ◌≢◌, ◌⊎◌, ◌==◌, ℕ, true, false, cond, Option, Some, None, List, [], ◌∷◌, set, refl}
 use Rattle.std.proofs.Common.{ap, sym, ◌∙◌}
@@ -635,8 +635,8 @@ goes_first run end session one xid rows (event ∷ more) [] law at step aside ca
 
 -- ---- in what is kept
 
--- in what is kept a step may take effect at once (`IsSteppedFor`), if what other sessions have open, or call for
--- until its call returns, is aside (`IsAside`), and its call isn't noted as one that isn't heard of any more
+-- in what is kept a step may take effect at once (`IsSteppedFor`), if what is noted as called for by other sessions, or
+-- is called for until its call returns, is aside (`IsAside`), and its call isn't noted as not heard of any more
 pub steps_first : (hints : List Hint) (kept new : Config) (session : ℕ) (one : Statement) (xid : Xid)
     (rows : List (List ℕ)) (more : List Event) → slice_get kept.clients session ≡ Some (Called (Given one))
     → (fact_of hints session).never ≡ false → IsOwnStep kept.state session one xid rows
@@ -692,7 +692,7 @@ goes_stepped hints more old new steps end (inl from) =
     )
 goes_stepped hints more old new steps end (inr left) = (end, (λ at answer e. e), inr left)
 
--- if no configuration of a list takes a step, orders go on from the list as before
+-- orders that go on from a list go on from it to the same answers, as when none of it takes a step
 pub goes_same : (hints : List Hint) (more : List Event) (known : List Configuration) (end : Config)
     → GoesOn hints (Has known) more end → GoesOnLike hints (Has known) more end
 goes_same hints more known end goes = (end, (λ at answer e. e), goes)

@@ -2,7 +2,7 @@
 --     advance_closed               past an event, from a list that acts have closed for it
 --     advance_open, needs_none     past a call or a loss before which no act is needed;  which calls these are
 --     answers_end, all_after       each answer that a session can have after all events is kept
---     goes_never                   a place is noted at which a call ends, where none was
+--     noted_goes_on                a place is noted at which a call ends, where none was
 --     goes_first, goes_last        before all events;  after all events
 --     goes_shortened               common first moves are taken out
 use Rattle.std.proofs.Common.{◌≡◌, ℕ, false, Option, Some, None, List, [], ◌∷◌, ◌++◌, set, length, take}
@@ -209,12 +209,12 @@ dead_never hints number hint run unseen dead = record {
 
 -- where orders go on from a list, they still do once it is noted at which place a session's call ends, if no such
 -- place was noted before
-pub goes_never : (events : List Event) (places : List OpenCall) (number : ℕ) (old entry : OpenCall)
+pub noted_goes_on : (events : List Event) (places : List OpenCall) (number : ℕ) (old entry : OpenCall)
     → slice_get places number ≡ Some old → old.returns ≡ None → entry.call ≡ old.call
     → (known : List Configuration) (more : List Event) (end : Config)
     → GoesOn (hints_of events places) (Has known) more end
     → GoesOn (hints_of events (set places number entry)) (Has known) more end
-goes_never events places number old entry at blank same known more end goes =
+noted_goes_on events places number old entry at blank same known more end goes =
     subst (λ h. GoesOn h (Has known) more end) (sym (hints_set events places number entry)) (elim goes [
       | inl from ↦ inl (record {
         kept = from.kept;
@@ -255,7 +255,7 @@ goes_never events places number old entry at blank same known more end goes =
     asked = ap (asked_by events) same ∙ sym (ap (λ (h : Hint). h.asked) fact)
 
 -- before all events: each order from the base goes on from the list with the opening configuration alone, where the
--- lock law holds
+-- lock law holds and there are 17 hints
 pub goes_first : (base : State) (hints : List Hint) (list : List Configuration) (more : List Event)
     (moves : List Move) (end : Config) → IsOpening base list → LockLaw base
     → length hints ≡ 17 → LeadsThrough (opening_config base) more moves end → GoesOn hints (Has list) more end

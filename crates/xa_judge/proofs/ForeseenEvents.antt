@@ -1,6 +1,6 @@
 -- What is kept where later returns are known sees what an order sees.
 --     saw                      an event changes its own client alone
---     same_client              one client is replaced by the same one on the way and in what is kept
+--     same_client              one client is replaced by the same one in the order and in what is kept
 --     idle_shut                an idle client has nothing open
 --     alike_sees               an event that an order sees, what is kept of it sees
 --     dead_acts, dead_sees     an order that can't go on past a return still can't after an act;  after an event
@@ -31,7 +31,7 @@ use Rattle.xa_judge.proofs.Places.{same_number, get_written, get_apart, get_with
 use Rattle.xa_judge.proofs.Waits.{acted, Saw, saw_call, saw_return, saw_lost}
 use Rattle.xa_judge.specs.Keys.{session_of}
 
--- an unknown answer that is seen changes its session's client alone (`Saw`); `o` is where that client stood
+-- an unknown answer that is seen changes its session's client alone (`Saw`); `o` is that client before
 saw_unknown : (o : Option ClientState) (old new : Config) (session : ℕ) → slice_get old.clients session ≡ o
     → answered_unknown o old session ≡ Some new → Saw old (Unknown session) new
 unfolding observed answered_unknown
@@ -67,13 +67,13 @@ fact_apart : (hints : List Hint) (session other : ℕ) (hint : Hint) → session
     → fact_of (set hints session hint) other ≡ fact_of hints other
 fact_apart hints session other hint apart = ap (λ o. unwrap_or o no_hint) (get_apart hints session other hint apart)
 
--- once one session's hint is set, what is known that the call of another one returns stays so
+-- once one session's hint is set, what the call of another one is known to return stays so
 hint_apart : (hints : List Hint) (session other : ℕ) (hint : Hint) → session ≢ other
     → hint_of (set hints session hint) other ≡ hint_of hints other
 hint_apart hints session other hint apart = ap (λ (h : Hint). h.seen) (fact_apart hints session other hint apart)
 
--- where the hints have the request of each open call (`AreAsked`), they still do once one client and its hint are
--- replaced, if that hint has the request that the new client has open
+-- where the hints name each open request (`AreAsked`), they still do once one client and its hint are replaced, if
+-- that hint names the request that the new client has open
 asked_set : (hints : List Hint) (run : Config) (session : ℕ) (hint : Hint) (c one : ClientState) → AreAsked hints run
     → slice_get run.clients session ≡ Some one
     → ((request : Request) → (c ≡ Called request) ⊎ (c ≡ Gone (Some request)) → hint.asked ≡ Some request)
@@ -106,7 +106,7 @@ asked_set hints run session hint c one asked here noted = record {
         (slice_get_within run.clients session one here))
 
 -- what is kept of a configuration is still kept of it once one session's client is replaced by the same one in both,
--- with a hint that has what it has open
+-- with a hint that names what that client has open
 pub same_client : (hints : List Hint) (run kept : Config) (session : ℕ) (hint : Hint) (c : ClientState)
     (one other : ClientState) → AreAlike hints run kept → slice_get run.clients session ≡ Some one
     → slice_get kept.clients session ≡ Some other
@@ -270,7 +270,7 @@ abbrev pub SeesAlike : List Hint → Hint → Config → Event → Config → Ty
 SeesAlike hints hint kept event next = (new : Config) × (observed kept event ≡ Some new)
     × AreAlike (set hints (session_of event) hint) next new
 
--- where the session of the event is as far in what is kept as on the way, what is kept sees the event as well
+-- where the session of the event is as far in what is kept as in the order, what is kept sees the event as well
 equal_sees : (hints : List Hint) (hint : Hint) (run kept next : Config) (event : Event)
     → AreAlike hints run kept → NotesCall hints hint event → observed run event ≡ Some next
     → slice_get run.clients (session_of event) ≡ slice_get kept.clients (session_of event)

@@ -2,8 +2,8 @@
 --     left_past                           an order that can't go on past a return can't after an event either
 --     seen_from                           an event that an order sees is seen in what is kept
 --     goes_closed, unheard_alike          past an event, from a closed list;  an open call that nobody hears
---     goes_called                         past a call or a loss, from any list
---     answer_kept                         the client of a session of whose call nothing is known
+--     goes_called                         past an event for which acts can wait, from any list
+--     answer_kept                         the client of a session, if nothing is known of how its call ends
 --     hints_set, unknown_at, noted_at     what is known of open calls, by their places
 use Rattle.std.proofs.Common.{◌≡◌, ℕ, false, Option, Some, None, List, [], ◌∷◌, set, map, zero, suc, refl, ap}
 use Rattle.std.proofs.Common.{sym, ◌∙◌, inl}
@@ -112,7 +112,7 @@ goes_called hints hint event old new kept run end more moves there alike fits no
     first.sees
     first.runs)
 
--- if nothing is known of a session's call, its client in what is kept is that of the order's configuration
+-- if nothing is known of how a session's call ends, its client in what is kept is that of the order's configuration
 pub answer_kept : (hints : List Hint) (run kept : Config) (session : ℕ) (c : Option ClientState)
     → AreAlike hints run kept → hint_of hints session ≡ None → (fact_of hints session).never ≡ false
     → slice_get run.clients session ≡ c → slice_get kept.clients session ≡ c

@@ -65,24 +65,24 @@ shown_at config next session seen answer at sees =
     record { shown = is.0; idle = sym is.1 }
 
 -- the session's open call takes effect: the state is the one after its request, and the session is answered
-record Quietly (run next : Config) (session : ℕ) (request : Request) : Type 0 where
+record TakesOpenCall (run next : Config) (session : ℕ) (request : Request) : Type 0 where
   pub at : slice_get next.clients session ≡ Some (Answered (answer_to run.state session request))
   pub is : next ≡ with_client (record run { state = next_state run.state session request }) session
       (Answered (answer_to run.state session request))
 
--- each act of a session whose call is open makes that call take effect (`Quietly`)
-quietly : (run next : Config) (session : ℕ) (act : Act) (request : Request)
+-- each act of a session whose call is open makes that call take effect (`TakesOpenCall`)
+takes_open_call : (run next : Config) (session : ℕ) (act : Act) (request : Request)
     → slice_get run.clients session ≡ Some (Called request) → effect_of run session act ≡ Some next
-    → Quietly run next session request
+    → TakesOpenCall run next session request
 unfolding effect_of carried_out disconnected
-quietly run next session ItsStatement request at leads =
+takes_open_call run next session ItsStatement request at leads =
     let is = same_Some _ next (sym (ap (λ o. carried_out o run session) at) ∙ leads) in
     record {
       at = ap (λ (c : Config). slice_get c.clients session) (sym is)
           ∙ get_written run.clients session (Called request) (Answered (answer_to run.state session request)) at;
       is = sym is;
     }
-quietly run next session ItsDisconnect request at leads =
+takes_open_call run next session ItsDisconnect request at leads =
     absurd (none-some next (sym (ap (λ o. disconnected o run session) at) ∙ leads))
 
 -- if moves lead past a return, and its call is still open and quiet for it, moves also lead on from where its session
@@ -119,7 +119,7 @@ returned_early run end session request seen more (Effect other act ∷ moves) at
     own : effect_of run session act ≡ Some runs.0
         → (all : List Move) × LeadsThrough (with_client run session Idle) more all end
     own leads =
-        let q = quietly run runs.0 session act request at leads in
+        let q = takes_open_call run runs.0 session act request at leads in
         let waits : CanWait runs.0 (Return session seen) = ap answered_so q.at in
         let first = later runs.0 end (Return session seen) more moves waits runs.3 in
         let s = shown_at runs.0 first.first session seen (answer_to run.state session request) q.at first.sees in
@@ -259,7 +259,8 @@ dead_end hints from end (Effect session act ∷ moves) dead runs =
 dead_end hints from end (Seeing ∷ moves) dead runs = absurd runs
 dead_end hints from end [] dead runs = subst (IsDead hints) (sym runs) dead
 
--- if nothing is known of a session's call, the answer that it has in what is kept it has in the order's configuration
+-- if nothing is known of how a session's call ends, the answer that it has in what is kept it has in the order's
+-- configuration
 run_answered : (hints : List Hint) (run kept : Config) (session : ℕ) (answer : Answer) → AreAlike hints run kept
     → hint_of hints session ≡ None → (fact_of hints session).never ≡ false
     → slice_get kept.clients session ≡ Some (Answered answer)

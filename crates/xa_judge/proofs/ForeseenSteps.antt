@@ -1,7 +1,7 @@
 -- What is kept where later returns are known follows the moves of an order.
 --     quiet_keeps, still_quiet_for     a quiet request changes nothing;  and stays quiet after other sessions' acts
 --     Keeps, act_keeps                 an act keeps the lock law, and what other sessions have open
---     both_act                         the same act on the way and in what is kept
+--     both_act                         the same act in the order and in what is kept
 --     answered_rests                   an answered call doesn't act
 --     Foresees, alike_acts             an act of a session
 --     alike_settles, settles_one       a call takes effect at once in what is kept
@@ -181,8 +181,8 @@ act_keeps old new session ItsDisconnect law leads = by (slice_get old.clients se
 
 -- ---- acts
 
--- a session that stands alike on the way and in what is kept (`IsAlikeAt`) still does in a state in which it has open
--- what it had
+-- a session that stands alike in the order and in what is kept (`IsAlikeAt`) still does in a state in which it has
+-- open what it had
 alike_still : (hint : Hint) (old new : State) (session : ℕ) (one other : Option ClientState)
     → LeavesSession old new session → IsAlikeAt hint old session one other → IsAlikeAt hint new session one other
 alike_still hint old new session one other leaves (inl same) = inl same
@@ -212,7 +212,7 @@ Foresees hints kept session act next =
     × AreAlike hints next new)
     ⊎ IsDead hints next)
 
--- where a session's client is the same on the way and in what is kept, its act leads to what is alike again in both
+-- where a session's client is the same in the order and in what is kept, its act leads to what is alike again in both
 pub both_act : (hints : List Hint) (run kept next : Config) (session : ℕ) (act : Act) → AreAlike hints run kept
     → effect_of run session act ≡ Some next → slice_get run.clients session ≡ slice_get kept.clients session
     → (new : Config) × (effect_of kept session act ≡ Some new) × AreAlike hints next new
@@ -366,7 +366,7 @@ if_seen hints kept session seen hinted fits = record {
   counts = λ request never unseen at. absurd (none-some seen (sym unseen ∙ hinted));
 }
 
--- a session that passes the test has nothing open
+-- a session that passes the test `is_free` has nothing open
 freed : (a : Association) → is_free a ≡ true → a ≡ Free
 freed Free e = refl
 freed (Active xid) e = absurd (false≢true e)
@@ -398,7 +398,8 @@ still_keeps state session request still = by (is_reading state session request) 
     by true reads e = reading_keeps state session request reads
     by false reads e = refusal_keeps state session request e
 
--- where a session's call isn't heard of any more and changes nothing (`Waits`), its act leaves what is kept as it is
+-- where a session's call isn't heard of any more and changes nothing (`Waits`), what is kept also stands for the order
+-- after that session's act, if the client was the same in both
 waits_act : (hints : List Hint) (run kept next : Config) (session : ℕ) (act : Act) → AreAlike hints run kept
     → effect_of run session act ≡ Some next → slice_get run.clients session ≡ slice_get kept.clients session
     → Waits hints kept session → AreAlike hints next kept

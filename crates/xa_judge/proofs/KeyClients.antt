@@ -10,7 +10,7 @@
 --     is_rest                      by its turn, a session's call is in the other part, or it may have a branch
 --     AreEnded                     a session whose call to end its branch was accepted owns none
 --     ChosenTogether, RestTogether  the whole and one part belong together, beside the other one
---     chosen_acts, rest_acts       an act of a session whose call belongs to one part is one of the whole
+--     chosen_acts, rest_acts       an act in one part is one in the whole, and the other way round
 --     chosen_seen, rest_seen       so is an event of one part
 --     absent_rests, idle_rests     a session that isn't there, or is idle, has no act
 --     same_chosen, same_rest       where an event may stand in one part, the whole has the client of that part
@@ -207,8 +207,8 @@ IsFreeClient named client = ⊥
 abbrev pub IsCallOf : Turn → Request → Type 0
 IsCallOf turn request = (has_none turn ≡ true → is_start request ≡ false) × (turn ≡ Ending → is_ending request ≡ true)
 
--- the client may be one of the other part: what it has called for names no chosen row and suits its turn, by which
--- its session may have a branch if the client is gone
+-- the client may be one of the other part: what it has called for names no chosen row. It also suits the turn
+-- (`IsCallOf`); if the client is gone with that call, its session may have a branch by the turn instead
 abbrev pub IsOtherClient : (List ℕ → Bool) → Turn → ClientState → Type 0
 IsOtherClient named turn (Called request) = IsOffRows named request × IsCallOf turn request
 IsOtherClient named turn (Gone (Some request)) = (has_none turn ≡ false) × IsOffRows named request
@@ -242,8 +242,8 @@ is_rest Within = true
 is_rest Rest = true
 is_rest Ending = true
 
--- by a turn that isn't of the chosen part (`is_rest`), the session is idle in that part, and its client in the other
--- part is that in the whole
+-- by a turn of the other part (`is_rest`), the session is idle in the chosen part, and its client in the other part is
+-- that in the whole
 rested : (named : List ℕ → Bool) (turn : Turn) (whole chosen rest : Option ClientState) → is_rest turn ≡ true
     → AreClients named (Some turn) whole chosen rest → IsRested named turn whole chosen rest
 rested named Nobody whole chosen rest is are = absurd (false≢true is)
@@ -253,7 +253,7 @@ rested named Within whole chosen rest is are = are
 rested named Rest whole chosen rest is are = are
 rested named Ending whole chosen rest is are = are
 
--- if a session's turn isn't of the chosen part (`is_rest`), clients of which `IsRested` holds belong together by it
+-- if a session's turn is of the other part (`is_rest`), clients of which `IsRested` holds belong together by it
 -- (`AreClients`)
 are_rested : (named : List ℕ → Bool) (turn : Turn) (whole chosen rest : Option ClientState) → is_rest turn ≡ true
     → IsRested named turn whole chosen rest → AreClients named (Some turn) whole chosen rest
@@ -455,7 +455,7 @@ chosen_acts named turns whole chosen rest session act parts turn =
     ∙ ap (λ o. option_map (done_in chosen session) (deed_of session act chosen.state o)) here.3)
     (chosen_deed named turns whole chosen rest session act here.0 parts turn here.1 here.2 here.3 here.4)
 
--- a request of a session that isn't in the chosen part by its turn (`is_rest`), carried out in the whole and in the
+-- a request of a session that is in the other part by its turn (`is_rest`), carried out in the whole and in the
 -- other part, leaves parts again (`AreParts`), if the states are still joined, the session's new client is one of the
 -- other part, and `AreEnded` holds of the session
 rest_done : (named : List ℕ → Bool) (turns : List Turn) (whole chosen rest : Config) (session : ℕ) (turn : Turn)

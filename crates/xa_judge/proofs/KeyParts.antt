@@ -4,7 +4,7 @@
 --     picked_in, picked_out                    an event is picked;  or isn't
 --     picked_next, picked_past, picked_end     the events of one part, while they are picked
 --     count_next                               how many there are, while they are counted
---     at_least_one                             the least of two numbers is no more than a third
+--     one_at_most                              if the least of two numbers is at most a third one, so is one of them
 use Rattle.std.proofs.Common.{◌≡◌, ◌≢◌, ◌⊎◌, ℕ, ◌+◌, ◌<◌, ◌≤◌, zero, suc, Bool, true, false, Some, List, [], ◌∷◌, ◌++◌}
 use Rattle.std.proofs.Common.{length, take, drop, get_or, refl, ap, sym, ◌∙◌, subst, inl, inr, arith}
 use Rattle.std.proofs.Common.{append_assoc, append-nil, min}
@@ -20,7 +20,8 @@ use Rattle.xa_judge.specs.Keys.{FitsTurn, IsCut, first_turns, session_of, turns_
 
 -- ---- the parts of events
 
--- if the rest of the events is cut from these turns on, all are cut
+-- if the events from this place on are cut, with these turns before them, all are cut: `sides` are the parts of those
+-- before
 pub record CutSoFar (named : List ℕ → Bool) (turns : List Turn) (sides : List Bool)
     (events : List Event) (place : ℕ) : Type 0 where
   pub on : (more : List Bool) → IsCut named turns more (drop place events)
@@ -201,9 +202,9 @@ count_next wanted d place sides within =
       λ e. step ∙ ap (λ n. count_in wanted (take place sides) + n) (one_out wanted side e) ∙ omega arith,
     )
 
--- one of two numbers is no more than a third, if the least of them isn't
-pub at_least_one : (m n place : ℕ) → min m n ≤ place → (m ≤ place) ⊎ (n ≤ place)
-at_least_one m n place le = elim (either m place) [
+-- if the least of two numbers is at most a third one, so is one of the two
+pub one_at_most : (m n place : ℕ) → min m n ≤ place → (m ≤ place) ⊎ (n ≤ place)
+one_at_most m n place le = elim (either m place) [
   | inl few ↦ inl few
   | inr more ↦ elim (either n place) [
     | inl few ↦ inr few

@@ -1,6 +1,6 @@
 -- Moves through a record, and through its two parts.
 --     first_then, split         acts before the next event
---     clients_at                a session's clients, by the part that its open call belongs to
+--     clients_at                a session's clients in the whole and in the parts, by its turn
 --     IsInParts, in_parts       moves through the whole lead through each part as well
 --     IsWhole, whole_of         moves through both parts lead through the whole
 use Rattle.std.proofs.Common.{◌≡◌, ℕ, Bool, true, false, Option, Some, None, List, [], ◌∷◌, ◌++◌, refl, sym}
@@ -135,7 +135,7 @@ pub record IsInParts (named : List ℕ → Bool) (turns : List Turn) (chosen res
   pub rest_runs : LeadsThrough rest rest_events rest_moves rest_end
   pub parts : AreParts named turns new chosen_end rest_end
 
--- acts that lead on in the whole lead on in its parts, each in the part of its session's call
+-- acts that lead on in the whole lead on in its parts, each in the part of its session, by its turn
 acts_in : (named : List ℕ → Bool) (turns : List Turn) (whole chosen rest new : Config)
     (acts : List Move) → AreParts named turns whole chosen rest
     → LeadsThrough whole [] acts new

@@ -245,7 +245,7 @@ abbrev pub part_of : Bool → Config → Config → Config
 part_of true chosen rest = chosen
 part_of false chosen rest = rest
 
--- where a call of a part returns, the whole and this part have the same client
+-- where a call of a part may return, its session has the same client in the whole and in this part
 same_client : (named : List ℕ → Bool) (turns : List Turn) (whole chosen rest : Config)
     (session : ℕ) (seen : Seen) (turn : Turn) (wanted : Bool) → AreParts named turns whole chosen rest
     → slice_get turns session ≡ Some turn
@@ -411,7 +411,8 @@ taken_twice (suc few) zero xs le = absurd (omega arith)
 taken_twice (suc few) (suc many) [] le = refl
 taken_twice (suc few) (suc many) (x ∷ xs) le = ap (λ l. x ∷ l) (taken_twice few many xs (omega arith))
 
--- an illegal part makes the record illegal, if the other part is explained up to there
+-- a part that is illegal at its event `index`, which stands at `place` in the record, makes the record illegal there,
+-- with the same answers, if the other part is explained up to there
 pub illegal_part : (named : List ℕ → Bool) (base : State) (sides : List Bool) (events : List Event)
     (wanted : Bool) (index place explained limit : ℕ) (answers : Vec Answer Global) → HasNoBranch base
     → IsCut named first_turns sides events

@@ -4,8 +4,8 @@
 --     unheard_at, heard_more      an open call of a session whose client is gone, in some of a list;  in none
 --     SettledOnly, SeenOnly, settled_none  what is left of a list, and what was made;  before the first step
 --     settled_only, seen_only     what was made of a list comes of it
---     counted_of_more             what counts by some configurations counts by more
---     opens_kept, kept_on      what has to be kept before all events;  what has to be after one event more
+--     counted_of_more             what counts if some are kept counts if more are
+--     opens_kept, kept_on      all of a list may be kept before all events;  after one event more
 use Rattle.std.proofs.Common.{◌≡◌, ◌≢◌, ◌⊎◌, ℕ, ◌+◌, ◌<◌, suc, Option, Some, List, [], ◌∷◌, ◌++◌, length, get_or, true}
 use Rattle.std.proofs.Common.{false, refl, ap, sym, ◌∙◌, subst, inl, inr, arith}
 use Rattle.std.specs.Prelude.{slice_get}
@@ -37,11 +37,11 @@ added_last : (old new : List Configuration) (one : Configuration) (c : Config) �
 added_last old new one c (inl was) has = inl (subst (λ l. Has l c) was.1 has)
 added_last old new one c (inr is) has = has_last old new one c is has
 
--- if a list stays as it is, nothing was added but what acts that count lead to from `one` (`AddsOnly`)
+-- if a list stays as it is, nothing was added but what an act that counts leads to from `one` (`AddsOnly`)
 pub adds_none : (returning : Option ℕ) (one : Config) (list : List Configuration) → AddsOnly returning one list list
 adds_none returning one list = λ config has. inl has
 
--- if each of two steps adds only what acts that count lead to from `one` (`AddsOnly`), so do both together
+-- if each of two steps adds only what an act that counts leads to from `one` (`AddsOnly`), so do both together
 pub adds_more : (returning : Option ℕ) (one : Config) (old mid new : List Configuration)
     → AddsOnly returning one old mid
     → AddsOnly returning one mid new → AddsOnly returning one old new
@@ -50,8 +50,8 @@ adds_more returning one old mid new first second = λ config has. elim (second c
   | inr next ↦ inr next
 ]
 
--- if a configuration is added since an act of another session than the returning one leads to it, only what acts that
--- count lead to is added (`AddsOnly`)
+-- if what an act leads to from the configuration at a place is added unless it is there, and the act is of another
+-- session than the returning one, which isn't answered, only what an act that counts leads to is added (`AddsOnly`)
 pub adds_effect : (old new : List Configuration) (place : ℕ) (one next : Configuration) (found : Option Configuration)
     (session : ℕ) (act : Act)
     → slice_get old place ≡ Some one → IsSession session
@@ -75,7 +75,7 @@ adds_effect old new place one next found session act at is effect some added oth
     ]
 
 -- if acts that count lead from the first list to all of the old one (`IsReachedFrom`), they lead to all of the new
--- one, to which only what such acts lead to from the configuration at a place was added (`AddsOnly`)
+-- one, to which only what one such act leads to from the configuration at a place was added (`AddsOnly`)
 pub reached_more : (first old new : List Configuration) (place : ℕ) (returning : Option ℕ) → place < length old
     → ((config : Config) → Has old config → IsReachedFrom (Has first) returning config)
     → ((one : Configuration) → slice_get old place ≡ Some one → AddsOnly returning (config_of one) old new)
@@ -174,14 +174,14 @@ heard_more known place session one within at is before k other below found = eli
       ap (λ o. has_unheard (config_of o) session) (sym one_is) ∙ is
 ]
 
--- what is reached from some configurations is reached from more
+-- what is reached by acts (`IsReachedFrom`) if some configurations are kept is reached if more are
 reached_of_more : (P Q : Config → Type 0) (returning : Option ℕ) (config : Config)
     → ((one : Config) → P one → Q one) → IsReachedFrom P returning config → IsReachedFrom Q returning config
 reached_of_more P Q returning _ wider (at_once config is) = at_once config (wider config is)
 reached_of_more P Q returning _ wider (by_act one config before next) =
     by_act one config (reached_of_more P Q returning one wider before) next
 
--- if an event widens what some configurations lead to, it does so for more
+-- if acts may have to take effect before an event (`Widens`) while some configurations are kept, so they may with more
 widens_of_more : (P Q : Config → Type 0) (event : Event) → ((one : Config) → P one → Q one) → Widens P event
     → Widens Q event
 widens_of_more P Q (Call session request) wider is = (is.0, wider is.0 is.1, is.2)
@@ -189,7 +189,7 @@ widens_of_more P Q (Return session seen) wider is = is
 widens_of_more P Q (Lost session) wider is = is
 widens_of_more P Q (Unknown session) wider is = is
 
--- a configuration that counts for an event, by some configurations, counts for it by more
+-- a configuration that counts for an event (`IsCounted`) if some are kept counts for it if more are
 pub counted_of_more : (P Q : Config → Type 0) (event : Event) (config : Config) → ((one : Config) → P one → Q one)
     → IsCounted P event config → IsCounted Q event config
 counted_of_more P Q event config wider is = record {
@@ -197,7 +197,7 @@ counted_of_more P Q event config wider is = record {
   reached = reached_of_more P Q _ config wider is.reached;
 }
 
--- a configuration that is ready for an event, by some configurations, is ready for it by more
+-- a configuration that stands directly before an event (`IsReady`) if some are kept stands there if more are
 ready_of_more : (P Q : Config → Type 0) (event : Event) (config : Config) → ((one : Config) → P one → Q one)
     → IsReady P event config → IsReady Q event config
 ready_of_more P Q (Call session request) config wider (inl is) = inl (wider config is)

@@ -5,7 +5,7 @@
 --     loaded_more                       from a state to which events lead one such call goes on
 --     refuted_behind, answers_behind    what is refuted from the state is refuted behind the events, with the same
 --                                       answers
---     none_left                         a list of no length has nothing
+--     none_left                         a list of length 0 is empty
 use Rattle.std.proofs.Common.{◌≡◌, ◌≢◌, ◌==◌, ℕ, ◌+◌, ◌<◌, zero, suc, true, cond, Some, None, List, [], ◌∷◌, ◌++◌}
 use Rattle.std.proofs.Common.{length, set, take, get_or, refl, ap, sym, ◌∙◌, subst, inl, inr, arith, append_assoc}
 use Rattle.std.proofs.Common.{length-append}
@@ -66,7 +66,7 @@ record IsAlone (clients : List ClientState) (session : ℕ) (client : ClientStat
   here : slice_get clients session ≡ Some client
   others : (other : ℕ) → IsSession other → other ≢ session → slice_get clients other ≡ Some Idle
 
--- before all events each session is idle
+-- in a list of n idle clients each place below n has one
 idle_at : (n session : ℕ) → session < n → slice_get (replicate n Idle) session ≡ Some Idle
 idle_at n session within =
     stands_at (replicate n Idle) session Idle (omega (arith, length-replicate n Idle))
@@ -81,7 +81,7 @@ alone_opening state session is = record {
   others = λ other among apart. idle_at 17 other (omega (arith, among.1));
 }
 
--- once one session's client is replaced, all other sessions are still idle if they were
+-- once a session's client is replaced where all others are idle, it has the new one, and the others are still idle
 alone_written : (clients : List ClientState) (session : ℕ) (old new : ClientState) → IsAlone clients session old
     → IsAlone (set clients session new) session new
 alone_written clients session old new alone = record {
@@ -90,7 +90,7 @@ alone_written clients session old new alone = record {
       ∙ alone.others other among apart;
 }
 
--- an idle session has no act
+-- no act of an idle session can take effect
 idle_rests : (config new : Config) (session : ℕ) (act : Act) → slice_get config.clients session ≡ Some Idle
     → effect_of config session act ≡ Some new → ⊥
 unfolding effect_of carried_out disconnected
@@ -109,7 +109,7 @@ answered_rests config new session Statement answer found is =
 answered_rests config new session Disconnect answer found is =
     none-some new (sym (ap (λ o. disconnected o config session) found) ∙ is)
 
--- a session that has called doesn't disconnect before it is answered
+-- the DISCONNECT of a session that has called and isn't answered can't take effect
 called_stays : (config new : Config) (session : ℕ) (request : Request)
     → slice_get config.clients session ≡ Some (Called request)
     → effect_of config session Disconnect ≡ Some new → ⊥
@@ -140,7 +140,7 @@ answered_returns config session seen answer found shows =
     ap (λ o. returned o config session seen) found ∙ ap (λ b. cond b
     (Some (with_client config session Idle)) None) shows
 
--- after a return its session is idle
+-- a return makes its session idle, and changes nothing else
 returns_idle : (config new : Config) (session : ℕ) (seen : Seen) (answer : Answer)
     → slice_get config.clients session ≡ Some (Answered answer)
     → observed config (Return session seen) ≡ Some new → with_client config session Idle ≡ new
@@ -164,7 +164,7 @@ called_acts : (config : Config) (session : ℕ) (request : Request)
     → effect_of config session Statement ≡ Some (answered_config config session request)
 called_acts config session request found = effect_called config session request (ap called_for found)
 
--- if no call is open and a call comes next, an order begins with it
+-- if all sessions are idle and the next event is a call, orders go on from the configuration in which it is open
 call_first : (old end : Config) (session : ℕ) (request : Request) (rest : List Event) (all : List Move)
     → IsAlone old.clients session Idle
     → LeadsThrough old (Call session request ∷ rest) all end
@@ -271,7 +271,7 @@ alone_leads state session request seen is shows =
       ),
     )
 
--- after a call and its return in an idle store, orders go on from the state after the request: it took effect between
+-- after a call and its return where all are idle, orders go on from the state after the request
 pub alone_only : (state : State) (session : ℕ) (request : Request) (seen : Seen) (more : List Event) (all : List Move)
     (end : Config) → IsSession session
     → LeadsThrough (opening_config state) (Call session request ∷ Return session seen ∷ more) all end
@@ -392,7 +392,7 @@ answers_behind base full first later place answers loaded are = record {
   all = λ answer could. are.all answer (could_from base full first later place answer loaded could);
 }
 
--- a list of no length has nothing
+-- a list of length 0 is empty
 pub none_left : (list : List Event) → (length list == 0) ≡ true → list ≡ []
 none_left [] empty = refl
 none_left (event ∷ list) empty =

@@ -1,5 +1,5 @@
 -- Moves that lead on from a configuration lead on from one on a near state, and to near ones.
---     WaitsNamed                  a client waits for no request but one that reads named rows
+--     WaitsNamed                  a session's open request reads only named rows
 --     AreNearConfigs              configurations with the same clients, on near states
 --     near_effect, near_event     where an effect, an event can be in one it can be in the other
 --     near_run                    where moves lead on from one they lead on from the other
@@ -31,14 +31,14 @@ use Rattle.xa_judge.proofs.NearStates.{near_answer, near_next, near_after}
 use Rattle.xa_judge.proofs.Places.{same_number, get_written, get_apart}
 use Rattle.xa_judge.specs.Keys.{session_of}
 
--- a client waits for no request but one that reads named rows
+-- the session's open request reads only named rows, if it has one; its client may be gone
 abbrev pub WaitsNamed : (List ℕ → Bool) → ClientState → Type 0
 WaitsNamed named (Called request) = ReadsNamed named request
 WaitsNamed named (Gone (Some request)) = ReadsNamed named request
 WaitsNamed named client = Unit {0}
 
--- configurations on near states whose sessions have the same clients; no client waits for a request but one that
--- reads only named rows
+-- configurations on near states whose sessions have the same clients, and in which each open request reads only
+-- named rows (`WaitsNamed`)
 pub record AreNearConfigs (named : List ℕ → Bool) (left right : Config) : Type 0 where
   pub clients : left.clients ≡ right.clients
   pub states : AreNear named left.state right.state
@@ -54,13 +54,13 @@ EffectToo named right mid session act =
 abbrev SeenToo : (List ℕ → Bool) → Config → Config → Event → Type 0
 SeenToo named right mid event = (other : Config) × (observed right event ≡ Some other) × AreNearConfigs named mid other
 
--- in near configurations a session's client stands alike
+-- in near configurations a session has the same client
 same_client : (named : List ℕ → Bool) (left right : Config) (session : ℕ) (o : Option ClientState)
     → AreNearConfigs named left right
     → slice_get left.clients session ≡ o → slice_get right.clients session ≡ o
 same_client named left right session o near found = ap (λ l. slice_get l session) (sym near.clients) ∙ found
 
--- after a write at one place every client still waits for no request but one that reads named rows
+-- once one client is replaced by one whose open request reads only named rows, every open request still does
 waits_set : (named : List ℕ → Bool) (clients : List ClientState) (session : ℕ) (before next : ClientState)
     → slice_get clients session ≡ Some before
     → WaitsNamed named next
@@ -75,8 +75,8 @@ waits_set named clients session before next found reads waits other client at = 
   | inr apart ↦ waits other client (sym (get_apart clients session other next apart) ∙ at)
 ]
 
--- two near configurations stay near once one session's client is replaced by the same one in both, and the states by
--- near ones
+-- two near configurations stay near once one session's client is replaced by the same one in both, whose open request
+-- reads only named rows, and the states by near ones
 changed : (named : List ℕ → Bool) (left right : Config) (session : ℕ) (before next same : ClientState)
     (state beside : State)
     → AreNearConfigs named left right
@@ -92,7 +92,7 @@ changed named left right session before next same state beside near found e stat
   waits = waits_set named left.clients session before next found reads near.waits;
 }
 
--- what a session called for can take effect from a near configuration, too; `o` is where its client stands
+-- what a session called for can take effect from a near configuration, too; `o` is the session's client
 near_statement : (named : List ℕ → Bool) (o : Option ClientState) (left right mid : Config) (session : ℕ)
     → AreNearConfigs named left right
     → slice_get left.clients session ≡ o
@@ -131,7 +131,7 @@ near_statement named (Some (Gone (Some request))) left right mid session near fo
     )
 near_statement named (Some Left) left right mid session near found is = absurd (none-some mid is)
 
--- from a near configuration the DISCONNECT of a lost client can take effect, too; `o` is where that client stands
+-- from a near configuration the DISCONNECT of a lost client can take effect, too; `o` is the session's client
 near_disconnect : (named : List ℕ → Bool) (o : Option ClientState) (left right mid : Config) (session : ℕ)
     → AreNearConfigs named left right
     → slice_get left.clients session ≡ o
@@ -165,7 +165,8 @@ near_effect named left right mid session Statement near is =
 near_effect named left right mid session Disconnect near is =
     near_disconnect named (slice_get left.clients session) left right mid session near refl is
 
--- an event that makes the same of its session's client in two near configurations leads to near ones
+-- an event that makes the same of its session's client in two near configurations leads to near ones, if that
+-- client's open request reads only named rows
 seen_too : (named : List ℕ → Bool) (left right mid : Config) (event : Event) (before next : ClientState)
     → AreNearConfigs named left right
     → slice_get left.clients (session_of event) ≡ Some before
@@ -181,7 +182,7 @@ seen_too named left right mid event before next near found is reads at = (
       reads),
 )
 
--- a call for what reads only named rows can be seen from a near configuration, too; `o` is where its client stands
+-- a call for what reads only named rows can be seen from a near configuration, too; `o` is the session's client
 near_call : (named : List ℕ → Bool) (o : Option ClientState) (left right mid : Config) (session : ℕ) (request : Request)
     → AreNearConfigs named left right
     → ReadsNamed named request
@@ -205,7 +206,7 @@ near_call named (Some Left) left right mid session request near reads found is =
     seen_too named left right mid (Call session request) Left Left near found (same_Some _ mid is) tt
     (ap (λ o. called o right session request) (same_client named left right session (Some Left) near found))
 
--- a return can be seen on a near configuration, too; `o` is where its client stands
+-- a return can be seen from a near configuration, too; `o` is the session's client
 near_return : (named : List ℕ → Bool) (o : Option ClientState) (left right mid : Config) (session : ℕ) (seen : Seen)
     → AreNearConfigs named left right
     → slice_get left.clients session ≡ o
@@ -223,7 +224,7 @@ near_return named (Some (Answered answer)) left right mid session seen near foun
 near_return named (Some (Gone request)) left right mid session seen near found is = absurd (none-some mid is)
 near_return named (Some Left) left right mid session seen near found is = absurd (none-some mid is)
 
--- the loss of a client can be seen from a near configuration, too; `o` is where that client stands
+-- the loss of a client can be seen from a near configuration, too; `o` is the session's client
 near_lost : (named : List ℕ → Bool) (o : Option ClientState) (left right mid : Config) (session : ℕ)
     → AreNearConfigs named left right
     → slice_get left.clients session ≡ o
@@ -244,7 +245,7 @@ near_lost named (Some (Answered answer)) left right mid session near found is =
 near_lost named (Some (Gone request)) left right mid session near found is = absurd (none-some mid is)
 near_lost named (Some Left) left right mid session near found is = absurd (none-some mid is)
 
--- an unknown answer can be seen from a near configuration, too; `o` is where its client stands
+-- an unknown answer can be seen from a near configuration, too; `o` is the session's client
 near_unknown : (named : List ℕ → Bool) (o : Option ClientState) (left right mid : Config) (session : ℕ)
     → AreNearConfigs named left right
     → slice_get left.clients session ≡ o
@@ -264,7 +265,8 @@ near_unknown named (Some (Answered answer)) left right mid session near found is
 near_unknown named (Some (Gone request)) left right mid session near found is = absurd (none-some mid is)
 near_unknown named (Some Left) left right mid session near found is = absurd (none-some mid is)
 
--- an event that calls for nothing but what reads named rows can be seen from a near configuration, too
+-- an event that calls for nothing but what reads only named rows can be seen from a near configuration, too, and leads
+-- to a near one
 pub near_event : (named : List ℕ → Bool) (left right mid : Config) (event : Event) → AreNearConfigs named left right
     → CallsNamed named event
     → observed left event ≡ Some mid

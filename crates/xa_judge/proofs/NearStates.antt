@@ -93,7 +93,7 @@ unnamed_agrees named key None left right agree unnamed other is =
 
 -- ---- replies
 
--- a statement that reads no row but one that is named is answered alike
+-- the table answers a statement that reads only named rows alike on the same branches, if these rows agree
 table_agrees : (named : List ℕ → Bool) (branches : Branches) (left right : Rows) → Agree named left right
     → (association : Association) (statement : Statement)
     → ReadsNamed named (Given statement) → table (state_at branches left) association statement
@@ -138,7 +138,7 @@ association_agrees : (branches : Branches) (left right : Rows) (session : ℕ)
 unfolding association_of own_xid
 association_agrees branches left right session = refl
 
--- a statement that reads only named rows is answered alike by states that agree on these
+-- a statement that reads only named rows is answered alike by states of the same branches that agree on these rows
 reply_agrees : (named : List ℕ → Bool) (branches : Branches) (left right : Rows) → Agree named left right
     → (session : ℕ) (statement : Statement)
     → ReadsNamed named (Given statement) → reply_to (state_at branches left) session statement
@@ -159,7 +159,7 @@ refusal_of_get false error left right = refl
 none_named : List ℕ → Bool
 none_named key = false
 
--- any two tables of rows agree on an empty set of keys
+-- any rows agree where none is named
 all_agree : (left right : Rows) → Agree none_named left right
 unfolding none_named
 all_agree left right key is = absurd (true≢false (sym is))
@@ -290,14 +290,14 @@ by_refusal (Value value) old new = refl
 by_refusal (Recovered xids) old new = refl
 by_refusal (Refused error) old new = refl
 
--- two near states stay near if a statement is refused in both, or in neither
+-- if the old states are near, and the new ones too, so are those that are left if both or neither is refused
 near_either : (named : List ℕ → Bool) (refused : Bool) (old new other other_new : State) → AreNear named old other
     → AreNear named new other_new
     → AreNear named (cond refused old new) (cond refused other other_new)
 near_either named true old new other other_new before later = before
 near_either named false old new other other_new before later = later
 
--- two near states stay near after a statement that both refuse, or that leaves near ones
+-- if the old states are near, and the new ones too, so are those left by two replies, both refusals or neither
 near_unless : (named : List ℕ → Bool) (reply other_reply : Reply) (old new other other_new : State)
     → is_refused reply ≡ is_refused other_reply
     → AreNear named old other → AreNear named new other_new
@@ -362,14 +362,14 @@ near_refusable : (named : List ℕ → Bool) (refused : Bool) (old new other : S
 near_refusable named true old new other before later = before
 near_refusable named false old new other before later = later
 
--- writing a row that isn't named in the left state leaves it near the right one
+-- the left state with a row written that isn't named is still near the right one
 near_unnamed : (named : List ℕ → Bool) (left right : State) (key : List ℕ) (write : Write) → AreNear named left right
     → named key ≡ false
     → AreNear named (record left { rows = with_write key write left.rows }) right
 near_unnamed named left right key write near unnamed =
     record { branches = near.branches; rows = unnamed_agrees named key write left.rows right.rows near.rows unnamed }
 
--- a free session's write of a row that isn't named leaves near states, where it is left out on the right
+-- a free session's PUT of a row that isn't named leaves near states, where it is left out on the right
 pub near_put : (named : List ℕ → Bool) (left right : State) (session : ℕ) (key : List ℕ) (value : Text)
     → AreNear named left right
     → association_of left session ≡ Free → named key ≡ false → AreNear named (after left session (Put key value)) right
@@ -383,7 +383,7 @@ near_put named left right session key value near free unnamed =
     (record left { rows = with_write key (Some value) left.rows }) right near
     (near_unnamed named left right key (Some value) near unnamed))
 
--- deleting a row that isn't named, outside of a branch and in one of two near states alone, leaves them near
+-- a free session's DEL of a row that isn't named leaves near states, where it is left out on the right
 pub near_del : (named : List ℕ → Bool) (left right : State) (session : ℕ) (key : List ℕ) → AreNear named left right
     → association_of left session ≡ Free → named key ≡ false → AreNear named (after left session (Del key)) right
 unfolding after reply_to table effect

@@ -77,8 +77,8 @@ answers_near named left right events place answers near calls are = record {
       (near_sym named left right near) calls could);
 }
 
--- events that are ILLEGAL from a near state are so behind the events that lead to the state that it is near to, if
--- all their calls read only named rows
+-- events that are ILLEGAL from a near state are so, with the same answers, behind the events that lead to the state
+-- that it is near to, if all their calls read only named rows
 pub illegal_behind : (named : List ℕ → Bool) (base full near : State) (events first later : List Event)
     (limit place : ℕ) (answers : Vec Answer Global)
     (verdict : Verdict) → events ≡ first ++ later → IsLoadedTo base first full → AreNear named full near

@@ -99,7 +99,7 @@ pub prepared_step : (state : State) (session : ℕ) (xid : Xid) (rows : List (Li
 unfolding reply_to
 prepared_step state session xid rows e = prepares refl (idle_of state (association_of state session) xid e)
 
--- in a branch a DEL is accepted only if no other branch holds the row
+-- in a session's ACTIVE branch a DEL is accepted only if no other branch holds the row (`HasRow`)
 pub has_row : (state : State) (session : ℕ) (key : List ℕ) (xid : Xid) → association_of state session ≡ Active xid
     → reply_to state session (Del key) ≡ Accepted → HasRow state session key xid
 unfolding reply_to
@@ -119,7 +119,8 @@ unfolding keys_about
 named_row state session statement key is =
     by_row (λ s. keys_about state session s ≡ key ∷ []) statement key is refl (λ value. refl) refl
 
--- a statement that names a row is a step of the session's ACTIVE branch, if no other branch holds the row
+-- a statement that names a row is a step of the session's ACTIVE branch, on the rows that it is about, if no other
+-- branch holds the row
 pub row_step : (state : State) (session : ℕ) (statement : Statement) (xid : Xid) (rows : List (List ℕ))
     (key : List ℕ) → key_of statement ≡ Some key → rows ≡ keys_about state session statement
     → HasRow state session key xid → IsOwnStep state session statement xid rows

@@ -1,6 +1,6 @@
 -- Moves as codes, in blocks.
---     moves_push                                one code more is one move more
---     moves_folded, moves_split, moves_more     the last block is one of the blocks;  what comes of it comes last
+--     moves_push                                one code more at the end is one move more at the end
+--     moves_folded, moves_split, moves_more     the codes behind as one block more;  moves in two parts
 use Rattle.std.proofs.Common.{◌≡◌, ℕ, List, [], ◌∷◌, ◌++◌, map, ap, sym, ◌∙◌, append_assoc, append-nil}
 use Rattle.std.specs.List.{concat}
 use Rattle.std.proofs.lemmas.List.{map-append}
@@ -11,7 +11,7 @@ use Rattle.xa_judge.specs.Path.{move_of, moves_of}
 concat_more : (blocks : List (List ℕ)) (last : List ℕ) → concat (blocks ++ last ∷ []) ≡ concat blocks ++ last
 concat_more blocks last = concat-append blocks (last ∷ []) ∙ ap (λ l. concat blocks ++ l) (append-nil last)
 
--- one code more in the last block is one move more
+-- one code more behind the blocks is one move more at the end
 pub moves_push : (blocks : List (List ℕ)) (tail : List ℕ) (code : ℕ)
     → moves_of blocks (tail ++ code ∷ []) ≡ moves_of blocks tail ++ move_of code ∷ []
 moves_push blocks tail code =
@@ -29,7 +29,7 @@ moves_split blocks tail =
     map-append move_of (concat blocks) tail ∙ ap (λ l. map move_of l ++ map move_of tail)
     (sym (append-nil (concat blocks)))
 
--- the moves of blocks with one full block more are the moves of the others, and then this block's
+-- the moves of blocks with one more at the end are the moves of the others, and then that one's
 pub moves_more : (blocks : List (List ℕ)) (last : List ℕ)
     → moves_of (blocks ++ last ∷ []) [] ≡ moves_of blocks [] ++ map move_of last
 moves_more blocks last = moves_folded blocks last ∙ moves_split blocks last

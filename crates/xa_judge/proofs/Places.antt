@@ -62,7 +62,7 @@ pub map_append : {A B : Type 0} (f : A → B) (xs ys : List A) → map f (xs ++ 
 map_append f [] ys = refl
 map_append f (x ∷ xs) ys = ap (λ l. f x ∷ l) (map_append f xs ys)
 
--- mapping leaves the length
+-- mapping a list keeps its length
 pub length_map : {A B : Type 0} (f : A → B) (xs : List A) → length (map f xs) ≡ length xs
 length_map f [] = refl
 length_map f (x ∷ xs) = ap suc (length_map f xs)

@@ -62,7 +62,7 @@ before_last old new (first ∷ events) event (Seeing ∷ moves) runs =
 before_last old new [] event [] runs = absurd runs
 before_last old new (first ∷ events) event [] runs = absurd runs
 
--- a return shows the answer that its session has
+-- a return that can be seen shows the answer that its session has
 shown : (mid next : Config) (session : ℕ) (seen : Seen) → observed mid (Return session seen) ≡ Some next
     → (answer : Answer) × (slice_get mid.clients session ≡ Some (Answered answer)) × (shows_answer seen answer ≡ true)
 unfolding observed returned
@@ -98,8 +98,8 @@ last_answered base events session seen explained =
 
 -- ---- the verdict
 
--- a return is refuted at its place, with these answers, if they are all that its call can have, there is one, and the
--- return shows none of them
+-- a return is refuted at its place, with these answers, if they are all that its call can have, there is at least one,
+-- and the return shows none of them
 pub illegal_return : (base : State) (events : List Event) (place session : ℕ) (seen : Seen) (answers : List Answer)
     → place < length events → slice_get events place ≡ Some (Return session seen) → 0 < length answers
     → All (IsAnswerAfter base (take place events) session) answers

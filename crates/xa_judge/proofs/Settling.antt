@@ -1,8 +1,8 @@
 -- A return, and what comes before it.
---     dead                           a session that can't be answered never returns
+--     dead                           if a session can't be answered, the next event isn't its return
 --     Settled, settles               where a list is closed, a return is seen from one of it, once what its session
 --                                    called for has taken effect
---     AnsweredSo, answers_settle     each answer that acts lead to in a closed list is one that a session has then
+--     AnsweredSo, answers_settle     in a closed list, each answer that acts lead to is that of a settled one
 use Rattle.std.proofs.Common.{◌≡◌, ◌≢◌, ◌⊎◌, ℕ, Bool, true, false, Option, Some, None, List, [], ◌∷◌, length, set, refl}
 use Rattle.std.proofs.Common.{ap, sym, ◌∙◌, subst, inl, inr, arith}
 use Rattle.std.specs.Prelude.{slice_get}
@@ -52,7 +52,7 @@ dead_behind old mid session other act at none =
           ∙ get_apart old.clients other session a.next apart) ∙ none
     ]
 
--- a session that can't be answered never returns
+-- if a session can't be answered (`may_answer`), the next event isn't its return
 pub dead : (old new : Config) (session : ℕ) (seen : Seen) (more : List Event) (moves : List Move)
     → may_answer (slice_get old.clients session) ≡ false
     → LeadsThrough old (Return session seen ∷ more) moves new → ⊥
@@ -64,7 +64,7 @@ dead old new session seen more (Effect other act ∷ moves) none runs =
 dead old new session seen more [] none runs = runs
 
 -- from a configuration of the list, once what the session called for has taken effect, its return is seen first, and
--- then come the other moves
+-- then moves lead through the events `more` to `new`
 pub record Settled (list : List Configuration) (session : ℕ) (seen : Seen) (more : List Event)
     (new : Config) : Type 0 where
   pub one : Config
@@ -296,7 +296,7 @@ answers_effect list session other answer act old new moves closed has runs stand
       | inr apart ↦ go_on (other_act list session other act old runs.0 closed has runs.1 apart unanswered runs.2)
     ]
 
--- in a closed list, each answer that acts alone lead a session to is that of a settled configuration
+-- in a closed list, each answer that acts alone lead a session to is that of a settled configuration (`AnsweredSo`)
 pub answers_settle : (list : List Configuration) (session : ℕ) (answer : Answer) (old new : Config) (moves : List Move)
     → IsClosedBelow (length list) (Some session) list → Has list old → LeadsThrough old [] moves new
     → slice_get new.clients session ≡ Some (Answered answer)

@@ -19,7 +19,7 @@ use Rattle.xa_judge.specs.Verdicts.{AreDifferent}
 use Rattle.xa_judge.specs.Marks.{mark}
 use Rattle.xa_judge.proofs.Places.{place_mapped}
 
--- configurations of the list, as many as were counted, no two of them the same; the set has their numbers
+-- configurations of the list, as many as were counted, no two of them the same; the set has their numbers (`mark`)
 pub record Chosen (known : List Configuration) (keys : List (List ℕ)) (marks : BTreeSet ℕ) (count : ℕ) : Type 0 where
   pub chosen : List Config
   pub counted : length chosen ≡ count
@@ -37,7 +37,7 @@ chosen_none known keys marks = record {
   differ = λ i j d less below. absurd (omega (arith, below));
 }
 
--- a number that the set had is still there
+-- a number that the set had is still there once any is put in
 still_marked : (old new : BTreeSet ℕ) (added number : ℕ) → Updates nat_cmp old new added true
     → contains nat_cmp old number ≡ true
     → contains nat_cmp new number ≡ true
@@ -60,7 +60,7 @@ chosen_same known keys old new count added updates c = record {
   differ = c.differ;
 }
 
--- one configuration more is chosen, if its number wasn't noted yet: it differs from all chosen before
+-- one configuration more is chosen, if its number wasn't in the set yet: it differs from all chosen before
 chosen_more : (known : List Configuration) (keys : List (List ℕ)) (old new : BTreeSet ℕ) (count : ℕ) (one : Config)
     → Has known one
     → Updates nat_cmp old new (mark keys one) true → contains nat_cmp old (mark keys one) ≡ false

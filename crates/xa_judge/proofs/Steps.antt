@@ -18,7 +18,7 @@ use Rattle.xa_judge.specs.Explained.{Config, effect_of, observed, opening_config
 use Rattle.xa_judge.specs.Found.{config_of}
 use Rattle.xa_judge.specs.Following.{Leads}
 
--- from a place that a list has on, the list has what is there and then the rest
+-- what a list has from a place on is what stands there, and then the rest
 pub drop_got : {A : Type 0} (xs : List A) (i : ℕ) (x : A) → slice_get xs i ≡ Some x → drop i xs ≡ x ∷ drop (i + 1) xs
 drop_got {A} xs i x found = subst (λ n. drop i xs ≡ x ∷ drop n xs) (sym (add-one i)) (by xs i found)
   where

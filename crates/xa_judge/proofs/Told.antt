@@ -74,8 +74,8 @@ module _ {S : Type 0} {gives : S → SoFar → S → Type 0} where
   report_more {count = count} {mid = mid} {size = size} {new = new} before fit report =
       one_more count mid size new before fit report
 
-  -- if up to `seen` events are told, they are told as what was found says: up to what the verdict takes, or in passes
-  -- if there is no verdict
+  -- if the events are told up to `seen`, which is how many a verdict is about (`seen_for`) if one was found, they are
+  -- told as what was found says: up to that many, or in passes if there is no verdict
   pub told_found : (events : List Event) {all seen : ℕ} {old new : S} (found : Option Verdict)
       → IfSome found (λ verdict. seen_for events verdict ≡ seen) → IsToldUpTo gives all seen old new
       → MatchOption found (ArePasses gives all old new)
@@ -84,7 +84,7 @@ module _ {S : Type 0} {gives : S → SoFar → S → Type 0} where
   told_found events {all} {old} {new} (Some verdict) legal told =
       subst (λ n. IsToldUpTo gives all n old new) (sym legal) told
 
-  -- after passes, as many events are told as the verdict takes that was found; if none was, they are told in passes
+  -- what is told after passes of what was found, a verdict or none, is told with these passes, too
   pub found_on : {E : Type 0} (events : List Event) {all : ℕ} {old mid : S} (new : S)
       (result : Result (Option Verdict) E) → ArePasses gives all old mid
       → IfOk result (λ found. MatchOption found (ArePasses gives all mid new)
@@ -101,7 +101,8 @@ module _ {S : Type 0} {gives : S → SoFar → S → Type 0} where
   whole_told {base} {events} {all} {seen} {old} {new} reports =
       subst (λ n. IsToldUpTo gives n seen old new) (zero-add all) (told_of (sizes_of reports) (zero-add seen))
 
-  -- after passes, if a pass from the first event on leads to a verdict, as many events are told as that takes
+  -- after passes, if a pass from the first event on goes up to what the verdict is about (`seen_for`), the events are
+  -- told up to there
   pub verdict_on : {E : Type 0} (base : State) (events : List Event) {all : ℕ} {old mid : S} (new : S)
       (result : Result Verdict E) → ArePasses gives all old mid
       → IfOk result

@@ -57,7 +57,7 @@ reach_more base events place event trunk old new within at all leads =
     sym (take_more events place event within ∙ ap (λ x. take place events ++ x ∷ []) (sym at)) in
     subst (λ l. All (Reaches base l trunk) new) parts (leads base (take place events) trunk all)
 
--- if a list has a configuration that the events lead to, some order explains them
+-- if the events lead to each configuration of a list that isn't empty, some order explains them
 pub explained_by : (base : State) (seen : List Event) (trunk : List Move) (list : List Configuration) → 0 < length list
     → All (Reaches base seen trunk) list
     → Explained base seen
@@ -66,7 +66,7 @@ explained_by base seen trunk list some all =
     let first = get_within list 0 some in
     (trunk ++ first.0.path, config_of first.0, all_at (Reaches base seen trunk) list 0 first.0 all first.1)
 
--- LEGAL is right: the moves that are kept for a configuration lead through all events
+-- LEGAL is right: if all events lead to each of a list, the moves to its first one (`IsPathOf`) lead through them
 pub legal : (base : State) (events : List Event) (trunk moves : List Move) (list : List Configuration)
     → All (Reaches base (take (length events) events) trunk) list → IsPathOf trunk list moves
     → (new : Config) × LeadsThrough (opening_config base) events moves new
@@ -108,7 +108,7 @@ refuted base events place event trunk list within at some all complete none = re
         ∙ append_assoc (take place events) (event ∷ []) (drop (place + 1) events)
 
 -- if the events before a place lead to each configuration of a complete list, the answers that the session returning
--- there can have from the list are all that some order gives
+-- there can have from the list are all that some order gives. At an event that isn't a return there are none
 pub answers_given : (base : State) (events : List Event) (place : ℕ) (event : Event) (trunk : List Move)
     (list : List Configuration) (answers : List Answer)
     → slice_get events place ≡ Some event → All (Reaches base (take place events) trunk) list
@@ -169,7 +169,7 @@ wide base events limit place event trunk list many within at all kept spread kee
       (counted (get_or spread.many k d) (spread.has k d below));
 }
 
--- before all events the configuration that judging begins with is reached, by no moves
+-- before all events each of the list with the opening configuration alone is reached, by no moves
 pub opens_reached : (base : State) (list : List Configuration) → IsOpening base list → All (Reaches base [] []) list
 unfolding Reaches
 opens_reached base list is = subst (λ l. All (Reaches base [] []) l) (sym is.1)
@@ -178,7 +178,7 @@ opens_reached base list is = subst (λ l. All (Reaches base [] []) l) (sym is.1)
     one : LeadsThrough (opening_config base) [] ([] ++ is.0.path) (config_of is.0)
     one = subst (λ m. LeadsThrough (opening_config base) [] m (config_of is.0)) (sym is.3) is.2
 
--- before all events the list with the first configuration alone is complete
+-- before all events the list with the opening configuration alone is complete
 pub opens_complete : (base : State) (list : List Configuration) → IsOpening base list → IsComplete base [] list
 opens_complete base list is more moves end runs = record {
   one = opening_config base;
@@ -187,7 +187,7 @@ opens_complete base list is more moves end runs = record {
   runs = runs;
 }
 
--- common first moves may be taken out of all configurations: orders go on alike
+-- whatever goes on from a list goes on from the one with common first moves taken out (`IsShortened`)
 pub continues_shortened : (trunk longer : List Move) (old new : List Configuration) (more : List Event) (end : Config)
     → IsShortened trunk longer old new
     → Continues old more end → Continues new more end

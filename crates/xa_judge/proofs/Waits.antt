@@ -91,7 +91,7 @@ pub record Acted (old : Config) (session : ℕ) (act : Act) (new : Config) : Typ
   pub dead : may_answer (Some before) ≡ false → may_answer (Some next) ≡ false
 
 -- if what a session called for takes effect, that changes the state and the session's own client alone (`Acted`); `o`
--- is where that client stood
+-- is that client before
 acted_statement : (o : Option ClientState) (old new : Config) (session : ℕ) → slice_get old.clients session ≡ o
     → carried_out o old session ≡ Some new
     → Acted old session Statement new
@@ -129,8 +129,8 @@ acted_statement (Some (Gone (Some request))) old new session found is = record {
 }
 acted_statement (Some Left) old new session found is = absurd (none-some new is)
 
--- if the DISCONNECT of a lost client takes effect, that changes the state and that client alone (`Acted`); `o` is
--- where it stood
+-- if the DISCONNECT of a lost client takes effect, that changes the state and that client alone (`Acted`); `o` is that
+-- client before
 acted_disconnect : (o : Option ClientState) (old new : Config) (session : ℕ) → slice_get old.clients session ≡ o
     → disconnected o old session ≡ Some new
     → Acted old session Disconnect new
@@ -195,7 +195,7 @@ pub record Saw (old : Config) (event : Event) (new : Config) : Type 0 where
   pub again : (other : Config) → slice_get other.clients (session_of event) ≡ Some before
       → observed other event ≡ Some (with_client other (session_of event) next)
 
--- a call that is seen changes its own client alone (`Saw`); `o` is where that client stood
+-- a call that is seen changes its session's client alone (`Saw`); `o` is that client before
 pub saw_call : (o : Option ClientState) (old new : Config) (session : ℕ) (request : Request)
     → slice_get old.clients session ≡ o
     → called o old session request ≡ Some new → Saw old (Call session request) new
@@ -229,7 +229,7 @@ saw_call (Some Left) old new session request found is =
       again = λ other at. ap (λ o. called o other session request) at;
     }
 
--- a return that is seen changes its own client alone (`Saw`), and that client had an answer; `o` is where it stood
+-- a return that is seen changes its session's client alone (`Saw`), and `o`, that client before, had an answer
 pub saw_return : (o : Option ClientState) (old new : Config) (session : ℕ) (seen : Seen)
     → slice_get old.clients session ≡ o → returned o old session seen ≡ Some new
     → Saw old (Return session seen) new × (answered_so o ≡ true)
@@ -252,7 +252,7 @@ saw_return (Some (Answered answer)) old new session seen found is =
 saw_return (Some (Gone request)) old new session seen found is = absurd (none-some new is)
 saw_return (Some Left) old new session seen found is = absurd (none-some new is)
 
--- a loss that is seen changes the lost client alone (`Saw`); `o` is where that client stood
+-- a loss that is seen changes the lost client alone (`Saw`); `o` is that client before
 pub saw_lost : (o : Option ClientState) (old new : Config) (session : ℕ) → slice_get old.clients session ≡ o
     → lost o old session ≡ Some new
     → Saw old (Lost session) new
@@ -287,12 +287,12 @@ saw_lost (Some (Answered answer)) old new session found is =
 saw_lost (Some (Gone request)) old new session found is = absurd (none-some new is)
 saw_lost (Some Left) old new session found is = absurd (none-some new is)
 
--- an event is seen first, and the act takes effect behind it
+-- from `old` the event is seen first, and then the act takes effect and leads to `new`
 abbrev Swapped : Config → Event → ℕ → Act → Config → Type 0
 Swapped old event session act new =
     (first : Config) × (observed old event ≡ Some first) × (effect_of first session act ≡ Some new)
 
--- an act and an event of different sessions may be exchanged
+-- an act before an event of another session may come after it
 commute : (old mid new : Config) (session : ℕ) (act : Act) (event : Event) → Acted old session act mid
     → Saw mid event new → session ≢ session_of event
     → Swapped old event session act new
@@ -426,8 +426,8 @@ call_alone old mid new session Disconnect request heard is at =
     gone_alone (slice_get old.clients session) old mid new session request refl heard is at
 
 -- acts that come before the event can wait until it is seen: before a call, unless its session's client is gone with a
--- call that may still take effect; before a return, once its session was answered; before an answer that isn't known,
--- never
+-- call that may still take effect; before a return, once its session was answered; before a lost client, always;
+-- before an answer that isn't known, never
 abbrev pub CanWait : Config → Event → Type 0
 CanWait config (Call session request) = has_unheard config session ≡ false
 CanWait config (Return session seen) = call_is_answered config session ≡ true
@@ -440,7 +440,7 @@ pub answered_apart : (old mid : Config) (session other : ℕ) (act : Act) → Ac
 answered_apart old mid session other act a answered = λ e.
     false≢true (sym a.unanswered ∙ ap answered_so (sym a.found ∙ ap (slice_get old.clients) e) ∙ answered)
 
--- an act before an event may come after it, if the event needs no act before it
+-- an act before an event may come after it, if the event needs no act before it (`CanWait`)
 swap : (old mid new : Config) (session : ℕ) (act : Act) (event : Event) → effect_of old session act ≡ Some mid
     → observed mid event ≡ Some new
     → CanWait old event → Swapped old event session act new
@@ -481,7 +481,7 @@ swap old mid new session Disconnect (Lost other) is at waits = elim (same_number
 ]
 swap old mid new session act (Unknown other) is at waits = absurd waits
 
--- an event that needs no act before it needs none after an act has taken effect
+-- an event that needs no act before it (`CanWait`) needs none after an act has taken effect
 still_waits : (old mid : Config) (session : ℕ) (act : Act) (event : Event) → effect_of old session act ≡ Some mid
     → CanWait old event → CanWait mid event
 still_waits old mid session act (Call other request) is waits =
@@ -502,14 +502,14 @@ still_waits old mid session act (Return other seen) is waits =
 still_waits old mid session act (Lost other) is waits = tt
 still_waits old mid session act (Unknown other) is waits = absurd waits
 
--- the event is seen first, and then come the other moves
+-- from `old` the event is seen first, and then moves lead through the events `more` to `new`
 pub record First (old : Config) (event : Event) (more : List Event) (new : Config) : Type 0 where
   pub first : Config
   pub sees : observed old event ≡ Some first
   pub moves : List Move
   pub runs : LeadsThrough first more moves new
 
--- an event that needs no act before it may be seen first, and the acts before it come later
+-- an event that needs no act before it (`CanWait`) may be seen first, and the acts before it come later
 pub later : (old new : Config) (event : Event) (more : List Event) (moves : List Move) → CanWait old event
     → LeadsThrough old (event ∷ more) moves new
     → First old event more new

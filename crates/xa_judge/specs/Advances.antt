@@ -50,8 +50,8 @@ IsNoReturn (Lost session) = Unit {0}
 IsNoReturn (Unknown session) = Unit {0}
 
 -- what the event leaves of the old list, if no act comes before it. Known: a list with each configuration to which
--- the event leads, at least one, and no other. Impossible: the event can be seen in none of the old list, and
--- `answers` are given back. Never TooMany
+-- the event leads, at least one, and no other, reached if the old list is (`ReachesPast`). Impossible: the event can be
+-- seen in none of the old list, and `answers` are given back. Never TooMany
 abbrev pub IsSeenFrom : List Configuration → List Answer → Event → Advance → Type 0
 IsSeenFrom old answers event (Known list) =
     (0 < vec_len list) × ((one new : Config) → Has old one → observed one event ≡ Some new → Has list.items new)

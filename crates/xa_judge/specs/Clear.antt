@@ -3,7 +3,7 @@
 --     Avoids, IsBeside                a statement doesn't name a branch;  a session hasn't it open
 --     IsEnding, IsUnlisted            it is to end the branch;  it leaves the list of PREPARED branches as it is
 --     IsAmong, HasRow, MayEnd         a row is one of some;  a session has a row in its branch;  may end a branch
---     IsOwnStep                       an accepted statement changes only its branch, and values only of rows
+--     IsOwnStep                       an accepted statement changes only its branch, and values only of given rows
 --     IsClearOf, IsClearRequest       another statement has nothing to do with it;  another request
 --     IsHeldBack                      another request isn't answered before it what a return shows
 --     IsListedAfter, EndsPrepared     a list shows that the step was taken;  another statement ends what it prepares
@@ -141,7 +141,7 @@ IsListedAfter (Prepare own) xid listed = list_any (same_xid xid) listed ≡ true
 IsListedAfter (Commit own one_phase) xid listed = (one_phase ≡ false) × (list_any (same_xid xid) listed ≡ false)
 IsListedAfter other xid listed = ⊥
 
--- the step is XA PREPARE of the branch, and the other statement ends it: XA COMMIT in two phases, or XA ROLLBACK
+-- the step is an XA PREPARE, and the other statement ends this branch: XA COMMIT in two phases, or XA ROLLBACK
 abbrev pub EndsPrepared : Statement → Statement → Xid → Type 0
 EndsPrepared (Prepare own) (Commit other one_phase) xid = (other ≡ xid) × (one_phase ≡ false)
 EndsPrepared (Prepare own) (Rollback other) xid = other ≡ xid

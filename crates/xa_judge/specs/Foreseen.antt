@@ -4,9 +4,9 @@
 -- Every rule here is the project's own: crates/xa_judge/README.md.
 --     Hint, fact_of        what is known of an open call
 --     hint_of              what the session's open call returns, if that is known
---     IsOpenFor, AreAsked  a session has an open call for a request;  the hints name these requests
+--     IsOpenFor, AreAsked  a session has an open request, not answered yet;  the hints name these requests
 --     IsQuiet, IsQuietFor  the request changes nothing;  nor does it whenever the return shows its answer
---     IsAheadAt, IsBehindAt, IsAlikeAt   how far a session is, on the way of an order, and in what is kept
+--     IsAheadAt, IsBehindAt, IsAlikeAt   how far a session is, in an order, and in what is kept
 --     is_still             a request changes nothing as things are: it only reads (is_reading), or is refused (refuses)
 --     AreAlike             what is kept stands for a configuration of an order
 --     IsDead               a call was answered otherwise than it returns
@@ -69,7 +69,7 @@ IsOpenFor config session request =
     (slice_get config.clients session ≡ Some (Called request))
     ⊎ (slice_get config.clients session ≡ Some (Gone (Some request)))
 
--- each place of a client has a hint, and that names the request of the session's open call, if there is one
+-- each place of a client has a hint, and that names the session's open request (`IsOpenFor`), if there is one
 pub record AreAsked (hints : List Hint) (config : Config) : Type 0 where
   pub room : length hints ≡ length config.clients
   pub calls : (session : ℕ) (request : Request) → IsOpenFor config session request
@@ -168,7 +168,7 @@ pub record CanSettle (config : Config) (session : ℕ) (seen : Seen) : Type 0 wh
   pub quiet : IsQuietFor config.state session request seen
   pub shown : shows_answer seen (answer_to config.state session request) ≡ true
 
--- the act of the session isn't known to give its call another answer than it returns; nor is it one that changes
+-- an act of the session isn't known to give its call another answer than it returns; nor is it one that changes
 -- nothing, of a call that isn't heard of any more
 pub record IsAllowed (hints : List Hint) (config : Config) (session : ℕ) : Type 0 where
   pub fits : (seen : Seen) (request : Request) → hint_of hints session ≡ Some seen
@@ -177,8 +177,8 @@ pub record IsAllowed (hints : List Hint) (config : Config) (session : ℕ) : Typ
   pub counts : (request : Request) → (fact_of hints session).never ≡ true → hint_of hints session ≡ None
       → slice_get config.clients session ≡ Some (Called request) → is_still config.state session request ≡ false
 
--- the event fits what is known of its session's call. A return shows what is known, or nothing is known; the client
--- is lost only if nothing is known; an answer stays unknown only if no return is known
+-- the event fits what is known of how its session's call ends. A return shows what is known, or nothing is known; the
+-- client is lost only if nothing is known; an answer stays unknown only if no return is known
 abbrev pub FitsHints : List Hint → Event → Type 0
 FitsHints hints (Call session request) = Unit {0}
 FitsHints hints (Return session seen) =

@@ -12,7 +12,7 @@
 --     IsOpening        a list has only the configuration before all events
 --     IsPathOf, IsShortened      the moves to the first of a list;  a longer trunk leads to the same ones
 --     Grows            a list has more at its end, which is reached if the list is
---     AddsOnly         nothing is added but what acts that count (Late.antt) lead to from a configuration
+--     AddsOnly         nothing is added but what an act that counts (Late.antt) leads to from a configuration
 --     IsSettledIn, IsSeenIn    it comes of one of a list, by what a session called for;  by an event
 --     IsExpandedBelow, IsClosedBelow      the list has what acts that count lead to
 use Rattle.std.specs.Prelude.{◌≡◌, ◌≢◌, ◌⊎◌, ℕ, ◌<◌, false, Option, Some, None, List, [], ◌∷◌, ◌++◌, length}

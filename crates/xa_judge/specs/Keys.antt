@@ -143,7 +143,8 @@ FitsRow named turn key true = (turn ≡ Nobody) × (named key ≡ true)
 FitsRow named turn key false = (is_chosen turn ≡ false) × (named key ≡ false)
 
 -- the event may stand in this part; true stands for the chosen one. A call fits as its row does (`FitsRow`), and one
--- without a row only in the other part; the end of a call where the call stands; a lost client only in the other part
+-- without a row only in the other part; the end of a call where the call stands; a lost client only in the other part,
+-- if no chosen call of it is open
 abbrev pub FitsTurn : (List ℕ → Bool) → Turn → Event → Bool → Type 0
 FitsTurn named turn (Call session request) true = (turn ≡ Nobody) × IsOnRows named request
 FitsTurn named turn (Call session request) false = (is_chosen turn ≡ false) × IsOffRows named request
@@ -165,7 +166,8 @@ turns_past turns side event =
 unfoldable pub first_turns : List Turn
 first_turns = replicate 17 Nobody
 
--- each event has a part in which it may stand after those before it; true stands for the chosen part
+-- there is a part for each event, in which it may stand (`FitsTurn`) by the turns after those before it; true stands
+-- for the chosen part
 abbrev pub IsCut : (List ℕ → Bool) → List Turn → List Bool → List Event → Type 0
 IsCut named turns [] [] = Unit {0}
 IsCut named turns (side ∷ sides) (event ∷ events) =

@@ -1,6 +1,6 @@
 -- The configurations that a judge has to keep, if acts take effect as late as they can.
 -- Every rule here is the project's own: docs/HISTORIES.md#verdicts.
---     called_for       what a session has called for, if that has taken no effect yet
+--     called_for       what a session has called for, if that has taken no effect yet and its client isn't gone
 --     after_settling   the configuration after that takes effect
 --     call_is_answered  the session's call was answered, and hasn't returned yet
 --     has_unheard      the session's client is gone with an open call that may still take effect
@@ -10,7 +10,7 @@
 --     IsAnyUnheard     in one that is kept a session's client is gone with an open call
 --     Widens           acts may have to take effect before an event
 --     returning_at     the session that is to return at an event
---     IsCounted        what acts lead to before such an event
+--     IsCounted        what acts that count lead to, if they may have to take effect before an event
 --     IsReady, IsKeptAfter     what stands directly before an event, and after it
 --     IsKept           what is kept before the event at a place
 use Rattle.std.specs.Prelude.{◌≡◌, ◌≢◌, ◌⊎◌, ℕ, zero, suc, Bool, true, false, Option, Some, None, List, slice_get}
@@ -24,13 +24,13 @@ use Rattle.xa_judge.specs.declared.client_state.ClientState.TheVariants.{Called,
 use Rattle.xa_judge.specs.declared.moves.Act.{Act}
 use Rattle.xa_judge.specs.Explained.{Config, opening_config, effect_of, observed, IsSession, answer_to, next_state}
 
--- what a session has called for, if that has taken no effect yet
+-- what a session whose client isn't gone has called for, if that has taken no effect yet
 abbrev pub called_for : Option ClientState → Option Request
 called_for (Some (Called request)) = Some request
 called_for other = None
 
--- the configuration after the session's request, if there is one: with the state after it, and its answer at the
--- client
+-- the configuration after the session's request: with the state after it, and its answer at the client. The same
+-- configuration if there is no request
 abbrev pub settled_by : Option Request → Config → ℕ → Config
 settled_by None config session = config
 settled_by (Some request) config session =
@@ -39,7 +39,7 @@ settled_by (Some request) config session =
       clients = slice_set config.clients session (Answered (answer_to config.state session request));
     }
 
--- the configuration after what the session has called for takes effect; the same one if it has called for nothing
+-- the configuration after what the session has called for (`called_for`) takes effect; the same one if that is None
 unfoldable pub after_settling : Config → ℕ → Config
 after_settling config session = settled_by (called_for (slice_get config.clients session)) config session
 
@@ -57,7 +57,7 @@ abbrev pub unheard_so : Option ClientState → Bool
 unheard_so (Some (Gone (Some request))) = true
 unheard_so other = false
 
--- the session's client is gone, and its last call may still take effect
+-- the session's client is gone, and its open call may still take effect
 abbrev pub has_unheard : Config → ℕ → Bool
 has_unheard config session = unheard_so (slice_get config.clients session)
 
@@ -120,7 +120,8 @@ IsReady kept (Unknown session) config = IsCounted kept (Unknown session) config
 abbrev pub IsKeptAfter : (Config → Type 0) → Event → Config → Type 0
 IsKeptAfter kept event config = (one : Config) × IsReady kept event one × (observed one event ≡ Some config)
 
--- the configuration is kept before the event at the place: before the first one only the opening configuration
+-- the configuration is kept before the event at the place: the opening one before the first event, else what is kept
+-- after the event before (`IsKeptAfter`)
 abbrev pub IsKept : State → List Event → ℕ → Config → Type 0
 IsKept base events zero config = config ≡ opening_config base
 IsKept base events (suc place) config =

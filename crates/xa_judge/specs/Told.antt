@@ -1,6 +1,6 @@
 -- How far a judge tells that it is.
 --     IsReport         one report tells these numbers
---     AreReports       one report before each event that is judged, in turn
+--     AreReports       a report for each of so many events, one after another
 --     IsSize           so many configurations may be kept before an event of a pass
 --     ArePasses        passes of such reports, one after another, or none
 --     seen_for         how many events a verdict is about
@@ -32,8 +32,8 @@ pub record IsReport {S : Type 0} (gives : S → SoFar → S → Type 0) (done al
     pub count : so_far.all ≡ all
     pub size : so_far.configurations ≡ configurations
 
--- this many events, of which the first has this place, are reported in turn, each before it is judged, and no others.
--- `fits` holds of how many events of this pass were reported before one, and of the number of configurations told
+-- this many events, of which the first has this place, are reported, one after another, and no others. `fits` holds of
+-- how many events of this pass were reported before one, and of the number of configurations told
 pub data AreReports {S : Type 0} (gives : S → SoFar → S → Type 0) (fits : ℕ → ℕ → Type 0) (first all : ℕ) (old : S)
     : ℕ → S → Type 0 where
   no_report : AreReports gives fits first all old 0 old
@@ -82,8 +82,8 @@ IsComplete base seen list =
     (more : List Event) (moves : List Move) (new : Config) → LeadsThrough (opening_config base) (seen ++ more) moves new
     → Continues list more new
 
--- `size` is the length of the list that is kept before the event at this place. Each of the list is reached, and may
--- be kept there (`IsKept`). All that is still explained goes on from one of them
+-- `size` is the length (`IsSize`) of the list that is kept before the event at this place. Each of the list is reached,
+-- and may be kept there (`IsKept`). All that is still explained goes on from one of them
 pub record IsSizeOfKept (base : State) (events : List Event) (place size : ℕ) : Type 0 where
   pub known : List Configuration
   pub length_is : size ≡ length known

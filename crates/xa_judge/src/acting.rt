@@ -93,7 +93,7 @@ impl Configuration {
             path,
         } = self;
         let (server, answer) = server.carried_out(session, request)?;
-        // Many configurations have the same answer for a session. They share one copy, since lists of rows are long.
+        // Many configurations have the same list of branches as an answer. They share one, since such lists are long.
         let shared = shared_among(clients.as_slice(), lists, answer)?;
         let answered = ClientState::Answered(shared);
         Configuration {
@@ -179,8 +179,8 @@ impl Configuration {
         }
     }
 
-    /// The configuration after what the session called for takes effect; None if it has no request that is still to
-    /// take effect. Then the session is answered; or, if its client is gone, nobody hears the answer.
+    /// The configuration after what the session called for takes effect: the session is answered or, if its client is
+    /// gone, nobody hears the answer. None if it has no request that is still to take effect.
     #[tactic(auto, unfolding(crate::specs::Explained::effect_of, crate::specs::Explained::carried_out))]
     fn carried_out(
         self,
@@ -288,8 +288,8 @@ impl Configuration {
         }
     }
 
-    /// Returns a copy of the configuration in which the session's act has taken effect; None if it can't. The answer
-    /// is shared as in `effected_among`.
+    /// Returns a copy of the configuration, with a server of its own, in which the session's act has taken effect; None
+    /// if it can't. The answer is shared as in `effected_among`.
     ///
     /// May return `NoMemory`.
     pub fn effected(

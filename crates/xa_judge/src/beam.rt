@@ -17,8 +17,8 @@ use std::alloc::Global;
 use std::mem;
 use xa_xid::{NoMemory, SessionNo};
 
-/// How many configurations may be looked at before an event for each one that may be kept. One effect in front of a
-/// call often isn't enough; looking at more takes longer.
+/// How many configurations may be looked at before an event for each one that may be kept. Often more than one effect
+/// has to come before that of the call that returns. Looking at more takes longer.
 const SIGHT: usize = 8;
 
 /// Some of the configurations before an event. In each of them every call that took effect was answered with
@@ -31,7 +31,7 @@ pub struct Beam<'a> {
     foresight: Foresight<'a>,
     /// The configurations. Their order matters: of those with equally many stuck calls the earlier ones are kept.
     pub known: Vec<Configuration>,
-    /// At which places of `known` the configurations are.
+    /// The index in which configurations are looked up while `known` grows.
     index: FingerprintIndex,
     /// Every effect that there can be.
     effects: Vec<Effect>,
@@ -119,7 +119,7 @@ impl<'a> Beam<'a> {
     ) -> Result<Option<Configuration>, NoMemory> {
         let mut here = one.copy()?;
         for effect in self.effects.iter() {
-            // An effect that doesn't fit isn't tried: its call returns another answer later, so no order goes on there.
+            // An effect that doesn't fit isn't tried: it can't come about, or its call returns another answer later.
             if effect.session != own.session && self.foresight.fit(&here, effect)? != Fit::Not {
                 let lists = &mut self.index.lists;
                 here = match here.effected_among(effect.session, effect.act, lists)? {
@@ -151,7 +151,7 @@ impl<'a> Beam<'a> {
             None => None,
             Some(one) => after(&self.foresight, &mut self.index.lists, one, effect)?,
         };
-        // Only effects that make a new configuration are costly, so only they are counted.
+        // Only effects that fit are costly, since a configuration is copied. So only they are counted.
         if found.is_some() {
             self.left = self.left.saturating_sub(1);
         }
@@ -198,9 +198,9 @@ impl<'a> Beam<'a> {
     }
 
     /// Makes `known` the configurations in which an event of the session is to be tried. Each one before gives at
-    /// most two: after the session's own request alone, and after all other effects that fit and then the request; or
-    /// itself, if it has no request to take effect. Then come those that still wait for the request, and what
-    /// `look_on` adds.
+    /// most two: after the session's own request alone, and after all effects of other sessions that fit and then the
+    /// request; or itself, if it has no request to take effect. Then come those that still wait for the request, and
+    /// what `look_on` adds.
     fn prepare(&mut self, session: SessionNo) -> Result<(), NoMemory> {
         let own = Effect::of(session);
         let before = mem::replace(&mut self.known, Vec::new(self.alloc));

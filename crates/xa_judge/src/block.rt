@@ -1,4 +1,4 @@
-//! Codes of moves that several paths share.
+//! Codes of moves (`code_of` in `path.rt`) that several paths share.
 ghost use Rattle.std.specs.Prelude.{◌≡◌, IfOk};
 
 use std::alloc::{AllocError, Global};

@@ -1,4 +1,4 @@
-//! Blocks that paths can share.
+//! Blocks of moves that paths can share.
 ghost use Rattle.std.specs.Prelude.{◌≡◌, IfOk, IfSome};
 
 use crate::block::Block;
@@ -9,7 +9,7 @@ use xa_xid::NoMemory;
 /// ones, and each new one is compared with all.
 const MOST: usize = 64;
 
-/// Blocks that paths can share.
+/// Blocks of moves that paths can share.
 #[derive(Drop)]
 pub struct Blocks {
     kept: Vec<Block>,

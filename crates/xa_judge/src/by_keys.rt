@@ -1,8 +1,8 @@
-//! Judges free statements key by key.
+//! Judges free statements row by row.
 //!
 //! A session that has no branch reads and writes a row at once, and a row for which only such sessions call is a
-//! register of its own. A record is explained exactly if the statements on each such row are, and so is the rest.
-//! The `GET`, `PUT` and `DEL` of such rows are the free statements.
+//! register of its own. A record that begins without a branch is explained exactly if the statements on each such row
+//! are, and so is the rest. The `GET`, `PUT` and `DEL` of such rows are the free statements.
 ghost use Rattle.std.specs.Prelude.{◌≡◌, true, false, not, take, IfOk, IfSome};
 ghost use Rattle.xa_judge.specs.Explained.{Explained};
 ghost use Rattle.xa_judge.specs.Keys.{first_turns, HasNoBranch, IsCut, picked};
@@ -60,8 +60,8 @@ fn legal_together(
     }
 }
 
-/// The verdict ILLEGAL at the event at which the part `wanted` is refuted: its place in that part is `index`, and it
-/// could have shown the `answers`. `sides` has the part of each event, and `true` is the chosen one. An order
+/// The verdict ILLEGAL at the event at which the part `wanted` is refuted: its place in that part is `index`, and its
+/// call could have had the `answers`. `sides` has the part of each event, and `true` is the chosen one. An order
 /// explains the first `explained` events of the other part. None if more than `explained` events of the other part come
 /// before the refuted event, or if the part `wanted` has no event at `index`.
 fn illegal_in(

@@ -1,8 +1,8 @@
 //! Tells which statements have nothing to do with a step of another session's branch, or are answered only after it.
 //!
-//! A step is an accepted statement that starts, ends, prepares or finishes a branch, or is about a row in it. In these
-//! functions `one` is the step, `xid` its branch, `rows` has the keys of the rows that it is about, and `two` is a
-//! statement of another session.
+//! A step is an accepted statement that starts, ends, prepares or finishes a branch, or is about a row in it that no
+//! other branch holds. In these functions `one` is the step, `xid` its branch, `rows` has the keys of the rows that it
+//! is about, and `two` is a statement of another session.
 ghost use Rattle.std.specs.Prelude.{◌≡◌, ◌≢◌, ◌<◌, ◌+◌, ◌∷◌, true, false, Some, None, List, ℕ, slice_get, length, drop};
 ghost use Rattle.std.specs.List.{list_any};
 ghost use Rattle.std.specs.Ordering.{eq_by_cmp};

@@ -27,7 +27,7 @@ pub struct Configuration {
     pub server: KeptServer,
     /// How far each session is, at the place of its number.
     pub clients: Vec<ClientState>,
-    /// The moves that led here, from where the trunk ends.
+    /// The moves that led here, after those of the trunk, which all configurations of its list have in common.
     pub path: Path,
 }
 

@@ -8,7 +8,7 @@ use xa_xid::SessionNo;
 /// A request that a server carried out.
 #[derive(Drop)]
 pub struct Done {
-    /// The session that called for it.
+    /// The session whose request it is.
     pub session: SessionNo,
     /// The request.
     pub request: SharedRequest,

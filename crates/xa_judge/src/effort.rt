@@ -18,7 +18,7 @@ const LOOKUP: u64 = 8;
 const COUNTED: u64 = 36;
 
 /// How many configurations may be kept at a time, and how many more may be looked up. A configuration with more records
-/// of rows and branches takes longer to look up, so these are counted.
+/// of rows and branches takes longer to look up, so records are counted.
 #[derive(Drop)]
 pub struct Effort {
     /// The greatest number that is kept.

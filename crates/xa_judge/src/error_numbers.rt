@@ -9,7 +9,7 @@ use std::alloc::Global;
 pub struct ErrorNumbers {
     /// The number that was seen.
     pub seen: u16,
-    /// The other numbers of the rules for which it may stand.
+    /// The other numbers for which it is allowed to stand.
     pub others: Vec<u16>,
 }
 

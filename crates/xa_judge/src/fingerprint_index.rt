@@ -31,15 +31,15 @@ pub struct FingerprintIndex {
     before: Vec<Option<usize>>,
     /// The fingerprint of the configuration that was looked up last; None again after `note` or `clear`.
     sought: Option<u64>,
-    /// Rows that events called to write. Each other row has the same value in all configurations, as long as
-    /// there are no more rows than are listed.
+    /// Rows that events called to write since rows were forgotten last, at most `MOST_WRITTEN`. As a rule each other
+    /// row has the same value in all configurations. Where one hasn't, more fingerprints are equal.
     written: Vec<Key>,
-    /// For each row that an event called to write, by its fingerprint: how often rows had been forgotten when
-    /// it was listed last.
+    /// For each row that an event called to write, by its fingerprint: how often rows had been forgotten at the last
+    /// such event. Past `MOST_RECORDS` rows, new ones are left out (`see_written`).
     rows: BTreeMap<u64, u64>,
     /// How often rows were forgotten.
     forgotten: u64,
-    /// How often a configuration was looked up.
+    /// How often a configuration was looked up since lookups were forgotten last (`forget_lookups`).
     lookups: u64,
     /// An estimate of the records of branches that servers have in addition to rows.
     branches: BranchRecords,
@@ -84,8 +84,8 @@ impl FingerprintIndex {
         self.sought = None;
     }
 
-    /// Forgets all places, so that the index can serve a list of configurations that have also seen this event. Takes
-    /// note of what the event calls to write, and of what it does to branches.
+    /// Forgets all places and `lists`, so that the index can serve a list of configurations that have also seen this
+    /// event. Takes note of what the event calls to write, and of what it does to branches.
     ///
     /// May return `NoMemory`.
     pub fn go_on(&mut self, event: &Event) -> Result<(), NoMemory> {
@@ -204,7 +204,7 @@ impl FingerprintIndex {
         Ok(self.last.get(&fingerprint).copied())
     }
 
-    /// Returns how often a configuration was looked up.
+    /// Returns how often a configuration was looked up since `forget_lookups` was called last.
     pub fn lookups(&self) -> u64 {
         self.lookups
     }

@@ -225,7 +225,7 @@ impl Fingerprint {
         fingerprint
     }
 
-    /// Adds a branch of the server.
+    /// Adds a branch of the server: its identifier, phase and owner, and the rows that it holds.
     fn with_branch(
         self,
         alloc: Global,

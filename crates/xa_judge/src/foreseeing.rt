@@ -1,8 +1,8 @@
 //! Configurations that are kept where later returns are known.
 //!
-//! In these functions `known` is the list of configurations, and `place` one of its places. `events` are all events of
-//! the record, and `places` has what is known of the open call of each session, at the session's number: where it
-//! returns, or that it isn't heard of any more.
+//! In these functions `known` is the list of configurations, and `place` one of its places. `events` are those of the
+//! record, or of its beginning, and `places` has what is known of the open call of each session, at the session's
+//! number: where it returns, or that it isn't heard of any more.
 ghost use Rattle.std.specs.Prelude.{◌≡◌, ◌<◌, true, false, None, Some, slice_get, vec_len, length};
 ghost use Rattle.std.specs.Prelude.{IfOk, OnOk};
 ghost use Rattle.xa_judge.specs.declared.configuration.Configuration.{Configuration as Found};

@@ -49,7 +49,8 @@ fn answer_ahead<'a>(events: &'a [Event], from: usize, session: SessionNo) -> Opt
     None
 }
 
-/// Whether the request is known to change nothing; false also if the server isn't kept as itself: making it takes long.
+/// Whether the request is known to change nothing; false for any statement if the server isn't kept as itself: making
+/// it takes long.
 fn is_quiet(server: &KeptServer, session: SessionNo, request: &Request) -> Result<bool, NoMemory> {
     match request {
         Request::Unread => Ok(true),

@@ -12,8 +12,8 @@ pub struct Frontier {
     pub known: Vec<Configuration>,
     /// The moves that all of them begin with, from the opening on. Each one's path goes on from there.
     pub trunk: Vec<Move>,
-    /// Where the open call of each session returns, as far as that is known, at the session's number.
+    /// What is known of the open call of each session, at the session's number.
     pub places: Vec<OpenCall>,
-    /// At which places of `known` the configurations are.
+    /// The index in which configurations are looked up. It has seen the events so far.
     pub index: FingerprintIndex,
 }

@@ -100,10 +100,10 @@ fn halved(
 
 /// Returns the place of the first event after which no configuration is left, if only the events up to it are known,
 /// and so no later return. The caller expects it among the places from `least` to `most`. None if a sweep through the
-/// events was given up, as when `effort` allows no more, or if nothing is left after an event before them.
+/// events was given up, as when `effort` allows no more, or if nothing is left after one of those gone through first.
 ///
 /// If a call returns at `least` or before, its return is known whichever of these places is tried. So the events
-/// before the first call that returns later are gone through only once.
+/// before the first call that returns later are gone through first, and only once.
 ///
 /// May return `NoMemory`.
 pub fn first_refuted(

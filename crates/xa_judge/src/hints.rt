@@ -1,4 +1,5 @@
-//! What is known of open calls: where each returns, or that it isn't heard of any more.
+//! What is known of open calls: where each returns, or that it isn't heard of any more. In these functions `places` has
+//! that of each session, at the session's number.
 ghost use Rattle.std.specs.Prelude.{◌≡◌, true, false, ℕ, Some, None, List, slice_get, slice_set, length, IfOk, IfSome};
 ghost use Rattle.std.specs.Option.{option_copied};
 ghost use Rattle.xa_judge.specs.Foreseen.{hint_in, hint_of, hints_of, fact_of, seen_in, FitsHints, NotesCall};
@@ -78,7 +79,7 @@ fn is_no_return_at(events: &[Event], places: &[OpenCall], number: usize) -> bool
     }
 }
 
-/// Tells whether there is no open call of which it is known what it returns. `places` has what is known of open calls.
+/// Tells whether there is no open call of which it is known what it returns.
 pub fn are_unknown(events: &[Event], places: &[OpenCall]) -> bool
     ensures { result ≡ true → (session : ℕ) → hint_of (hints_of events.now places.now) session ≡ None }
 {
@@ -221,8 +222,8 @@ fn next_own(events: &[Event], place: usize) -> Option<usize> {
     None
 }
 
-/// Returns where the call at this place returns; None if no event shows what it is answered. None also if the place
-/// is `asked`, since all answers of that call are looked for.
+/// Returns the place where the call at this place returns; None if no call is there, or no event shows what it is
+/// answered. None also if the place is `asked`, since all answers of that call are looked for.
 pub fn next_return(events: &[Event], place: usize, asked: usize) -> Option<usize> {
     if place == asked {
         return None;
@@ -234,8 +235,8 @@ pub fn next_return(events: &[Event], place: usize, asked: usize) -> Option<usize
     }
 }
 
-/// Whether no event shows what the call at this place is answered, and its client isn't lost while it is open. True
-/// also if no call is there.
+/// Whether the call at this place isn't heard of any more: its session has no later event, or the next one is an answer
+/// that stays unknown. True also if no call is there.
 fn is_unheard(events: &[Event], place: usize) -> bool {
     match next_own(events, place) {
         None => true,
@@ -311,7 +312,7 @@ pub fn later_places(
 }
 
 /// Returns the last place at which one of these open calls is known to return, or `least`, if that is later. `count`
-/// is the number of events. Only returns up to the place returned can have refuted what was kept.
+/// is the number of events. Only returns up to that place can have refuted what was kept.
 pub fn last_place(places: &[OpenCall], least: usize, count: usize) -> usize {
     let mut last = least;
     for place in places {
@@ -344,8 +345,8 @@ fn never_heard(events: &[Event], places: &[OpenCall], number: usize) -> Option<O
     }
 }
 
-/// If `event`, which is at this place, is a call, notes in `places` that it isn't heard of any more, if no later event
-/// shows its answer and its client isn't lost while it is open. Of the call at the place `asked` nothing is noted.
+/// If `event`, which is at this place, is a call that isn't heard of any more (`is_unheard`), notes that in `places`.
+/// Of the call at the place `asked` nothing is noted.
 pub fn note_unheard(
     events: &[Event],
     places: &mut Vec<OpenCall>,

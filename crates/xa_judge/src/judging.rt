@@ -137,9 +137,8 @@ pub fn judge_telling<P: Progress>(
     // Proved (records, illegal-answers)
     // Proved (records, undecided)
     ensures verdict { IfOk result (IsVerdict base.now events.now limit) }
-    // Proved (records, progress): `progress` is told of each event that is judged, in turn, and of nothing else: its
-    //   place, and how many events there are. It is told in passes, one event after another, and the last pass goes
-    //   up to what decides.
+    // Proved (records, progress): `progress` is told of events in passes, in each pass of one event after another, and
+    //   of nothing else: of an event its place, and how many events there are. The last pass goes up to what decides.
     ensures told { IfOk result (λ verdict. IsToldUpTo P.judged_gives (length events.now)
         (seen_for events.now verdict) progress.old progress.new) }
 {
@@ -167,9 +166,9 @@ pub fn judge_telling<P: Progress>(
 /// Identifiers that a call returns have to be in ascending order.
 /// Errors: `NoMemory` if an allocation failed.
 /// Takes memory for the configurations. In a list of up to 255 each has a copy of the server's records, and in a longer
-/// one each whose server carried out 128 requests or more since it was copied, as long as 128 MiB hold these by an
-/// estimate; others share those of one server. Those that later returns allow have a copy each: if 384 MiB don't hold
-/// these by an estimate, that way finds no verdict. Doesn't wait.
+/// one each whose server carried out 128 requests or more since it was copied, as long as 128 MiB hold a copy for each
+/// of the list by an estimate; others share those of one server. Those that later returns allow have a copy each: if
+/// 384 MiB don't hold these by an estimate, that way finds no verdict. Doesn't wait.
 /// Own rule: docs/HISTORIES.md#verdicts.
 pub fn judge(
     alloc: Global,

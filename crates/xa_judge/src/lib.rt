@@ -2,8 +2,8 @@
 //! either way.
 //!
 //! `judge` takes what was seen as a list of events, and returns a verdict: the moves of an order that
-//! explains them, the event that no order explains, or the event where the search passed its limit. Read
-//! docs/HISTORIES.md#what-explains-a-record, then `specs/Explained.antt` and `src/judging.rt`. README.md
+//! explains them, the event that no order explains, or the event before which it found more configurations than its
+//! limit. Read docs/HISTORIES.md#what-explains-a-record, then `specs/Explained.antt` and `src/judging.rt`. README.md
 //! explains the search.
 #![tactic(auto)]
 

@@ -5,7 +5,7 @@ use xa_xid::SessionNo;
 /// What of a session can take effect.
 #[derive(Clone, Copy, Debug, PartialEq, Eq)]
 pub enum Act {
-    /// The statement that it called for.
+    /// The request that it called for.
     Statement,
     /// Its `DISCONNECT`, after its client is gone.
     Disconnect,

@@ -92,7 +92,7 @@ fn tells_free(reply: &Reply) -> bool
 fn is_free(server: &Server, session: SessionNo) -> Result<bool, NoMemory>
     ensures { IfOk result (λ free. free ≡ true → association_of server.now session ≡ Association.Free) }
 {
-    // XA END is refused as `tells_free` says only if the session owns no branch. So any identifier does, also an
+    // XA END is refused as `tells_free` says exactly if the session owns no branch. So any identifier does, also an
     // empty one.
     let xid = Xid {
         format_id: 0,
@@ -320,9 +320,9 @@ fn judge_later_kept<P: Progress>(
     Ok(whole)
 }
 
-/// The verdict on all events, by judging those in `later` on the server `near` with at most `limit` configurations, of
-/// which only those are kept that the returns of open calls allow (`judge_ahead`); None if that gives no verdict on
-/// them, or if its moves don't lead on from those for the `first` events.
+/// The verdict on all events, by judging those in `later` on the server `near` with the configurations that the returns
+/// of open calls allow (`judge_ahead`), at most `limit`; None if that gives no verdict on them, or if its moves don't
+/// lead on from those for the `first` events.
 fn judge_later_ahead(
     alloc: Global,
     base: &Server,

@@ -80,15 +80,15 @@ fn has_row(server: &KeptServer, session: SessionNo, key: &Key, xid: &Xid) -> Res
     if !has_active(server, session, xid)? {
         return Ok(false);
     }
-    // In a branch a DEL is refused exactly if another branch holds the row.
+    // In an ACTIVE branch a DEL is refused exactly if another branch holds the row.
     let request = Request::Statement(Statement::Del(key.copy()));
     let yes = is_accepted(server, session, &request)?;
     Ok(yes)
 }
 
-/// Whether the session's statement, which is its request, is a step of the branch `xid`: it names the branch and would
-/// be answered OK, or it names a row that no other branch holds, and the session has the branch ACTIVE. `rows` has the
-/// rows that the statement is about.
+/// Whether the session's statement, which is its `request`, is a step of the branch `xid`: it names the branch and
+/// would be answered OK, or it names a row that no other branch holds, and the session has the branch ACTIVE. `rows`
+/// has the rows that the statement is about.
 fn is_step(
     server: &KeptServer,
     session: SessionNo,

@@ -135,8 +135,8 @@ fn turn_within(request: &Request) -> Turn
 fn turn_called(turn: Turn, request: &Request) -> Turn
     ensures { result ≡ called_turn turn request.now }
 {
-    // With a call still open (`Chosen`, `Other`, `Rest`, `Ending`) this call can't be seen. It counts as one of a
-    // session that may have a branch.
+    // After a call that hasn't ended (`Chosen`, `Other`, `Rest`, `Ending`) this one can be seen only if the client is
+    // gone. It counts as one of a session that may have a branch.
     match turn {
         Turn::Nobody => {
             if is_start(request) {

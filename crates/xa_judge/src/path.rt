@@ -14,8 +14,8 @@ use xa_xid::{NoMemory, SessionNo};
 /// code is the number itself, from 1 to 16.
 const DISCONNECT: u8 = 16;
 
-/// The moves that led to a configuration. The older ones are in blocks, which other paths can share. A
-/// contract sees the list of moves.
+/// The moves that led to a configuration, from where the trunk ends. The older ones are in blocks, which other paths
+/// can share. A contract sees the list of moves.
 #[derive(Drop)]
 pub struct Path {
     /// The codes of the older moves.
@@ -64,7 +64,7 @@ fn move_at(code: u8) -> Move
 {
     match SessionNo::of(code as u64) {
         Some(session) => Move::Effect(session, Act::Statement),
-        // Of the smaller codes only 0 comes here. It stays 0, which is no session's number.
+        // Of the codes below 17 only 0 comes here. It stays 0, which is no session's number.
         None => match SessionNo::of(code.saturating_sub(DISCONNECT) as u64) {
             Some(session) => Move::Effect(session, Act::Disconnect),
             None => Move::Event,

@@ -28,11 +28,11 @@ fn says_none(answer: &Answer) -> bool
     }
 }
 
-/// Whether the session has no branch open.
+/// Whether the session is known to have no branch open.
 fn is_outside(server: &KeptServer, session: SessionNo) -> Result<bool, NoMemory>
     ensures { IfOk result (λ outside. outside ≡ true → association_of server.now session ≡ Free) }
 {
-    // XA END is refused as `says_none` says exactly if the session has no branch. So any identifier does, also an
+    // XA END is refused as `says_none` says exactly if the session has no branch open. So any identifier does, also an
     // empty one.
     let nobody = Xid {
         format_id: 1,

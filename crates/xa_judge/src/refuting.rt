@@ -102,10 +102,10 @@ fn shows_none(seen: &Seen, answers: &[SharedAnswer]) -> bool
     true
 }
 
-/// Returns the verdict ILLEGAL at the return at this place, which shows `seen` to the session, if `seen` shows none of
-/// the `answers`, and some order of the `first` events, those before the place, gives each of these. `answers` has all
-/// that can be given. As orders only those are tried that led to a configuration kept in `front`. Else None, also if
-/// there are no answers.
+/// Returns the verdict ILLEGAL at the return at this place, which shows `seen` to the session. None if `seen` shows one
+/// of the `answers`, if there are none, or if for one of them no order of the `first` events, those before the place,
+/// is found that gives it. Only orders are tried that led to a configuration kept in `front`. `answers` has all that
+/// can be given.
 ///
 /// May return `NoMemory`.
 pub fn refuted(

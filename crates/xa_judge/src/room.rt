@@ -16,7 +16,7 @@ pub const MOST_RECORDS: usize = BYTES / RECORD;
 
 /// Whether `room` bytes hold `count` servers, each of which takes `bytes` bytes in addition to this many records.
 fn holds_all(room: usize, count: usize, bytes: usize, records: usize) -> bool {
-    // Numbers that saturate are more than any `room`, so the answer is right for them too.
+    // Numbers that saturate are more than `BYTES` and `APART`, so the answer is right for them too.
     let each = records.saturating_mul(RECORD).saturating_add(bytes);
     count.saturating_mul(each) <= room
 }

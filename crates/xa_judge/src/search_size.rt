@@ -5,7 +5,7 @@
 pub enum SearchSize {
     /// So little that it takes less time than what comes after it.
     Short,
-    /// As much as any search may: beyond that, keeping all configurations decides sooner than to go on searching.
+    /// As much as any search may: beyond that, keeping all configurations decides sooner than going on searching.
     Whole,
 }
 

@@ -90,7 +90,7 @@ fn moves_behind<P: Progress>(
 /// The search looks at no order in which a call is answered otherwise than it returns. It keeps the configurations
 /// with the fewest stuck calls, whose answers, given now, wouldn't be what they return; first few configurations, then
 /// more. It begins where calls overlap. Its server has carried out the calls before that, except those that name a row
-/// which no later call names.
+/// which no later call names (`server_for`).
 /// May return `NoMemory`.
 pub fn moves_through<P: Progress>(
     alloc: Global,

@@ -31,7 +31,7 @@ impl SharedLists {
         }
     }
 
-    /// Forgets all lists. Who owns one keeps it.
+    /// Forgets all lists and identifiers. Who owns one keeps it.
     pub fn clear(&mut self) {
         self.newest.clear();
         self.xids.clear();

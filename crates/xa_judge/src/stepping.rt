@@ -20,11 +20,11 @@ use crate::shared_lists::SharedLists;
 use std::alloc::Global;
 use xa_xid::{NoMemory, SessionNo, Statement, Xid};
 
-/// The configuration `kept` after the session's statement, which is its `request`, has taken effect, if two things are
-/// known: the statement is a step of the branch `xid` now, and each call that other sessions have open, or make until
-/// it returns, has nothing to do with it or is answered only after it. Else `kept` itself. `places` has what is known
-/// of open calls, `from` is the place of the next event, and `lists` has the replies of `XA RECOVER` that
-/// configurations share.
+/// The configuration `kept` after the session's statement, which is its `request`, has taken effect, if this is known:
+/// the statement is a step of the branch `xid` now, the session's next event is its return or there is none, and each
+/// call that other sessions have open, or make until then, has nothing to do with it or is answered only after it.
+/// Else `kept` itself. `places` has what is known of open calls, `from` is the place of the next event, and `lists` has
+/// the replies of `XA RECOVER` that configurations share.
 fn stepped_one(
     kept: Configuration,
     events: &[Event],
@@ -58,8 +58,8 @@ fn stepped_one(
 }
 
 /// The configurations, each after the session's statement if it can be taken there as a step of the branch `xid`
-/// (`stepped_one`). They are gone through from the last one on. Of those that are then known to be the same, one is
-/// kept. The call isn't noted as never heard of: `stepped_for` leaves such a call out.
+/// (`stepped_one`). They are gone through from the last to the first. Of those that are then known to be the same, one
+/// is kept. The call isn't noted as never heard of: `stepped_for` leaves such a call out.
 fn stepped_all(
     alloc: Global,
     mut known: Vec<Configuration>,
@@ -169,7 +169,7 @@ fn stepped_for(
     Ok(list)
 }
 
-/// Whether there is a configuration in which the session's call is open and hasn't taken effect.
+/// Whether there is a configuration in which the session's open call hasn't taken effect, and its client isn't gone.
 fn is_called(known: &[Configuration], session: SessionNo) -> bool {
     for one in known {
         if let Some(ClientState::Called(_)) = one.client(session) {
@@ -203,7 +203,7 @@ fn stepped_at(
     let Some(Event::Call(session, call)) = events.get(place) else {
         return Ok(known);
     };
-    // A call that has taken effect in all of them needs no more.
+    // A call that has taken effect in all of them needs no more. One whose client is gone is no step (`takes_step`).
     if !is_called(known.as_slice(), *session) {
         return Ok(known);
     }
@@ -221,11 +221,11 @@ fn stepped_at(
 }
 
 /// Returns the configurations, each after those open calls have taken effect that are known to be steps of their
-/// sessions' branches in that configuration, and may come first. A step may if each call that other sessions have
-/// open, or make until the step returns, or up to the end if it doesn't, has nothing to do with it or is answered only
-/// after it. `places` has what is known of the calls that are open before the place `from`.
+/// sessions' branches in that configuration, and may come first. A step may if its session's next event is its return,
+/// or there is none, and each call that other sessions have open, or make until then, has nothing to do with it or is
+/// answered only after it. `places` has what is known of the calls that are open before the place `from`.
 ///
-/// A step that had to wait for another call is tried again after each event.
+/// A step that had to wait is tried again after each event, unless it is noted that no event shows its answer.
 /// May return `NoMemory`.
 pub fn stepped(
     alloc: Global,

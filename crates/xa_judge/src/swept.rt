@@ -1,8 +1,8 @@
-//! Where going through events with foresight ends.
+//! Where a sweep through events ends (`sweep_on`).
 
 use crate::frontier::Frontier;
 
-/// Where going through events with foresight ends.
+/// Where a sweep through events ends (`sweep_on`).
 #[derive(Drop)]
 pub enum Swept {
     /// After all events that were to be gone through: what is kept there.

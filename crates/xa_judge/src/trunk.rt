@@ -57,8 +57,8 @@ fn fold_all(alloc: Global, known: &mut Vec<Configuration>) -> Result<(), NoMemor
     Ok(())
 }
 
-/// Has the configurations share what led to them, as far as possible, after the event at this place. If only one is
-/// left, its path goes to the trunk. After every `APART` events, equal blocks are shared.
+/// Has the configurations share what led to them, after the event at this place: if only one is left, its path goes to
+/// the trunk, and after every `APART` events equal blocks are shared (`fold_all`).
 ///
 /// May return `NoMemory`.
 pub fn share(

@@ -95,7 +95,7 @@ pub fn judge_narrow<P: Progress>(
 }
 
 /// Returns the verdict LEGAL, if a search of this size for one order finds moves that lead through all of the events;
-/// or None, which says nothing about the events.
+/// or None, which says nothing about the events. Only the contract names `limit`.
 ///
 /// May return `NoMemory`.
 pub fn judge_by_search<P: Progress>(

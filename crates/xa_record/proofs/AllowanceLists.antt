@@ -51,7 +51,7 @@ allowed_for-whole allowances kind number whole others index past is =
     sym (is ∙ ap (λ (l : List Allowance). others ++ allowed_for l kind number) (drop_all index allowances past)
     ∙ append-nil others)
 
--- the allowances read before, in front of what the lines left allow, unless one of them is faulty
+-- the allowances read before, in front of what the lines left allow; if one of these is faulty, its number
 abbrev pub prepended : List Allowance → Result (List Allowance) ℕ → Result (List Allowance) ℕ
 prepended list (Ok more) = Ok (list ++ more)
 prepended list (Err number) = Err number

@@ -1,4 +1,4 @@
--- What the lines of a record tell sessions to call for begins with no blank, and has no line feed.
+-- What sessions call for, as the lines of a record tell, begins with no blank and has no line feed.
 use Rattle.std.proofs.Common.{◌≡◌, ℕ, zero, suc, ◌==◌, true, false, Bool, not, cond, if◌then◌else◌, Option, Some, None}
 use Rattle.std.proofs.Common.{Ok, Err, List, [], ◌∷◌, ◌++◌, reverse, drop, codes, refl, ap, sym, ◌∙◌, subst}
 use Rattle.std.specs.Prelude.{bytes_eq, nat_lt}
@@ -81,7 +81,7 @@ begins_full (first ∷ text) byte more is = by (belongs BlankByte first) refl (b
     by false full later same = let alike : first ≡ byte = cc in
         subst (λ (n : ℕ). belongs BlankByte n ≡ false) alike full
 
--- trimming the end of a text that begins with no blank leaves its first byte
+-- trimming the end of a text that begins with no blank leaves its first byte, and trims the end of what follows it
 trimmed_begins : (byte : ℕ) (more : List ℕ) → belongs BlankByte byte ≡ false
     → trimmed (byte ∷ more) ≡ byte ∷ reverse (unblank (reverse more))
 unfolding trimmed
@@ -122,7 +122,7 @@ abbrev CallsBare : LineSaid → Type 0
 CallsBare (Says (Calls session text)) = IsBare text
 CallsBare said = Unit {0}
 
--- of two readings of a line a test takes one: if each calls for a bare text or for none, that one does
+-- of two readings of a line a test takes one: if each calls for a bare text or for none, the one taken does
 either : (b : Bool) (one two : LineSaid) → CallsBare one → CallsBare two → CallsBare (if b then one else two)
 either true one two first second = first
 either false one two first second = second
@@ -133,7 +133,7 @@ alone_bare : (said : LineSaid) (text : List ℕ) → CallsBare said → CallsBar
 alone_bare said [] is = is
 alone_bare said (byte ∷ text) is = tt
 
--- a line with a returned value calls for no text, so there is nothing to show
+-- a line with a returned value calls for no text
 value_bare : (session : ℕ) (reading : Reading Text) → CallsBare (value_said session reading)
 value_bare session (Ok (value, rest)) = alone_bare (Says (Returns session (ShowsValue (Some value)))) (unblank rest) tt
 value_bare session (Err fault) = tt
@@ -158,14 +158,14 @@ return_bare session word text =
     (either (bytes_eq word (codes "ROWS")) _ _ (rows_bare session (number_of_word (first_word text)) (behind_word text))
     (either (bytes_eq word (codes "ERROR")) _ Bad (error_bare session (leading_number text)) tt))))
 
--- a line of a lost client calls for no text
+-- a line of a client that is lost, or that found its connection closed, calls for no text
 loss_bare : (session : ℕ) (word text : List ℕ) → CallsBare (loss_said session word text)
 unfolding loss_said
 loss_bare session word text =
     either (bytes_eq word (codes "LOST")) _ _ (alone_bare (Says (Leaves session)) text tt)
     (either (bytes_eq word (codes "GONE")) _ Bad (alone_bare (Closed session) text tt) tt)
 
--- what follows a session's number calls for a bare text at most
+-- what follows a session's number calls for a bare text at most, if it has no line feed
 given_bare : (session : ℕ) (text : List ℕ) → HasNoFeed text
     → CallsBare (session_said session (first_word text) (behind_word text))
 unfolding session_said
@@ -179,12 +179,12 @@ given_bare session text free =
     (Says (ReturnsUnknown session)) Bad tt tt)
     (either (bytes_eq sign (codes "!")) _ Bad (loss_bare session (first_word rest) (behind_word rest)) tt)))
 
--- a line, by the session that it names: what it calls for is bare
+-- a text without a line feed, behind the session that the line names, if any: what the line calls for is bare
 named_bare : (session : Option ℕ) (text : List ℕ) → HasNoFeed text → CallsBare (filled_said (line_given session text))
 named_bare None text free = tt
 named_bare (Some session) text free = given_bare session text free
 
--- of two lines a test takes one: if each calls for a bare text or for none, that one does
+-- of two lines a test takes one: if each calls for a bare text or for none, the one taken does
 said_bare : (b : Bool) (one two : Line) → CallsBare (filled_said one) → CallsBare (filled_said two)
     → CallsBare (filled_said (cond b one two))
 said_bare true one two first second = first
@@ -255,6 +255,6 @@ lines-feed (byte ∷ bytes) = by (byte == 10) refl (lines-feed bytes)
     by true is later = (refl, later)
     by false is later = first-feed byte (lines_of bytes) is later
 
--- what sessions are told to call for is bare, where no line is faulty
+-- if no line of a record is faulty, each text that its sessions call for is bare
 pub notes-bare : (text : List ℕ) → (notes_of text).faults ≡ [] → AreBare (notes_of text).told
 notes-bare text clean = tells-bare (lines_of text) (notes_of text).told (text-tells text clean) (lines-feed text)

@@ -10,6 +10,6 @@ call_text-none : call_text [] ≡ []
 unfolding read_of read_from pieces finish
 call_text-none = refl
 
--- nothing is written where nothing is called for
+-- what is written for an empty text leaves what stands before it as it is
 pub append-call_text-none : (out : List ℕ) → out ≡ out ++ call_text []
 append-call_text-none out = sym (ap (λ t. out ++ t) call_text-none ∙ append-nil out)

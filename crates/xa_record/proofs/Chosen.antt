@@ -23,8 +23,8 @@ next-choice : (keeps : List Bool) (index : ℕ) → index < length keeps
     → drop index keeps ≡ get_or keeps index false ∷ drop (index + 1) keeps
 next-choice keeps index within = rw add-one (drop-cons keeps index false within)
 
--- the loop over choices: the next line was cut off, and added if it is chosen; the whole is that, and what the next
--- choices choose of the lines behind
+-- the loop over choices: the next line was cut off, and written if it is chosen; the whole is all that is written
+-- then, and what the choices behind this one choose of the lines behind that one
 pub chosen_more : (whole out added : List ℕ) (keeps : List Bool) (index : ℕ)
     (rest line more : List ℕ) → index < length keeps
     → lines_of rest ≡ line ∷ lines_of more → whole ≡ out ++ chosen_text (drop index keeps) (lines_of rest)

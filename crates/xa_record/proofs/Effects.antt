@@ -1,4 +1,4 @@
--- The lines of an order.
+-- The lines of an order, as a loop over its moves writes them.
 use Rattle.std.proofs.Common.{◌≡◌, ℕ, suc, ◌+◌, ◌<◌, ◌≤◌, Option, Some, List, [], ◌∷◌, ◌++◌, length, map, set, drop}
 use Rattle.std.proofs.Common.{get_or, slice_get, refl, ap, sym, ◌∙◌, arith}
 use Rattle.std.proofs.Common.{add-one, append_assoc, append-nil}
@@ -18,7 +18,8 @@ use Rattle.xa_record.specs.Reading.{NumberedEvent}
 use Rattle.xa_record.specs.VerdictText.{with_call, effect_text, order_text}
 use Rattle.xa_record.proofs.Places.{text_at-kept}
 
--- if a session's last call has this place, the text that is kept for the session is the text of the call there
+-- if this is what the list of places has for a session, the list of their texts has the text of the call there, which
+-- is empty if there is no place
 pub text_of_last : (all : List NumberedEvent) (places : List (Option ℕ)) (session : ℕ) (place : Option ℕ)
     → slice_get places session ≡ Some place
     → slice_get (map (text_at all) places) session ≡ Some (text_at all place)
@@ -40,7 +41,7 @@ pub moved_over : (out : List ℕ) (calls : List (List ℕ)) (moves : List Move)
 unfolding order_text
 moved_over out calls moves = refl
 
--- a move that goes over an event puts its call's text in its session's place, and writes nothing
+-- a move that goes over an event writes nothing; if the event is a call, its text goes to its session's place
 pub moved_event : (out : List ℕ) (calls new : List (List ℕ)) (one : NumberedEvent) (more : List NumberedEvent)
     (moves : List Move) → new ≡ with_call one.told calls
     → out ++ order_text calls (one ∷ more) (Seeing ∷ moves) ≡ out ++ order_text new more moves
@@ -70,7 +71,7 @@ mapped numbered place one within at =
     drop-map numbered_kept place numbered ∙ ap (map numbered_kept) (dropped numbered place one within at)
     ∙ ap (λ l. numbered_kept one ∷ l) (sym (drop-map numbered_kept (place + 1) numbered))
 
--- noting the place of what happens gives the same texts of last calls as putting in the text that it calls for
+-- noting the place of an event, if it is a call, gives the same texts of last calls as putting in the call's text
 calls-followed : (all : List NumberedEvent) (places : List (Option ℕ)) (place : ℕ) (told : Told)
     → text_at all (Some place) ≡ text_told told
     → map (text_at all) (with_place place told places) ≡ with_call told (map (text_at all) places)
@@ -80,8 +81,8 @@ calls-followed all places place (Returns session shown) at = refl
 calls-followed all places place (ReturnsUnknown session) at = refl
 calls-followed all places place (Leaves session) at = refl
 
--- the loop over moves, in the program's form of the list: after a move over the event at this place, whose call's
--- place is noted, the lines left to write are those of the moves left
+-- the loop over moves, in the program's form of the list: after a move over the event at this place, which is noted if
+-- the event is a call, the lines left to write are those of the moves left
 pub moved_event_at : (out : List ℕ) (old new : LastCalls) (numbered : List NumberedRead) (place : ℕ)
     (one : NumberedRead) (moves : List Move)
     → place < length numbered → one ≡ get_or numbered place one

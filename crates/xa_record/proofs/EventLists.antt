@@ -12,7 +12,7 @@ use Rattle.xa_record.specs.Allowances.{no_kinds, kinds_after}
 use Rattle.xa_record.specs.Events.{IsEvent, AreEvents, AreEventsAfter, IsCallOf, AreCalls}
 use Rattle.xa_record.specs.Kept.{told_kept, numbered_kept}
 
--- the kinds of statements that sessions called for last, once these events are seen
+-- the kinds of statements that sessions called for last, once these events are seen; `kinds` are those before
 unfoldable pub kinds_through : List Event → List (Option StatementKind) → List (Option StatementKind)
 kinds_through [] kinds = kinds
 kinds_through (event ∷ events) kinds = kinds_through events (kinds_after event kinds)
@@ -32,7 +32,7 @@ AreEvents-none allowances [] events none = subst (λ (l : List Event). AreEvents
 AreEvents-none allowances (one ∷ numbered) events none =
     subst (λ (l : List Event). AreEvents allowances [] l) (sym none) tt
 
--- before the first event no session has called for anything
+-- before the loop over lines: if no session has called, the last kinds are those after an empty list of events
 pub kinds_through-none : (events : List Event) (kinds : List (Option StatementKind)) → events ≡ [] → kinds ≡ no_kinds
     → kinds ≡ kinds_through events no_kinds
 unfolding kinds_through
@@ -60,7 +60,7 @@ IsCallOf-event allowances kinds (Returns session shown) event is = tt
 IsCallOf-event allowances kinds (ReturnsUnknown session) event is = tt
 IsCallOf-event allowances kinds (Leaves session) event is = tt
 
--- events that are right for their kinds of statements are calls where the lines say calls
+-- events that are right for lines, whatever was called for last before, are those calls where the lines say calls
 pub AreCalls-events : (allowances : List Allowance) (kinds : List (Option StatementKind))
     (numbered : List NumberedEvent) (events : List Event)
     → AreEventsAfter allowances kinds numbered events → AreCalls numbered events
@@ -74,7 +74,7 @@ AreCalls-events allowances kinds (one ∷ numbered) (event ∷ events) are = (
       (kinds_after event kinds) numbered events are.1,
 )
 
--- the loop over lines ends: events that are right for all lines are calls where the lines say calls
+-- the loop over lines ends: events that are right for all lines are those calls where the lines say calls
 pub AreCalls-whole : (allowances : List Allowance) (numbered : List NumberedRead) (events : List Event) (index : ℕ)
     → length numbered ≤ index
     → AreEvents allowances (map numbered_kept (take index numbered)) events

@@ -12,7 +12,7 @@ use Rattle.xa_record.specs.Reading.{NumberedEvent, session_of}
 use Rattle.xa_record.proofs.Effects.{dropped}
 use Rattle.xa_record.proofs.Places.{slice_get-kept}
 
--- the search for a session's last call: the event at this place is one, so it replaces what was found before
+-- the search for a session's last call: the event at this place is a call by it, so it replaces what was found before
 pub call_found : (session : ℕ) (found : Option NumberedEvent) (numbered : List NumberedRead) (index : ℕ)
     (one : NumberedRead) → index < length numbered → one ≡ get_or numbered index one
     → is_call_by session (numbered_kept one).told ≡ true
@@ -24,7 +24,7 @@ call_found session found numbered index one within at calls =
     ∙ ap (λ (b : Bool). last_call session (if b then Some (numbered_kept one) else found)
     (map numbered_kept (drop (index + 1) numbered))) calls
 
--- the search for a session's last call: the event at this place isn't one, so what was found before stays
+-- the search for a session's last call: the event at this place isn't a call by it, so what was found before stays
 pub call_other : (session : ℕ) (found : Option NumberedEvent) (numbered : List NumberedRead) (index : ℕ)
     (one : NumberedRead) → index < length numbered → one ≡ get_or numbered index one
     → is_call_by session (numbered_kept one).told ≡ false
@@ -36,7 +36,7 @@ call_other session found numbered index one within at calls =
     ∙ ap (λ (b : Bool). last_call session (if b then Some (numbered_kept one) else found)
     (map numbered_kept (drop (index + 1) numbered))) calls
 
--- the search for a session's last call ends: no event is left, and what was found is that call
+-- the search for a session's last call ends: no event is left, and what was found, if anything, is that call
 pub call_last : (session : ℕ) (whole found : Option NumberedEvent) (numbered : List NumberedRead) (index : ℕ)
     → length numbered ≤ index
     → whole ≡ last_call session found (map numbered_kept (drop index numbered)) → whole ≡ found

@@ -1,4 +1,4 @@
--- What is written for faulty lines is what the rule for one line says of each.
+-- What is written for faulty lines is what the rule for one line (`fault_between`) says of each.
 use Rattle.std.proofs.Common.{◌≡◌, ℕ, zero, suc, ◌+◌, ◌-◌, ◌==◌, ◌<◌, Bool, true, false, if◌then◌else◌, Option}
 use Rattle.std.proofs.Common.{Some, None, List, [], ◌∷◌, ◌++◌, length, replicate}
 use Rattle.std.proofs.Common.{slice_get, slice_set, refl, ap, sym, ◌∙◌, subst, arith, append_assoc, append-nil}
@@ -87,7 +87,7 @@ presence-append session presence [] ys = refl
 presence-append session presence (one ∷ xs) ys =
     presence-append session (presence_by session presence (told_by one)) xs ys
 
--- what is kept of each session is what was said of it
+-- the list has, at each session's number, the presence that what was said leaves
 abbrev Known : List Presence → List LineSaid → Type 0
 Known presence said = (session : ℕ) → session < 17 → slice_get presence session ≡ Some (presence_said session said)
 
@@ -109,26 +109,26 @@ then-same Open (ReturnsUnknown session) fault is = absurd (none-some _ is)
 then-same Open (Leaves session) fault is = absurd (none-some _ is)
 then-same Lost told fault is = refl
 
--- `after` is said by one line more than `said`: each session is then as before, changed by this event
+-- what was said up to `after` leaves each session as what was said up to `said` does, changed by this event
 abbrev Follows : List LineSaid → List LineSaid → Told → Type 0
 Follows said after told =
     (session : ℕ) → presence_said session after ≡ presence_by session (presence_said session said) (Some told)
 
--- a line that says an event is followed by that event
+-- what was said, with a line more that tells an event, changes sessions as that event (`Follows`)
 follows-one : (said : List LineSaid) (one : LineSaid) (told : Told) → told_by one ≡ Some told
     → Follows said (said ++ one ∷ []) told
 unfolding presence_said_from
 follows-one said one told is session =
     presence-append session Idle said (one ∷ []) ∙ ap (presence_by session (presence_said session said)) is
 
--- whether a session is open after a return doesn't depend on what the return shows
+-- a session's presence after a return doesn't depend on what the return shows
 then-shown : (presence : Presence) (session : ℕ) (one two : Shown)
     → presence_then presence (Returns session one) ≡ presence_then presence (Returns session two)
 then-shown Idle session one two = refl
 then-shown Open session one two = refl
 then-shown Lost session one two = refl
 
--- a line that announces rows is followed by the return of its session, whatever rows it will show
+-- what was said, with a line more that announces rows, changes sessions as the return, whatever this shows (`Follows`)
 follows-rows : (said : List LineSaid) (session count : ℕ) (shown : Shown)
     → Follows said (said ++ Awaits session count ∷ []) (Returns session shown)
 follows-rows said session count shown other =
@@ -145,13 +145,13 @@ known-quiet presence said one none known session below =
     ∙ ap Some (sym (presence-append session Idle said (one ∷ [])
     ∙ ap (presence_by session (presence_said session said)) none))
 
--- the cause why an event can't happen is the same by what is kept of sessions as by what was said
+-- why an event isn't possible, or that it is, is the same by what is kept of sessions as by what was said
 cause-known : (presence : List Presence) (said : List LineSaid) (told : Told) → session_of told < 17
     → Known presence said → cause_of (slice_get presence (session_of told)) told ≡ cause_said said told
 cause-known presence said told within known =
     ap (λ (o : Option Presence). cause_of o told) (known (session_of told) within)
 
--- what a line tells of its own session changes that session's presence
+-- an event of the session changes its presence as `presence_then` says
 own-then : (said after : List LineSaid) (told : Told) (session : ℕ) → Follows said after told
     → session_of told ≡ session → (session_of told == session) ≡ true
     → presence_said session after ≡ presence_then (presence_said (session_of told) said) told
@@ -285,7 +285,7 @@ tested-goes None (Some fault) list faults presence number told said after is wit
       is = refl;
     }
 
--- if there is no second cause, the first of two is the first one
+-- if there is no second fault, the first of two is the first one, which may be none
 first-none : (o : Option LineFault) → o ≡ first_fault o None
 first-none None = refl
 first-none (Some fault) = refl
@@ -366,7 +366,7 @@ returned-goes list faults presence a said count within known =
 abbrev ended : Notes → List ℕ
 ended notes = (ended_by notes.awaited notes).faults
 
--- why a return is faulty that so many rows follow, if these lines are still to come
+-- why a return is faulty of which so many rows are missing, if these lines are still to come
 abbrev return_fault : List Presence → ℕ → ℕ → List (List ℕ) → Option LineFault
 return_fault presence session missing lines =
     if nat_lt (filled lines) missing then Some RowsMissing else return_cause presence session
@@ -421,7 +421,7 @@ go-wait strict line rest before list faults presence a said count due some missi
     ap (λ (n : ℕ). ended (noted_lines strict (held list faults presence a) n rest)) (next-number before line)
     ∙ some (before ++ line ∷ []) list faults presence a said count due missing due_is said_is within known
 
--- after a line that is no row, as many rows are due as it announces
+-- after a line that isn't in the place of a row, as many rows are due as it announces
 alone-due : (before : List (List ℕ)) (line : List ℕ) (said : LineSaid) → rows_due 0 before ≡ 0
     → reading_of_line line ≡ said → rows_due 0 (before ++ line ∷ []) ≡ rows_announced said
 alone-due before line said due is =
@@ -465,7 +465,7 @@ line-first strict before line rest faults o is =
     ∙ ap (λ (c : Option LineFault). faults ++ (text_of_fault (length before + 1) c
     ++ faulty_after strict (before ++ line ∷ []) rest)) (sym is)
 
--- if a line isn't in the place of a row and announces none, its fault is written, and then those of the lines after it
+-- if a line isn't in the place of a row and announces no row, its fault is written, and then those of the lines after
 alone-step : (strict : Bool) (said : LineSaid) (line : List ℕ) (rest before : List (List ℕ)) (list : List NumberedEvent)
     (faults : List ℕ) (presence : List Presence) → OnNone strict rest → rows_due 0 before ≡ 0
     → reading_of_line line ≡ said → rows_announced said ≡ 0
@@ -487,7 +487,7 @@ alone-step strict said line rest before list faults presence none due is last go
     (alone-due before line said due is ∙ last)
     ∙ line-first strict before line rest faults fault (alone-fault strict before line rest said due is)
 
--- a return of which no row is missing happens
+-- a return of which no row is missing is noted, or its line blamed if it can't happen (`returned`)
 awaiting-none : (list : List NumberedEvent) (faults : List ℕ) (presence : List Presence) (a : Awaited)
     → a.missing ≡ 0 → awaiting (made list faults presence) a ≡ returned (made list faults presence) a
 awaiting-none list faults presence a none =
@@ -501,7 +501,7 @@ awaiting-some list faults presence a due some =
     ap (λ (b : Bool). if b then returned (made list faults presence) a else held list faults presence a)
     (some-missing a.missing (omega (arith, some)))
 
--- after a line that announces rows, of which there may be none, the faults written are those of each line
+-- from a line on that announces rows, of which there may be none, the faults written are those of each line
 awaits-step : (strict : Bool) (count : ℕ) (session : ℕ) (line : List ℕ) (rest before : List (List ℕ))
     (list : List NumberedEvent)
     (faults : List ℕ) (presence : List Presence) → OnNone strict rest → OnSome strict rest → rows_due 0 before ≡ 0
@@ -538,8 +538,7 @@ awaits-step strict (suc more) session line rest before list faults presence none
     (alone-fault strict before line rest (Awaits session (suc more)) due is
     ∙ ap (λ (c : Option LineFault). if nat_lt (filled rest) (suc more) then Some RowsMissing else c) (sym cause))
 
--- the induction's step: if `OnNone` and `OnSome` hold of the lines after one, `OnNone` holds of the lines from that
--- one on
+-- if `OnNone` and `OnSome` hold of the lines after one, `OnNone` holds of the lines from that one on
 none-step : (strict : Bool) (line : List ℕ) (rest : List (List ℕ)) → OnNone strict rest → OnSome strict rest
     → OnNone strict (line ∷ rest)
 unfolding noted_said blamed
@@ -583,13 +582,13 @@ none-step strict line rest none some before list faults presence due known = by 
         awaits-step strict count session line rest before list faults presence none some due is
         (subst Within is (line_within line)) known
 
--- the fault of a line in the place of a row is the one of what should be a row
+-- a line in the place of a row has the fault of what should be a row (`fault_in_row`)
 row-fault : (strict : Bool) (before : List (List ℕ)) (line : List ℕ) (after : List (List ℕ)) (due : ℕ)
     → rows_due 0 before ≡ suc due
     → fault_between strict before line after ≡ fault_in_row line
 row-fault strict before line after due is = ap (λ (n : ℕ). fault_due strict n (said_by 0 before) line after) is
 
--- a line in the place of a row says nothing
+-- a line in the place of a row adds nothing to what is said
 row-said : (before : List (List ℕ)) (line : List ℕ) (due : ℕ) (said : List LineSaid) → rows_due 0 before ≡ suc due
     → said_by 0 before ≡ said → said_by 0 (before ++ line ∷ []) ≡ said
 row-said before line due said is same =
@@ -638,7 +637,7 @@ counted-faults : (a : Awaited) (number : ℕ) (row : Option Xid)
 counted-faults a number None = refl
 counted-faults a number (Some xid) = sym (append-nil a.faults)
 
--- what is written after what was before: the fault of a return's line, and then those of its rows
+-- what was written before, then the fault of a return's line, and then those of its rows
 abbrev written : List ℕ → ℕ → Option LineFault → List ℕ → List ℕ
 written faults number o more = (faults ++ text_of_fault number o) ++ more
 
@@ -681,7 +680,7 @@ held-full strict list faults presence a number line full =
 one-less : (missing due : ℕ) → missing ≡ suc due → missing - 1 ≡ due
 one-less missing due is = omega (arith, is)
 
--- the step of a silent line among rows: nothing is written, and as many rows are to come
+-- if `OnSome` holds of the lines after a silent one, it holds of the lines from that one on
 silent-step : (strict : Bool) (line : List ℕ) (rest : List (List ℕ)) → OnSome strict rest → is_silent line ≡ true
     → OnSome strict (line ∷ rest)
 unfolding noted_lines
@@ -711,7 +710,8 @@ full-fault strict before line after due is full =
     row-fault strict before line after due is
     ∙ ap (λ (b : Bool). if b then None else fault_of_row (row_said (unblank line))) full
 
--- the step of a line in the place of a return's last row, row or not: the faults written are those of each line
+-- what `OnSome` says holds from a line on that is in the place of a return's last row and isn't silent, row or not, if
+-- `OnNone` holds of the lines behind it
 last-step : (strict : Bool) (line : List ℕ) (rest : List (List ℕ)) → OnNone strict rest → is_silent line ≡ false
     → (before : List (List ℕ)) (list : List NumberedEvent) (faults : List ℕ) (presence : List Presence) (a : Awaited)
     (said : List LineSaid) (count : ℕ) → a.missing ≡ 1 → rows_due 0 before ≡ 1
@@ -751,7 +751,8 @@ last-step strict line rest none full before list faults presence a said count mi
     none now (row-due before line 0 false due_is full)
     ∙ line-first strict before line rest all (fault_of_row row) (full-fault strict before line rest 0 due_is full)
 
--- the step of a line in the place of a row that isn't the last, row or not: the faults written are those of each line
+-- what `OnSome` says holds from a line on that is in the place of a row but not of the last, and isn't silent, row or
+-- not, if `OnSome` holds of the lines behind it
 more-step : (strict : Bool) (line : List ℕ) (rest : List (List ℕ)) → OnSome strict rest → is_silent line ≡ false
     → (before : List (List ℕ)) (list : List NumberedEvent) (faults : List ℕ) (presence : List Presence) (a : Awaited)
     (said : List LineSaid) (count due : ℕ) → a.missing ≡ suc (suc due) → rows_due 0 before ≡ suc (suc due)
@@ -789,8 +790,7 @@ more-step strict line rest some full before list faults presence a said count du
     ∙ line-first strict before line rest all (fault_of_row row)
     (full-fault strict before line rest (suc due) due_is full)
 
--- the induction's step: if `OnNone` and `OnSome` hold of the lines after one, `OnSome` holds of the lines from that
--- one on
+-- if `OnNone` and `OnSome` hold of the lines after one, `OnSome` holds of the lines from that one on
 some-step : (strict : Bool) (line : List ℕ) (rest : List (List ℕ)) → OnNone strict rest → OnSome strict rest
     → OnSome strict (line ∷ rest)
 some-step strict line rest none some before list faults presence a said count due missing due_is said_is within known =
@@ -826,7 +826,7 @@ some-end strict before list faults presence a said count due missing due_is said
     (if b then Some RowsMissing else return_cause presence a.session) a.faults ++ [])
     (sym (zero-less due))
 
--- by induction over the lines, `OnNone` and `OnSome` hold of any lines
+-- `OnNone` and `OnSome` hold of any lines
 both : (strict : Bool) (lines : List (List ℕ)) → OnNone strict lines × OnSome strict lines
 both strict [] = (none-end strict, some-end strict)
 both strict (line ∷ rest) =

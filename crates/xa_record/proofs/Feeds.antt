@@ -43,7 +43,7 @@ feed-append one two first second =
     let p : ℕ → Bool = λ byte. not (byte == 10) in
     list_all-append p one two ∙ both (list_all p one) (list_all p two) first second
 
--- a line without a line feed is cut off whole
+-- a line without a line feed, with one behind it, is cut off whole from a text that begins with it
 cut : (line rest : List ℕ) → HasNoFeed line → lines_of ((line ++ codes "\n") ++ rest) ≡ line ∷ lines_of rest
 unfolding lines_of
 cut [] rest free = refl
@@ -95,7 +95,7 @@ decimal_feed zero fits = subst HasNoFeed (sym (decimal_digit 0 (lit< tt))) refl
 decimal_feed (suc number) fits =
     subst HasNoFeed (sym (decimal-digits_of (suc number) (omega arith) fits)) (shifted_feed (digits_of 10 (suc number)))
 
--- an identifier is written without a line feed
+-- an identifier whose formatID is below 2^64 is written without a line feed
 xid_feed : (xid : Xid) → xid.format_id < 2 ^ 64 → HasNoFeed (xid_text xid)
 xid_feed xid fits =
     feed-append (part_text xid.gtrid.items) (44 ∷ (part_text xid.bqual.items ++ (44 ∷ decimal xid.format_id)))

@@ -1,4 +1,5 @@
--- What is written first for lines of which one is the first faulty one.
+-- What is written first for lines of which one is the first faulty one. Where lines are counted as rows, be they enough
+-- or fewer, silent ones don't count (`filled`).
 use Rattle.std.proofs.Common.{◌≡◌, ℕ, zero, suc, ◌+◌, ◌-◌, ◌==◌, ◌<◌, ◌≤◌, Bool, true, false, if◌then◌else◌, Option}
 use Rattle.std.proofs.Common.{Some, None, List, [], ◌∷◌, ◌++◌, length}
 use Rattle.std.proofs.Common.{◌⊎◌, inl, inr, slice_get, refl, ap, sym, ◌∙◌, subst, arith, append_assoc, append-nil}
@@ -78,7 +79,7 @@ row-begins None notes a number =
 row-begins (Some xid) notes a number =
     awaiting-begins (a.missing - 1 == 0) notes (record a { missing = a.missing - 1; rows = a.rows ++ xid ∷ [] })
 
--- what was written for faults before stays at the front after a line in the place of a row, or a silent one
+-- what was written for faults before stays at the front after a line in the place of a row, silent or not
 quiet-begins : (silent : Bool) (notes : Notes) (a : Awaited) (number : ℕ) (row : Option Xid)
     → Begins (if silent then notes else with_row (record notes { awaited = None }) a number row).faults notes.faults
 quiet-begins true notes a number row = begins-same notes.faults
@@ -127,7 +128,8 @@ writes-by lines number fault begins =
     begins-more (noted_lines false no_notes 1 lines).faults _ (fault_text number fault) begins
     (ended-begins (noted_lines false no_notes 1 lines).awaited (noted_lines false no_notes 1 lines))
 
--- if a line that is no row is the first faulty one, its fault is written first
+-- if no line before is faulty, and what is written for a line that isn't in the place of a row is this fault, it is
+-- written first
 one-first : (lines : List (List ℕ)) (line : List ℕ) (more : List (List ℕ)) (list : List NumberedEvent)
     (read : IsRead lines list) (said : LineSaid) (fault : LineFault)
     → reading_of_line line ≡ said → (noted_said false (noted list read.presence) (length lines + 1) said).faults
@@ -356,7 +358,8 @@ unfit-later (line ∷ lines) list presence a number fault enough missing some =
         (subst (λ (n : ℕ). Begins (noted_lines false (awaiting (noted list presence) b) (number + 1) lines).faults
         (fault_text n fault)) (line-number a number row) rest)
 
--- if a return with rows can't happen, what is written from its rows on begins with the fault of its line
+-- if a return with rows can't happen, and enough lines follow, what is written from its rows on begins with its line's
+-- fault
 rows-unfit : (lines : List (List ℕ)) (list : List NumberedEvent) (presence : List Presence) (a : Awaited) (number : ℕ)
     (fault : LineFault) → a.missing ≤ filled lines
     → cause_of (slice_get presence a.session) (Returns a.session (ShowsRows [])) ≡ Some fault
@@ -384,7 +387,8 @@ unfit-rows-first lines line more list session count fault read is enough some =
     (rows-unfit more list read.presence a (length lines + 1 + 1) fault enough
     (fits-here read.presence list (Returns session (ShowsRows [])) within read.placed ∙ some)))
 
--- rows have come, more are to come, and no faulty one was among them; `counted`: none came uncounted
+-- the lines `rows` have come, the same return still awaits rows, and nothing was held back for these lines; `counted`:
+-- each that isn't silent counts as one row
 record CameClean (rows : List (List ℕ)) (list : List NumberedEvent) (presence : List Presence) (a : Awaited)
     (new : Notes) : Type 0 where
   left : Awaited
@@ -400,7 +404,7 @@ row-there : (line : List ℕ) → is_silent line ≡ false → (is_silent line �
 row-there line full (inl silent) = absurd (cc)
 row-there line full (inr said) = said
 
--- lines that are all rows, fewer than are missing, leave the return awaited, without a fault among them
+-- lines that are rows or silent, with fewer rows than are missing, leave the return awaited, without a fault among them
 rows-clean : (rows : List (List ℕ)) (list : List NumberedEvent) (presence : List Presence) (a : Awaited) (number : ℕ)
     → AreRows rows → filled rows < a.missing
     → CameClean rows list presence a (noted_lines false (waiting list presence a) number rows)

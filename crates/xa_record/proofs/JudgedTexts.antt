@@ -1,4 +1,4 @@
--- What was read was judged, and what was written.
+-- A record was read to its end and judged, and the text was written, or writing failed: what is promised holds.
 use Rattle.std.proofs.Common.{◌≡◌, ℕ, Option, Some, None, Result, Ok, Err, List, ◌++◌, IfSome, IfOk, IfErr, OnOk, OnErr}
 use Rattle.std.proofs.Common.{ap, sym, ◌∙◌, subst, append-nil}
 use Rattle.std.specs.Io.KnownBytes.{Appends, Consumes, IsAtEnd}
@@ -11,14 +11,14 @@ use Rattle.xa_record.specs.declared.asked.Asked.{Asked}
 use Rattle.xa_record.specs.declared.outcome.Outcome.{Outcome}
 use Rattle.xa_record.specs.Judged.{IsJudgedFrom, AppendsJudgedFrom, AppendsJudgedPrefix, AfterJudgeFaultFrom}
 
--- what holds of the bytes that were read up to the end holds of all that the reader had
+-- what holds of the bytes that were read up to the end holds of all that the reader had, if that is known
 read-whole : (P : List ℕ → Type 0) (input rest : Option (List ℕ)) (given : List ℕ) → Consumes input rest given
     → IsAtEnd rest → P given → IfSome input P
 read-whole P None rest given read end p = tt
 read-whole P (Some x) None given read end p = absurd read
 read-whole P (Some x) (Some y) given read end p = subst P (sym (read ∙ ap (λ l. given ++ l) end ∙ append-nil given)) p
 
--- if all input was read and judged, and the text was written whole, what the job promises after Ok holds
+-- if all input was read and judged, and after Ok the text was written whole, what judging promises after Ok holds
 pub judged-written : (base : State) (allowances : List Allowance) (asked : Asked)
     (result : Result Outcome ScriptFault) (outcome : Outcome) (text given : List ℕ)
     (input rest old new : Option (List ℕ))
@@ -30,8 +30,8 @@ judged-written base allowances asked (Ok o) outcome text given input rest old ne
     (text, subst (λ x. IsJudgedFrom base given allowances asked x text) (sym same) judged, written)
 judged-written base allowances asked (Err fault) outcome text given input rest old new read end judged same written = tt
 
--- if all input was read and judged, and writing failed after a prefix of the text, what the job promises after that
--- fault holds
+-- if all input was read and judged, and a fault can only be `Write`, after which a prefix of the text is written, what
+-- judging promises after that fault holds
 pub judged-faulted : (base : State) (allowances : List Allowance) (asked : Asked)
     (result : Result Outcome ScriptFault) (outcome : Outcome) (text given : List ℕ)
     (input rest old new : Option (List ℕ))

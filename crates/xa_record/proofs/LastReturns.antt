@@ -26,7 +26,7 @@ Ends session place list =
     × (is_return_of session one.told ≡ true)))
     × HasNoReturn session (drop place list)
 
--- with one event more in front, the place of a session's last return moves by one, or is found in that event
+-- with one event more in front, the place of a session's last return is the one that `one_more` gives
 pub ends-cons : (session : ℕ) (one : NumberedEvent) (more : List NumberedEvent) (place : ℕ) (returns : Bool)
     → is_return_of session one.told ≡ returns
     → Ends session place more → Ends session (one_more place returns) (one ∷ more)
@@ -37,7 +37,7 @@ ends-cons session one more (suc place) returns is (inl none, after) = absurd (om
 ends-cons session one more (suc place) returns is (inr (front, last, parts, found), after) =
     (inr (one ∷ front, last, ap (λ (l : List NumberedEvent). one ∷ l) parts, found), after)
 
--- the place that `up_to_return` counts is that of the last return
+-- the place that `up_to_return` counts is that of the last return, or 0 without one
 pub ends : (session : ℕ) (list : List NumberedEvent) → Ends session (up_to_return session list) list
 unfolding up_to_return
 ends session [] = (inl refl, tt)
@@ -58,7 +58,7 @@ no-return-none session [] none = refl
 no-return-none session (one ∷ more) none = ap (one_more (up_to_return session more)) none.0
     ∙ ap (λ (n : ℕ). one_more n false) (no-return-none session more none.1)
 
--- behind a return that was found, an event in front only moves its place
+-- once a return is found, one event more in front moves its place by one
 pub one_more-some : (count : ℕ) (returns : Bool) → one_more (count + 1) returns ≡ count + 1 + 1
 one_more-some count returns = rw (add-one count, add-one (suc count)) refl
 
@@ -78,7 +78,8 @@ last-found session (first ∷ front) after one is none =
 pub length-last : (front : List NumberedEvent) (one : NumberedEvent) → length (front ++ one ∷ []) ≡ length front + 1
 length-last front one = grind (arith, common_steps)
 
--- if events end in a return of the session and none comes behind them, the place is their number
+-- if events end in a return of the session, or there are none, and none of its returns comes behind them,
+-- `up_to_return` is their number
 pub up_to-before : (session : ℕ) (before after : List NumberedEvent) → EndsInReturn session before
     → HasNoReturn session after
     → up_to_return session (before ++ after) ≡ length before

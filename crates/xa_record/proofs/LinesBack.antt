@@ -115,7 +115,7 @@ spelled_back : (statement : Statement) → Spells (statement_text statement) sta
     → read_of (statement_text statement) ≡ Ok statement
 spelled_back statement spells = (reads_spelled (statement_text statement) statement).1 spells
 
--- what is written for a statement that was read is read as the same; an unsupported one keeps its text
+-- what is written for a statement that was read is read as the same, if it is written back or unsupported
 canonical_back : (statement : Statement) (text : List ℕ) → read_of text ≡ Ok statement
     → (statement ≢ Unsupported → IsWrittenBack statement)
     → read_of (canonical_text statement text) ≡ Ok statement

@@ -30,11 +30,12 @@ noted_lines-end strict notes number [] empty = refl
 noted_lines-end strict notes number (x ∷ xs) empty =
     absurd (let none : length (x ∷ xs) ≡ 0 = grind (arith, common_steps) in omega arith)
 
--- the notes with another list of what happens, and other presences of sessions
+-- the notes with another list of events, and other presences of sessions
 abbrev pub made : Notes → List NumberedEvent → List Presence → Notes
 made notes list presence = record notes { told = list; presence = presence }
 
--- if something can happen, the notes with it at the end, and with what it leaves of its session, are its `note_of`
+-- if an event is possible, the notes with it at the end, and with the presence of its session after it, are those of
+-- `note_of`
 pub numbered-so : (notes : Notes) (number : ℕ) (told : Told) (list : List NumberedEvent) (presence : List Presence)
     → cause_of (slice_get notes.presence (session_of told)) told ≡ None
     → list ≡ notes.told ++ record { number = number; told = told } ∷ []
@@ -46,8 +47,8 @@ numbered-so notes number told list presence no_fault one two =
     ∙ ap (made notes (notes.told ++ record { number = number; told = told } ∷ [])) two
     ∙ sym (ap (λ (c : Option LineFault). noted_if c notes number told) no_fault)
 
--- if a client can be gone, the notes with its loss behind the session's last return, and the session as lost, are its
--- `note_closed`
+-- if a client can be gone, the notes with its loss behind the session's last return, and the session as lost, are those
+-- of `note_closed`
 pub closed-so : (notes : Notes) (number session : ℕ) (list : List NumberedEvent) (presence : List Presence)
     → cause_of (slice_get notes.presence session) (Leaves session) ≡ None
     → list ≡ insert notes.told (up_to_return session notes.told) (record { number = number; told = Leaves session })

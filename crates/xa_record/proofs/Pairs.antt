@@ -31,13 +31,13 @@ AreCalls-at (first ∷ numbered) (next ∷ events) zero one event are at is =
 AreCalls-at (first ∷ numbered) (next ∷ events) (suc place) one event are at is =
     AreCalls-at numbered events place one event are.1 at is
 
--- there is an event for each thing that happens
+-- there are as many events as things in the program's list of what the lines say
 pub calls-length : (numbered : List NumberedRead) (events : List Event) → AreCalls (map numbered_kept numbered) events
     → length numbered ≡ length events
 calls-length numbered events are =
     sym (length-map numbered numbered_kept) ∙ AreCalls-length (map numbered_kept numbered) events are
 
--- the event at the place of a call is that call
+-- the event at the place of a call in the program's list is that call
 pub IsCallOf-at : (numbered : List NumberedRead) (events : List Event) (place : ℕ) (one : NumberedRead) (event : Event)
     → AreCalls (map numbered_kept numbered) events
     → place < length numbered → one ≡ get_or numbered place one → place < length events

@@ -1,4 +1,4 @@
--- What is said of sessions by what happens.
+-- Whether a session is idle, has an open call or is lost: what events say, and what is kept in a list, agree.
 use Rattle.std.proofs.Common.{◌≡◌, ◌≢◌, ℕ, zero, suc, ◌<◌, ◌==◌, Bool, true, false, if◌then◌else◌, Option, Some, None}
 use Rattle.std.proofs.Common.{List, [], ◌∷◌, ◌++◌, length}
 use Rattle.std.proofs.Common.{replicate, slice_get, slice_set, refl, ap, sym, ◌∙◌, arith}
@@ -105,7 +105,7 @@ pub placed-none : Placed (replicate 17 Idle) []
 unfolding presence_from
 placed-none session within = replicated 17 session Idle within
 
--- whether an event can happen is the same by the list kept as by the events so far
+-- why an event isn't possible, or that it is, is the same by the list kept as by the events so far
 pub fits-here : (presence : List Presence) (list : List NumberedEvent) (told : Told) → session_of told < 17
     → Placed presence list
     → cause_of (slice_get presence (session_of told)) told ≡ cause_next list told
@@ -146,7 +146,7 @@ placed-next presence list number told within placed fits session below = by (ses
         (λ same. apart_test (session_of told) session is (sym same))
         ∙ placed session below ∙ ap Some (sym said)
 
--- the list of presences says what the events say after a loss is put in behind the session's last return
+-- once a session's loss is put in at any place among the events, and set in the list, the list says what they say
 pub placed-closed : (presence : List Presence) (before after : List NumberedEvent) (number session : ℕ) → session < 17
     → Placed presence (before ++ after)
     → Placed (slice_set presence session Lost) (before ++ record { number = number; told = Leaves session } ∷ after)

@@ -1,4 +1,4 @@
--- What is read of a record is what its lines tell, up to the first faulty one.
+-- What is read of a record is what its lines tell, or one of its lines is the first faulty one.
 use Rattle.std.proofs.Common.{◌≡◌, ◌⊎◌, inl, inr, ℕ, zero, suc, ◌+◌, ◌-◌, ◌==◌, ◌<◌, ◌≤◌, nat_le, Bool, true, false}
 use Rattle.std.proofs.Common.{if◌then◌else◌, Option, Some, None, List, [], ◌∷◌, ◌++◌}
 use Rattle.std.proofs.Common.{length, take, drop, slice_get, refl, ap, sym, ◌∙◌, subst, arith, append_assoc, append-nil}
@@ -62,7 +62,7 @@ All-append P [] ys first second = second
 All-append P (x ∷ xs) ys first second = (first.0, All-append P xs ys first.1 second)
 
 -- a return with rows is on `line`, behind `before`; `came` are the lines behind it that were read, each silent or a
--- row, and `a.missing` rows are still to come
+-- row, and `a.missing` rows are still to come, whose lines (`extends`) complete the lines of all `count` rows
 record Part (done : List (List ℕ)) (a : Awaited) (list : List NumberedEvent) : Type 0 where
   before : List (List ℕ)
   line : List ℕ
@@ -84,8 +84,8 @@ abbrev Stands : List (List ℕ) → Option Awaited → List NumberedEvent → Ty
 Stands done None list = Tells done list
 Stands done (Some a) list = Part done a list × ((a.missing == 0) ≡ false)
 
--- none of the lines is faulty: the notes have no fault, keep of sessions what their events say (`Placed`), and have
--- the events that the lines tell (`Stands`)
+-- no line was found faulty: the notes have no fault, keep of sessions what their events say (`Placed`), and have the
+-- events that the lines tell (`Stands`)
 record Right (done : List (List ℕ)) (notes : Notes) : Type 0 where
   clean : notes.faults ≡ []
   placed : Placed notes.presence notes.told
@@ -127,7 +127,7 @@ cause-shown (Some Idle) session one two = refl
 cause-shown (Some Open) session one two = refl
 cause-shown (Some Lost) session one two = refl
 
--- a return whose rows are to come is of a session from 1 to 16
+-- a return whose rows are to come is of a session below 17
 part-within : (done : List (List ℕ)) (a : Awaited) (list : List NumberedEvent) → Part done a list → a.session < 17
 part-within done a list part = subst Within part.says (line_within part.line)
 
@@ -212,7 +212,7 @@ happens-tells (Returns session shown) done list line is fits tells =
 happens-tells (ReturnsUnknown session) done list line is fits tells = unknown_line done line list session tells is fits
 happens-tells (Leaves session) done list line is fits tells = lost_line done line list session tells is fits
 
--- after a line that says an event the notes are right, or that line is the first faulty one
+-- after a line that says an event the notes are right, or there is a first faulty line
 happens-next : (told : Told) (list : List NumberedEvent) (presence : List Presence) (done : List (List ℕ)) (number : ℕ)
     (line : List ℕ) (todo : List (List ℕ))
     → reading_of_line line ≡ Says told → number ≡ length done + 1 → session_of told < 17 → Placed presence list
@@ -241,7 +241,7 @@ happens-next told list presence done number line todo is at within placed tells 
               (sym (fits-here presence list told within placed) ∙ some),
         )
 
--- after a line that says that a connection was found closed the notes are right, or that line is the first faulty one
+-- after a line that says that a connection was found closed the notes are right, or there is a first faulty line
 closed-next : (session : ℕ) (list : List NumberedEvent) (presence : List Presence) (done : List (List ℕ)) (number : ℕ)
     (line : List ℕ) (todo : List (List ℕ))
     → reading_of_line line ≡ Closed session → number ≡ length done + 1 → session < 17 → Placed presence list
@@ -332,7 +332,7 @@ said-next (Awaits session count) list presence done number line todo is at withi
     } in
     next-as done line todo _ (awaiting-next list presence (done ++ line ∷ []) todo a part placed)
 
--- a silent line where a row is awaited is skipped
+-- with a silent line in front, the lines of the missing rows, at least one, are still lines of these rows
 silent-more : (line : List ℕ) (missing : ℕ) (lines : List (List ℕ)) (more : List Xid) → (missing == 0) ≡ false
     → is_silent line ≡ true → RowsOf missing lines more
     → RowsOf missing (line ∷ lines) more
@@ -413,7 +413,7 @@ part-row done line a list xid is full said part = record {
   );
 }
 
--- if a line in the place of a row is no row, there is a first faulty line: this one, or that of its return
+-- if a line in the place of a row is no row, there is a first faulty line
 bad-found : (list : List NumberedEvent) (done : List (List ℕ)) (line : List ℕ) (todo : List (List ℕ)) (a : Awaited)
     → (a.missing == 0) ≡ false
     → is_silent line ≡ false → row_said (unblank line) ≡ None → Part done a list → Found (done ++ line ∷ todo)
@@ -498,7 +498,7 @@ line-next list faults presence (Some a) done number line todo at clean placed st
 length-line : (done : List (List ℕ)) (line : List ℕ) → length (done ++ line ∷ []) ≡ length done + 1
 length-line done line = grind (arith, common_steps)
 
--- by induction over the lines to do: the notes are right after all of these, or the first faulty line was found
+-- if the notes are right for the lines done, they are right after all lines to do, or the first faulty line was found
 lines-next : (todo done : List (List ℕ)) (notes : Notes) (number : ℕ) → number ≡ length done + 1 → Right done notes
     → Right (done ++ todo) (noted_lines false notes number todo) ⊎ Found (done ++ todo)
 unfolding noted_lines
@@ -529,7 +529,7 @@ pub record AllTold (lines : List (List ℕ)) (notes : Notes) : Type 0 where
   pub none : notes.awaited ≡ None
   pub tells : Tells lines notes.told
 
--- after the end of the record: what was read is what the lines tell, or rows are missing, which is the first fault
+-- at the end of the record: what was read is what the lines tell, or the first faulty line was found
 ended-told : (lines : List (List ℕ)) (list : List NumberedEvent) (faults : List ℕ) (presence : List Presence)
     (awaited : Option Awaited) → faults ≡ []
     → Stands lines awaited list

@@ -39,7 +39,7 @@ noted_lines-append notes number (line ∷ lines) more =
 abbrev pub noted : List NumberedEvent → List Presence → Notes
 noted list presence = record { told = list; faults = []; presence = presence; awaited = None }
 
--- notes with these events and presences, while the rows of a return are still to come
+-- notes with these events and presences, without a fault, while the rows of a return are still to come
 abbrev pub waiting : List NumberedEvent → List Presence → Awaited → Notes
 waiting list presence a = record { told = list; faults = []; presence = presence; awaited = Some a }
 
@@ -130,7 +130,7 @@ happens-read told lines line list is fits read =
           (fits-here read.presence list told within read.placed ∙ fits);
     }
 
--- a line of a closed connection is read as a loss behind the session's last return
+-- a line of a closed connection is read as a loss behind the session's last return, if that can happen
 closed-read : (session : ℕ) (lines : List (List ℕ)) (line : List ℕ) (before after : List NumberedEvent)
     → reading_of_line line ≡ Closed session
     → EndsInReturn session before → HasNoReturn session after → Fits (before ++ after) (Leaves session)
@@ -166,7 +166,7 @@ waits list presence a some =
     ap (λ (b : Bool). if b then returned (noted list presence) a else waiting list presence a)
     (some-missing a.missing some)
 
--- a return happens once none of its rows is missing
+-- once none of its rows is missing a return is noted, or its line blamed if it can't happen (`returned`)
 pub all-came : (list : List NumberedEvent) (presence : List Presence) (a : Awaited) → a.missing ≡ 0
     → awaiting (noted list presence) a ≡ returned (noted list presence) a
 all-came list presence a none =
@@ -214,7 +214,8 @@ returned-so list presence a clean fits =
     { number = a.number; told = Returns a.session (ShowsRows a.rows) } ∷ [])
     (slice_set presence a.session Idle)) f) clean
 
--- the lines of a return's rows are read as exactly these rows
+-- if a return can happen, and no faulty line came, the lines of the rows that are missing are read as that return, with
+-- the rows that came and exactly these
 rows-read : (count : ℕ) (lines : List (List ℕ)) (more : List Xid) → RowsOf count lines more
     → (list : List NumberedEvent) (presence : List Presence) (a : Awaited) (number : ℕ)
     → a.missing ≡ count → a.faults ≡ [] → cause_of (slice_get presence a.session) (Returns a.session (ShowsRows []))
@@ -251,7 +252,8 @@ abbrev pub first-awaited : ℕ → ℕ → ℕ → Awaited
 first-awaited session number count =
     record { session = session; number = number; missing = count; rows = []; faults = [] }
 
--- after a line that announces rows, the lines behind it are read with that return held back
+-- after a line that announces rows, the lines behind it are read with the notes that `awaiting` gives: that return is
+-- held back, or taken at once if it has no rows
 pub awaits-said : (lines : List (List ℕ)) (line : List ℕ) (more : List (List ℕ)) (list : List NumberedEvent)
     (read : IsRead lines list) (session count : ℕ)
     → reading_of_line line ≡ Awaits session count
@@ -264,7 +266,8 @@ awaits-said lines line more list read session count is =
     ∙ ap (λ (n : Notes). noted_lines false n (length lines + 1 + 1) more)
     (said-of (Awaits session count) list read.presence line (length lines + 1) is)
 
--- a line that announces rows, with the lines of its rows behind it, is read as the return that shows them
+-- a line that announces rows, with the lines of its rows behind it, is read as the return that shows them, if that can
+-- happen
 rows-lines-read : (lines : List (List ℕ)) (line : List ℕ) (more : List (List ℕ)) (list : List NumberedEvent)
     (session count : ℕ) (rows : List Xid)
     → reading_of_line line ≡ Awaits session count → RowsOf count more rows

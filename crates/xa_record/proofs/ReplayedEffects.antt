@@ -38,14 +38,15 @@ use Rattle.xa_record.specs.Replaying.{HasNoFeed, effect_line, order_lines, open_
 use Rattle.xa_record.specs.Replaying.{IsWellCalled, IsWellTold, AreWellCalled}
 use Rattle.xa_record.proofs.LinesBack.{line_back, line_feed, call_bare, call_feed, call_back}
 
--- the text of a request that may still take effect stands in the list
+-- the list has, at the session's number, the text of this request, which is well called
 pub record KeepsText (calls : List (List ℕ)) (session : ℕ) (request : Request) : Type 0 where
   pub text : List ℕ
   pub found : slice_get calls session ≡ Some text
   pub well : IsWellCalled text
   pub is : request ≡ request_called text
 
--- the text that a session called for last is kept, for each client whose request hasn't taken effect
+-- the lists are equally long, and the text that a session called for last is kept for each client whose request may
+-- still take effect
 pub record Kept (calls : List (List ℕ)) (clients : List ClientState) : Type 0 where
   pub long : length calls ≡ length clients
   pub each : (session : ℕ) (request : Request) → open_request (slice_get clients session) ≡ Some request
@@ -148,7 +149,7 @@ kept_unasked calls clients session text before next found none kept = record {
   ];
 }
 
--- the line that is written for a session's statement is the line of its effect
+-- the line that is written for a session's statement gives its open request, and has no line feed (`IsEffectLine`)
 statement_line : (calls : List (List ℕ)) (config : Config) (session : ℕ) (request : Request) → IsSession session
     → Kept calls config.clients
     → open_request (slice_get config.clients session) ≡ Some request
@@ -169,7 +170,7 @@ statement_line calls config session request is kept opened =
           (call_feed keeps.text keeps.well));
     }
 
--- the line that is written for an effect of a lost client gives its session's `DISCONNECT`
+-- the line that is written for a session's `DISCONNECT` gives that request, and has no line feed (`IsEffectLine`)
 disconnect_line : (calls : List (List ℕ)) (config : Config) (session : ℕ) → IsSession session
     → IsEffectLine config session ItsDisconnect (effect_line calls session ItsDisconnect)
 unfolding statement_text behind belongs
@@ -193,7 +194,8 @@ pub record HasLine (calls : List (List ℕ)) (config : Config) (session : ℕ) (
 standings_of : (first second : Config) → Some first ≡ Some second → first.clients ≡ second.clients
 standings_of first second same = ap (λ (c : Config). c.clients) (same_Some first second same)
 
--- the line of a statement's effect gives the request that took effect; `o` is where its client stood
+-- the line of a statement's effect gives the request that took effect, and the texts are still kept (`HasLine`); `o` is
+-- where its client stood
 statement_by : (o : Option ClientState) (calls : List (List ℕ)) (config : Config) (session : ℕ) (mid : Config)
     → slice_get config.clients session ≡ o
     → IsSession session → Kept calls config.clients → carried_out o config session ≡ Some mid
@@ -215,7 +217,8 @@ statement_by (Some (Gone (Some request))) calls config session mid found is kept
 }
 statement_by (Some Left) calls config session mid found is kept at = absurd (none-some mid at)
 
--- the line of the effect of a lost client's `DISCONNECT` gives that request; `o` is where its client stood
+-- the line of the effect of a lost client's `DISCONNECT` gives that request, and the texts are still kept (`HasLine`);
+-- `o` is where its client stood
 disconnect_by : (o : Option ClientState) (calls : List (List ℕ)) (config : Config) (session : ℕ) (mid : Config)
     → slice_get config.clients session ≡ o
     → IsSession session → Kept calls config.clients → disconnected o config session ≡ Some mid
@@ -232,7 +235,7 @@ disconnect_by (Some (Gone request)) calls config session mid found is kept at = 
 }
 disconnect_by (Some Left) calls config session mid found is kept at = absurd (none-some mid at)
 
--- each effect has a line that gives the request which takes effect
+-- each effect has a line that gives the request which takes effect, and the texts are still kept (`HasLine`)
 has_line : (calls : List (List ℕ)) (config : Config) (session : ℕ) (act : Act) (mid : Config) → IsSession session
     → Kept calls config.clients
     → effect_of config session act ≡ Some mid → HasLine calls config session act mid
@@ -242,7 +245,7 @@ has_line calls config session ItsStatement mid is kept at =
 has_line calls config session ItsDisconnect mid is kept at =
     disconnect_by (slice_get config.clients session) calls config session mid refl is kept at
 
--- a call puts its text in its session's place, and leaves the texts of other open requests
+-- the texts are still kept after a call, with its text put in its session's place; `o` is where its client stood
 call_by : (o : Option ClientState) (calls : List (List ℕ)) (config : Config) (session : ℕ) (text : List ℕ)
     (mid : Config) → slice_get config.clients session ≡ o
     → IsWellCalled text → Kept calls config.clients
@@ -262,7 +265,7 @@ call_by (Some Left) calls config session text mid found well kept at =
     subst (Kept (set calls session text)) (standings_of _ mid at)
     (kept_unasked calls config.clients session text Left Left found refl kept)
 
--- a return leaves the texts of the other open requests as they are
+-- the texts are still kept after a return; `o` is where its client stood
 return_by : (o : Option ClientState) (calls : List (List ℕ)) (config : Config) (session : ℕ) (seen : Seen)
     (mid : Config) → slice_get config.clients session ≡ o
     → Kept calls config.clients → returned o config session seen ≡ Some mid → Kept calls mid.clients
@@ -277,7 +280,7 @@ return_by (Some (Answered answer)) calls config session seen mid found kept at =
 return_by (Some (Gone request)) calls config session seen mid found kept at = absurd (none-some mid at)
 return_by (Some Left) calls config session seen mid found kept at = absurd (none-some mid at)
 
--- a loss leaves all texts: the lost client's request may still take effect
+-- the texts are still kept after a loss: the lost client's request may still take effect; `o` is where the client stood
 lost_by : (o : Option ClientState) (calls : List (List ℕ)) (config : Config) (session : ℕ) (mid : Config)
     → slice_get config.clients session ≡ o
     → Kept calls config.clients → lost o config session ≡ Some mid → Kept calls mid.clients
@@ -294,7 +297,7 @@ lost_by (Some (Answered answer)) calls config session mid found kept at =
 lost_by (Some (Gone request)) calls config session mid found kept at = absurd (none-some mid at)
 lost_by (Some Left) calls config session mid found kept at = absurd (none-some mid at)
 
--- a return of which only the fact is known leaves the texts of the other open requests
+-- the texts are still kept after a return whose answer isn't known; `o` is where its client stood
 unknown_by : (o : Option ClientState) (calls : List (List ℕ)) (config : Config) (session : ℕ) (mid : Config)
     → slice_get config.clients session ≡ o
     → Kept calls config.clients → answered_unknown o config session ≡ Some mid → Kept calls mid.clients
@@ -310,7 +313,7 @@ unknown_by (Some (Answered answer)) calls config session mid found kept at =
 unknown_by (Some (Gone request)) calls config session mid found kept at = absurd (none-some mid at)
 unknown_by (Some Left) calls config session mid found kept at = absurd (none-some mid at)
 
--- any event of the record keeps the texts; a call puts its own in its session's place
+-- the texts are still kept after any event of the record; a call puts its own in its session's place
 seen_kept : (allowances : List Allowance) (kinds : List (Option StatementKind)) (calls : List (List ℕ))
     (config : Config) (told : Told) (event : Event)
     (mid : Config) → IsWellTold told → IsEvent allowances kinds told event
@@ -330,7 +333,7 @@ seen_kept allowances kinds calls config (ReturnsUnknown session) event mid well 
 seen_kept allowances kinds calls config (Leaves session) event mid well is kept at =
     lost_by (slice_get config.clients session) calls config session mid refl kept (sym (ap (observed config) is) ∙ at)
 
--- along all moves: each line of the order gives the request that takes effect there
+-- along all moves: each line of the order gives the request that takes effect there, if each call is well called
 pub are_effects : (allowances : List Allowance) (kinds : List (Option StatementKind)) (calls : List (List ℕ))
     (numbered : List NumberedEvent)
     (events : List Event) (moves : List Move) (old new : Config) → AreWellCalled numbered
@@ -357,7 +360,7 @@ are_effects allowances kinds calls (one ∷ numbered) (event ∷ events) (Seeing
 are_effects allowances kinds calls numbered [] [] old new well are kept runs = tt
 are_effects allowances kinds calls numbered (event ∷ events) [] old new well are kept runs = absurd runs
 
--- before the first call no client has an open request
+-- where all clients are idle, none has an open request
 idle_open : (count place : ℕ) (request : Request) → open_request (slice_get (replicate count Idle) place) ≡ Some request
     → ⊥
 idle_open zero place request opened = absurd (none-some request opened)
@@ -369,12 +372,12 @@ none_kept : (base : State) → Kept no_calls (opening_config base).clients
 unfolding opening_config
 none_kept base = record { long = refl; each = λ session request opened. absurd (idle_open 17 session request opened) }
 
--- the lines of an order that explains the events, run from the same state, give its effects one by one
-pub order_replayed : (base : State) (allowances : List Allowance) (numbered : List NumberedEvent) (events : List Event)
+-- the lines of an order that explains the events give what takes effect, one by one, if each call is well called
+pub order_gives : (base : State) (allowances : List Allowance) (numbered : List NumberedEvent) (events : List Event)
     (moves : List Move) (new : Config)
     → AreWellCalled numbered → AreEvents allowances numbered events
     → LeadsThrough (opening_config base) events moves new
     → AreEffects (opening_config base) events moves (order_lines no_calls numbered moves)
-order_replayed base allowances numbered events moves new well are runs =
+order_gives base allowances numbered events moves new well are runs =
     are_effects allowances no_kinds no_calls numbered events moves (opening_config base) new well are
     (none_kept base) runs

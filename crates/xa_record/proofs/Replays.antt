@@ -33,7 +33,7 @@ use Rattle.xa_record.specs.Replaying.{HasNoFeed, order_lines, open_request, requ
 use Rattle.xa_record.specs.Replaying.{IsWellTold, AreWellCalled}
 use Rattle.xa_record.specs.Replaying.{IsBare, IsBareTold, AreBare, IsWrittenCall, AnswersAlong, IsReplayed}
 use Rattle.xa_record.proofs.Feeds.{cut_where_joined}
-use Rattle.xa_record.proofs.ReplayedEffects.{order_replayed}
+use Rattle.xa_record.proofs.ReplayedEffects.{order_gives}
 use Rattle.xa_record.proofs.RunAnswers.{line_answered, line_followed, order_joined}
 
 -- equal configurations have equal states of the store
@@ -115,7 +115,7 @@ lost_state (Some (Answered answer)) config session mid at = state_of _ mid at
 lost_state (Some (Gone asked)) config session mid at = absurd (none-some mid at)
 lost_state (Some Left) config session mid at = absurd (none-some mid at)
 
--- a return of which only the fact is known changes nothing in the store
+-- a return whose answer isn't known changes nothing in the store
 unknown_state : (o : Option ClientState) (config : Config) (session : ℕ) (mid : Config)
     → answered_unknown o config session ≡ Some mid
     → config.state ≡ mid.state
@@ -185,7 +185,7 @@ answers_along old [] [] [] are = refl
 answers_along old [] [] (line ∷ lines) are = absurd are
 answers_along old (event ∷ events) [] lines are = absurd are
 
--- a text is well called if it is bare, and the statement of its call is written back
+-- the text of a call is well called if it is bare, and its statement, if it is a supported one, is written back
 well_called : (session : ℕ) (text : List ℕ) (event : Event) → IsBare text → event ≡ Call session (request_called text)
     → IsWrittenCall event → IsWellCalled text
 well_called session text event bare is written = record {
@@ -195,7 +195,7 @@ well_called session text event bare is written = record {
       subst IsWrittenCall (is ∙ ap (λ r. Call session (request_read r)) read) written other;
 }
 
--- the calls of a record are well told if their texts are bare and statements among them are written back
+-- the calls of a record are well called if their texts are bare, and supported statements among them are written back
 pub well_told : (allowances : List Allowance) (kinds : List (Option StatementKind)) (numbered : List NumberedEvent)
     (events : List Event) → AreBare numbered
     → AreEventsAfter allowances kinds numbered events → All IsWrittenCall events → AreWellCalled numbered
@@ -211,12 +211,13 @@ well_told allowances kinds (one ∷ numbered) (event ∷ events) bare are writte
     by (ReturnsUnknown session) is same = tt
     by (Leaves session) is same = tt
 
--- the first configuration has the store's base as its state
+-- the store of the first configuration is in the base state
 opened : (base : State) → (opening_config base).state ≡ base
 unfolding opening_config
 opened base = refl
 
--- the order of moves that lead through what is seen, run as a script, gives the answers of the moves
+-- the order of moves that lead through what is seen, run as a script, gives the answers of the moves, if each call is
+-- well called
 pub order_answered : (base : State) (allowances : List Allowance) (numbered : List NumberedEvent)
     (events : List Event) (moves : List Move) (new : Config)
     → AreWellCalled numbered → AreEvents allowances numbered events
@@ -224,7 +225,7 @@ pub order_answered : (base : State) (allowances : List Allowance) (numbered : Li
     → AnswersAlong (opening_config base) events moves (run_text base (lines_of (order_text no_calls numbered moves)))
 order_answered base allowances numbered events moves new well are runs =
     let lines = order_lines no_calls numbered moves in
-    let effects : AreEffects (opening_config base) events moves lines = order_replayed base allowances numbered events
+    let effects : AreEffects (opening_config base) events moves lines = order_gives base allowances numbered events
     moves new well are runs in
     let cut : lines_of (order_text no_calls numbered moves) ≡ lines =
     ap lines_of (order_joined no_calls numbered moves)
@@ -233,7 +234,7 @@ order_answered base allowances numbered events moves new well are runs =
     (subst (λ (s : State). AnswersAlong (opening_config base) events moves (run_text s lines)) (opened base)
     (answers_along (opening_config base) events moves lines effects))
 
--- the order of a right verdict, run as a script, gives the answers of its moves
+-- the order of a right LEGAL verdict, run as a script, gives the answers of its moves, if each call is well called
 pub verdict_replayed : (base : State) (allowances : List Allowance) (numbered : List NumberedEvent)
     (events : List Event) (limit : ℕ) (verdict : Verdict)
     → AreWellCalled numbered → AreEvents allowances numbered events → IsVerdict base events limit verdict
@@ -243,7 +244,8 @@ verdict_replayed base allowances numbered events limit (LegalBy moves) well are 
 verdict_replayed base allowances numbered events limit (IllegalAt place answers) well are right = tt
 verdict_replayed base allowances numbered events limit (UndecidedAt place) well are right = tt
 
--- the order of a right verdict, run as a script, gives the answers of its moves, if calls are bare and written back
+-- the order of a right LEGAL verdict, run as a script, gives the answers of its moves, if the texts of calls are bare,
+-- and supported statements among them are written back
 pub bare_replayed : (base : State) (allowances : List Allowance) (numbered : List NumberedEvent) (events : List Event)
     (limit : ℕ) (verdict : Verdict)
     → AreBare numbered → AreEvents allowances numbered events → All IsWrittenCall events

@@ -29,15 +29,16 @@ reported_of : (base : State) (allowances : List Allowance) (lines : List (List �
 reported_of base allowances lines [] asked report some is = absurd (cc)
 reported_of base allowances lines (one ∷ numbered) asked report some is = is
 
--- a report on events that were judged is one on the lines that say them
-pub judged_so : {E : Type 0} (result : Result ReportMade E) (base : State) (allowances : List Allowance)
+-- the report of a right verdict on the events that lines say is a judgement of these lines, if the texts of calls are
+-- bare, and supported statements among them are written back
+pub judgement_of : {E : Type 0} (result : Result ReportMade E) (base : State) (allowances : List Allowance)
     (lines : List (List ℕ)) (numbered : List NumberedEvent) (asked : Asked)
     (events : List Event) (verdict : Verdict) → AreBare numbered → AreEvents allowances numbered events
     → All IsWrittenCall events
     → IsVerdict base events asked.limit verdict
     → IfOk result (λ report. IsReportOf base allowances lines asked numbered events verdict (report_kept report))
     → IfOk result (λ report. IsJudgement base allowances lines numbered asked (report_kept report))
-judged_so (Ok report) base allowances lines numbered asked events verdict bare are written right told =
+judgement_of (Ok report) base allowances lines numbered asked events verdict bare are written right told =
     record {
       events = events;
       verdict = verdict;
@@ -47,9 +48,9 @@ judged_so (Ok report) base allowances lines numbered asked events verdict bare a
           (recursion_from_All IsWrittenCall events written) right;
       is = told;
     }
-judged_so (Err fault) base allowances lines numbered asked events verdict bare are written right told = tt
+judgement_of (Err fault) base allowances lines numbered asked events verdict bare are written right told = tt
 
--- if no line is faulty and something happens, a judgement on the events is the report of what was read
+-- if no line is faulty and there is an event, a judgement on the events is the report of what was read
 pub reported : {E : Type 0} (result : Result ReportMade E) (base : State) (allowances : List Allowance)
     (lines : List (List ℕ)) (faults : List ℕ) (numbered : List NumberedRead) (asked : Asked)
     → faults ≡ [] → (length numbered == 0) ≡ false

@@ -47,7 +47,7 @@ there-is : (session : ℕ) (numbered : List NumberedRead) (last : ℕ) (one : Nu
     (told_kept (get_or numbered last one).line_event)
 there-is session numbered last one at = ap (λ (n : NumberedRead). is_return_of session (told_kept n.line_event)) at
 
--- the place found from the end is that of the session's last return
+-- the loop from the last event down: this one is a return of the session, so the place behind it is the one sought
 pub up_to_return-found : (whole session : ℕ) (numbered : List NumberedRead) (last place : ℕ) (one : NumberedRead)
     → last + 1 ≡ place → place ≤ length numbered
     → one ≡ get_or numbered last one → is_return_of session (told_kept (get_or numbered last one).line_event) ≡ true

@@ -6,7 +6,7 @@ use Rattle.xa_xid.specs.declared.xid.Xid.{Xid}
 use Rattle.xa_record.specs.Rows.{row_said}
 use Rattle.xa_record.specs.Kept.{row_before, rows_kept}
 
--- putting a row before two lists is putting it before the first of them
+-- putting a row, if there is one, before two joined lists is putting it before the first of them
 row_before-append : (row : Option Xid) (rows more : List Xid)
     → row_before row (rows ++ more) ≡ row_before row rows ++ more
 row_before-append None rows more = refl

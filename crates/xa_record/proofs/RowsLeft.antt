@@ -3,7 +3,7 @@
 --     row_named      after a `PUT` the keys with its own name all rows
 --     named_after, named_made     the same where the key was noted;  and after all rows and branches were made
 --     is_listed      a text that is a server's listing
---     free_told      what a session that has nothing open is answered
+--     free_told      what a session that has nothing open is answered to `XA END`
 use Rattle.std.proofs.Common.{◌≡◌, ◌≢◌, ℕ, List, [], ◌∷◌, ◌++◌, ◌⊎◌, true, false, inl, inr}
 use Rattle.std.proofs.Common.{refl, ap, sym, ◌∙◌, subst, arith}
 use Rattle.std.specs.Prelude.{Option, Some, None}
@@ -103,7 +103,7 @@ named_by_rows state new keys same all = record {
   names = λ other has. all.names other (λ none. has (ap (λ rows. map.get rows other) same ∙ none));
 }
 
--- after a row was put in, the keys with its own name all rows
+-- after a row was put in, a key that has a value, be it the row's or another, is among the keys with the row's own
 named_put : (state : State) (keys : List (List ℕ)) (key : List ℕ) (value : Text) (other : List ℕ)
     → NamesAllRows keys state → map.get (map.insert state.rows key value) other ≢ None
     → (other ≡ key) ⊎ (eq_by_cmp bytes_cmp other key ≡ false) → Contains (keys ++ key ∷ []) other
@@ -128,7 +128,7 @@ named_by_effect state session (Active own) keys key value all =
     (named_still state keys key all)
 named_by_effect state session (Idle own) keys key value all = named_still state keys key all
 
--- a refused statement changes no rows, so the keys that named them all still do
+-- keys that name all rows before a statement, and after its effect, do so whether it is refused or not
 unless_named : (reply : Reply) (state new : State) (keys : List (List ℕ)) → NamesAllRows keys state
     → NamesAllRows keys new
     → NamesAllRows keys (unless_refused reply state new)
@@ -171,7 +171,7 @@ pub named_made : (empty rows prepared made : State) (none keys : List (List ℕ)
 named_made empty rows prepared made none keys is taken one two =
     named_by_rows prepared made keys two (named_by_rows rows prepared keys one (taken (none_named empty none is)))
 
--- a text that is a server's listing, of all keys that have a value, is a text of its state
+-- a text that is a server's listing, of keys among which is each that has a value, is a text of its state
 pub is_listed : (text : List ℕ) (state : State) (keys : List (List ℕ)) → text ≡ listing state keys
     → NamesAllRows keys state → IsStateOf text state
 is_listed text state keys lists all = record { keys = keys; lists = lists; all = all }

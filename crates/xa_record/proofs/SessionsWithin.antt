@@ -1,4 +1,4 @@
--- A line names a session from 1 to 16.
+-- If a line of a record names a session, that is below 17, as each session's number is.
 use Rattle.std.proofs.Common.{◌≡◌, ℕ, ◌+◌, ◌-◌, ◌<◌, nat_le, ◌&&◌, ◌==◌, Bool, true, false, cond, if◌then◌else◌, Option}
 use Rattle.std.proofs.Common.{Some, None, Ok, Err, List, [], ◌∷◌, codes, refl, arith}
 use Rattle.std.specs.Prelude.{bytes_eq, nat_lt}
@@ -24,7 +24,7 @@ Within (Says told) = session_of told < 17
 Within (Awaits session count) = session < 17
 Within (Closed session) = session < 17
 
--- of two readings of a line a test takes one: if each names a session below 17 or none, that one does
+-- of two readings of a line a test takes one: if each names a session below 17 or none, the one taken does
 either : (b : Bool) (one two : LineSaid) → Within one → Within two → Within (if b then one else two)
 either true one two first second = first
 either false one two first second = second
@@ -35,23 +35,23 @@ alone_within : (said : LineSaid) (text : List ℕ) → Within said → Within (a
 alone_within said [] is = is
 alone_within said (byte ∷ text) is = tt
 
--- a line with a returned value names a session below 17
+-- a line with a returned value names a session below 17 or none, if its session is below 17
 value_within : (session : ℕ) (reading : Reading Text) → session < 17 → Within (value_said session reading)
 value_within session (Ok (value, rest)) is =
     alone_within (Says (Returns session (ShowsValue (Some value)))) (unblank rest) is
 value_within session (Err fault) is = tt
 
--- a line with the number of returned rows names a session below 17
+-- a line with the number of returned rows names a session below 17 or none, if its session is below 17
 rows_within : (session : ℕ) (count : Option ℕ) (rest : List ℕ) → session < 17 → Within (rows_said session count rest)
 rows_within session None rest is = tt
 rows_within session (Some count) rest is = alone_within (Awaits session count) rest is
 
--- a line with a returned refusal names a session below 17
+-- a line with a returned refusal names a session below 17 or none, if its session is below 17
 error_within : (session : ℕ) (number : Option ℕ) → session < 17 → Within (error_said session number)
 error_within session None is = tt
 error_within session (Some number) is = either (nat_lt number 65536) _ Bad is tt
 
--- a line of any return names a session below 17
+-- a line of any return names a session below 17 or none, if its session is below 17
 return_within : (session : ℕ) (word text : List ℕ) → session < 17 → Within (return_said session word text)
 unfolding return_said
 return_within session word text is =
@@ -62,14 +62,15 @@ return_within session word text is =
     (behind_word text) is)
     (either (bytes_eq word (codes "ERROR")) _ Bad (error_within session (leading_number text) is) tt))))
 
--- a line of a lost client names a session below 17
+-- a line of a client that is lost or found its connection closed names a session below 17 or none, if its session is
+-- below 17
 loss_within : (session : ℕ) (word text : List ℕ) → session < 17 → Within (loss_said session word text)
 unfolding loss_said
 loss_within session word text is =
     either (bytes_eq word (codes "LOST")) _ _ (alone_within (Says (Leaves session)) text is)
     (either (bytes_eq word (codes "GONE")) _ Bad (alone_within (Closed session) text is) tt)
 
--- a line with a session's number below 17 names that session
+-- what follows a session's number names a session below 17 or none, if that number is below 17
 given_within : (session : ℕ) (text : List ℕ) → session < 17
     → Within (session_said session (first_word text) (behind_word text))
 unfolding session_said
@@ -82,12 +83,12 @@ given_within session text is =
     (Says (ReturnsUnknown session)) Bad is tt)
     (either (bytes_eq sign (codes "!")) _ Bad (loss_within session (first_word rest) (behind_word rest) is) tt)))
 
--- a word that names a session names one below 17
+-- the session that a word names, if it names one, is below 17
 abbrev NamesWithin : Option ℕ → Type 0
 NamesWithin None = Unit {0}
 NamesWithin (Some session) = session < 17
 
--- a session's number that counts only if a test holds is below 17 if it counts
+-- a session's number that counts only if a test holds is below 17 if it counts, since the test says so
 chosen : (b : Bool) (session : ℕ) → (b ≡ true → session < 17) → NamesWithin (cond b (Some session) None)
 chosen true session within = within refl
 chosen false session within = tt
@@ -108,13 +109,13 @@ named_within (ten ∷ one ∷ []) =
     chosen ((ten == 49) && (nat_le 48 one && nat_le one 54)) (10 + (one - 48)) (two_digits ten one)
 named_within (ten ∷ one ∷ more ∷ rest) = tt
 
--- a line whose session was read as one below 17 names that session
+-- a line whose session was read as one below 17, or as none, names one below 17 or none
 line_within_by : (session : Option ℕ) (text : List ℕ) → NamesWithin session
     → Within (filled_said (line_given session text))
 line_within_by None text is = tt
 line_within_by (Some session) text is = given_within session text is
 
--- of two readings of a line a test takes one: if each names a session below 17 or none, that one does
+-- of two readings of a line a test takes one: if each names a session below 17 or none, the one taken does
 said_within : (b : Bool) (one two : Line) → Within (filled_said one) → Within (filled_said two)
     → Within (filled_said (cond b one two))
 said_within true one two first second = first

@@ -33,7 +33,7 @@ with_faults faults notes = record notes { faults = faults }
 alike-same : (f : List ℕ) (n : Notes) → Alike (with_faults f n) n
 alike-same f n = record { faults = f; is = refl }
 
--- blaming a line keeps notes alike: it changes only what is written
+-- blaming a line in the first notes keeps notes alike: it changes only what is written
 alike-blamed : (one two : Notes) (number : ℕ) (fault : LineFault) → Alike one two → Alike (blamed one number fault) two
 unfolding blamed
 alike-blamed one two number fault alike =
@@ -42,7 +42,7 @@ alike-blamed one two number fault alike =
       is = ap (λ (n : Notes). blamed n number fault) alike.is;
     }
 
--- blaming a line, if there is a fault, keeps notes alike
+-- blaming a line in the first notes, if there is a fault, keeps notes alike
 alike-blamed-if : (o : Option LineFault) (one two : Notes) (number : ℕ) → Alike one two
     → Alike (blamed_if o one number) two
 alike-blamed-if None one two number alike = alike
@@ -67,7 +67,7 @@ unfolding closed_if blamed
 alike-closed None f n number session = record { faults = f; is = refl }
 alike-closed (Some fault) f n number session = record { faults = f ++ fault_text number fault; is = refl }
 
--- an event, tested in one and not in the other, keeps notes alike
+-- an event keeps notes alike if its text is tested in the first, or not, and isn't tested in the second
 alike-strictly : (strict : Bool) (f : List ℕ) (n : Notes) (number : ℕ) (told : Told)
     → Alike (note_strictly strict (with_faults f n) number told) (note_of n number told)
 alike-strictly false f n number told =
@@ -88,7 +88,7 @@ alike-awaiting true f n a =
     (alike-noted (cause_of (slice_get n.presence a.session) told) f n a.number told)
 alike-awaiting false f n a = record { faults = f; is = refl }
 
--- a line that is no row, read strictly and with other faults written before, gives notes that differ only in faults
+-- a line that isn't in the place of a row keeps notes alike, read strictly in the first or not, and not in the second
 alike-said : (strict : Bool) (said : LineSaid) (f : List ℕ) (n : Notes) (number : ℕ)
     → Alike (noted_said strict (with_faults f n) number said) (noted_said false n number said)
 unfolding noted_said blamed
@@ -109,14 +109,15 @@ alike-row None f n a number =
 alike-row (Some xid) f n a number =
     alike-awaiting (a.missing - 1 == 0) f n (record a { missing = a.missing - 1; rows = a.rows ++ xid ∷ [] })
 
--- a line in the place of a row, or a silent one, keeps notes alike
+-- a line in the place of a row, silent or not, keeps notes alike
 alike-quiet : (silent : Bool) (f : List ℕ) (n : Notes) (a : Awaited) (number : ℕ) (row : Option Xid)
     → Alike (if silent then with_faults f n else with_row (record (with_faults f n) { awaited = None }) a number row)
     (if silent then n else with_row (record n { awaited = None }) a number row)
 alike-quiet true f n a number row = alike-same f n
 alike-quiet false f n a number row = alike-row row f (record n { awaited = None }) a number
 
--- any line, read strictly and with other faults written before, gives notes that differ only in faults
+-- any line, taken as a row if rows are awaited, keeps notes alike, read strictly in the first or not, and not in the
+-- second
 alike-by : (strict : Bool) (awaited : Option Awaited) (f : List ℕ) (n : Notes) (number : ℕ) (line : List ℕ)
     → Alike (noted_by strict awaited (with_faults f n) number line) (noted_by false awaited n number line)
 unfolding noted_row
@@ -124,7 +125,7 @@ alike-by strict None f n number line = alike-said strict (reading_of_line line) 
 alike-by strict (Some a) f n number line =
     alike-quiet (is_silent line) f n a number (row_said (unblank line))
 
--- any line keeps notes alike, tested in one and not in the other
+-- any line keeps notes alike, read strictly in the first or not, and not in the second
 alike-line : (strict : Bool) (one two : Notes) (number : ℕ) (line : List ℕ) → Alike one two
     → Alike (noted_line strict one number line) (noted_line false two number line)
 unfolding noted_line
@@ -132,7 +133,7 @@ alike-line strict one two number line alike =
     subst (λ (n : Notes). Alike (noted_line strict n number line) (noted_line false two number line)) (sym alike.is)
     (alike-by strict two.awaited alike.faults two number line)
 
--- any lines keep notes alike, by induction over them
+-- any lines keep notes alike, read strictly in the first or not, and not in the second
 alike-lines : (strict : Bool) (lines : List (List ℕ)) (one two : Notes) (number : ℕ) → Alike one two
     → Alike (noted_lines strict one number lines) (noted_lines false two number lines)
 unfolding noted_lines

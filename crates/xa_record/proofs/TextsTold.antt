@@ -37,13 +37,13 @@ text-begins text number fault has =
     subst (λ (n : Notes). Begins n.faults (fault_text number fault)) (sym (notes-so text))
     (first-fault (lines_of text) number fault has)
 
--- if nothing was written for faults, no line can be the first faulty one
+-- what is written for faults, if it is empty, begins with the text of no fault
 something : (faults text : List ℕ) (number : ℕ) (fault : LineFault) → faults ≡ []
     → Begins faults (fault_text number fault) → ⊥
 something faults text number fault none begins =
     fault-something number fault (nothing-before (fault_text number fault) begins.0 (sym begins.1 ∙ none))
 
--- if what is read is what the lines tell, nothing was written for faults
+-- if what is read is what the lines tell, nothing was written for faults, and the lines tell the events that were read
 told-by : (text : List ℕ) → AllTold (lines_of text) (noted_lines false no_notes 1 (lines_of text))
     → ((notes_of text).faults ≡ []) × Tells (lines_of text) (notes_of text).told
 told-by text all =

@@ -11,7 +11,8 @@ use Rattle.xa_record.proofs.FaultyTexts.{text-faulty}
 use Rattle.xa_record.proofs.StrictNotes.{clean-too}
 use Rattle.xa_record.proofs.TextsTold.{text-tells}
 
--- if no order explains the events that were read, and no line is faulty, the record is unexplained
+-- if no line is faulty, a result that says of the events that were read that no order explains them says so of the
+-- record
 pub text-unexplained : {E : Type 0} (result : Result Bool E) (base : State) (allowances : List Allowance)
     (asked : Asked) (text : List ℕ) (events : List Event) → (notes_by asked.strict_calls text).faults ≡ []
     → AreEvents allowances (notes_of text).told events

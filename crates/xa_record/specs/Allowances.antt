@@ -86,7 +86,8 @@ abbrev pub others_for : List Allowance → Option StatementKind → ℕ → List
 others_for allowances None number = []
 others_for allowances (Some kind) number = allowed_for allowances kind number
 
--- at each session's number the kind of what it called for last, before the first call: none has called
+-- at each session's number the kind of what it called for last, before the first call: none has called; place 0
+-- belongs to no session
 abbrev pub no_kinds : List (Option StatementKind)
 no_kinds = replicate 17 None
 

@@ -15,14 +15,15 @@ use Rattle.xa_record.specs.Lines.{Shown, ShowsOk, ShowsValue, ShowsRows, ShowsEr
 use Rattle.xa_record.specs.Reading.{NumberedEvent, session_of}
 use Rattle.xa_record.specs.VerdictText.{call_text, number_of_line}
 
--- what a return shows, as `run` prints a reply, with rows as CONVERT XID prints them; of a refusal only the number
+-- what a return shows, as `run` prints a reply, with rows as CONVERT XID prints them; of a refusal only
+-- `ERROR` and its number
 abbrev pub shown_text : Shown → List ℕ
 shown_text ShowsOk = codes "OK"
 shown_text (ShowsValue value) = reply_text true (Value value)
 shown_text (ShowsRows rows) = reply_text true (Recovered rows)
 shown_text (ShowsError number) = codes "ERROR " ++ decimal number
 
--- a return as a line of a record, in canonical form; empty for anything else
+-- a return with a known answer as a line of a record, in canonical form; empty for anything else
 abbrev pub seen_line : Told → List ℕ
 seen_line (Returns session shown) = decimal session ++ codes " < " ++ shown_text shown
 seen_line told = []
@@ -38,7 +39,7 @@ last_call session found [] = found
 last_call session found (one ∷ more) =
     last_call session (if is_call_by session one.told then Some one else found) more
 
--- a call as a line of a record, in canonical form; empty for anything else
+-- a call as a line of a record, with its text as `call_text` has it; empty for anything else
 abbrev pub call_line : Told → List ℕ
 call_line (Calls session text) = decimal session ++ codes " > " ++ call_text text
 call_line told = []

@@ -20,7 +20,7 @@ use Rattle.xa_record.specs.Rows.{row_said}
 use Rattle.xa_record.specs.Reading.{session_of, cause_of, fault_called, fault_text}
 use Rattle.xa_record.specs.Records.{presence_then, filled}
 
--- how many rows have to follow a line
+-- how many rows have to follow a line that says this
 abbrev pub rows_announced : LineSaid → ℕ
 rows_announced (Awaits session count) = count
 rows_announced said = 0
@@ -118,7 +118,7 @@ abbrev pub text_of_fault : ℕ → Option LineFault → List ℕ
 text_of_fault number None = []
 text_of_fault number (Some fault) = fault_text number fault
 
--- what is written for lines that have these before them
+-- what is written for the faulty ones among these lines, if those of `before` come before them
 unfoldable pub faulty_after : Bool → List (List ℕ) → List (List ℕ) → List ℕ
 faulty_after strict before [] = []
 faulty_after strict before (line ∷ lines) =

@@ -33,12 +33,12 @@ use Rattle.xa_record.specs.Replaying.{IsReplayed}
 use Rattle.xa_record.specs.Reports.{Report, Faulty, Empty, outcome_of, IsReportOf}
 use Rattle.xa_record.specs.Forms.{text_in}
 
--- 16 MiB: one byte more can't be read
+-- the greatest length of a record, in bytes: 16 MiB
 abbrev pub record_bytes : ℕ
 record_bytes = 16777216
 
--- a reader that gives one byte at a time needs one read for each and one more; twice as many are ample, and with a
--- bound reading comes to an end
+-- the greatest number of reads: a reader that gives one byte at a time needs one read for each and one more; twice as
+-- many are ample, and with a bound reading comes to an end
 abbrev pub record_reads : ℕ
 record_reads = 33554432
 
@@ -83,7 +83,7 @@ abbrev pub IsReportedOfNotes : State → List Allowance → List (List ℕ) → 
 IsReportedOfNotes base allowances lines notes asked report =
     IsReportedByNotes base allowances lines notes.faults notes.told asked report
 
--- how judging a record that begins in a state ends, and what is written
+-- a record of the text `written`, which begins in a state, ends with this outcome, and `text` is written for it
 pub record IsJudgedFrom (base : State) (written : List ℕ) (allowances : List Allowance) (asked : Asked)
     (outcome : Outcome) (text : List ℕ) : Type 0 where
   pub report : Report
@@ -91,7 +91,7 @@ pub record IsJudgedFrom (base : State) (written : List ℕ) (allowances : List A
   pub outcome_is : outcome ≡ outcome_of report
   pub text_is : text ≡ text_in asked.form report
 
--- how judging a record that begins with an empty store ends, and what is written
+-- a record of the text `written`, which begins with an empty store, ends with this outcome, and `text` is written then
 abbrev pub IsJudged : List ℕ → List Allowance → Asked → Outcome → List ℕ → Type 0
 IsJudged written allowances asked outcome text = IsJudgedFrom no_state written allowances asked outcome text
 

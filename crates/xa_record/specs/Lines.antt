@@ -99,7 +99,7 @@ loss_said session word text =
     if bytes_eq word (codes "LOST") then alone (Says (Leaves session)) text else
     if bytes_eq word (codes "GONE") then alone (Closed session) text else Bad
 
--- what a session's line says: a sign, and the text after it
+-- what a session's line says, by its sign and the text after it
 unfoldable pub session_said : ℕ → List ℕ → List ℕ → LineSaid
 session_said session sign text =
     if bytes_eq sign (codes ">") then Says (Calls session (trimmed text)) else
@@ -107,7 +107,7 @@ session_said session sign text =
     if bytes_eq sign (codes "?") then unknown_said session (first_word text) else
     if bytes_eq sign (codes "!") then loss_said session (first_word text) (behind_word text) else Bad
 
--- what a line says that isn't silent: a session, and the text after it
+-- what a line says that isn't silent, by its session and the text after that
 abbrev pub filled_said : Line → LineSaid
 filled_said Blank = Nothing
 filled_said BadLine = Bad

@@ -80,7 +80,7 @@ cause_text (WasLost session) = codes "session " ++ decimal session ++ codes " is
 abbrev pub fault_text : ℕ → LineFault → List ℕ
 fault_text number fault = codes "LINE " ++ decimal number ++ codes ": " ++ cause_text fault ++ codes "\n"
 
--- rows that are still to come, for the return of a session on the line of this number; those that have come;
+-- how many rows are still to come for the return of a session on the line of this number; those that have come;
 -- and what is written for the lines that aren't rows
 pub record Awaited : Type 0 where
   pub session : ℕ
@@ -94,7 +94,8 @@ pub record NumberedEvent : Type 0 where
   pub number : ℕ
   pub told : Told
 
--- what was read so far
+-- what was read so far: the events, what is written for faulty lines, at each session's number its presence, and rows
+-- that are still to come, if any are
 pub record Notes : Type 0 where
   pub told : List NumberedEvent
   pub faults : List ℕ
@@ -109,7 +110,7 @@ no_notes = record { told = []; faults = []; presence = replicate 17 Idle; awaite
 unfoldable pub blamed : Notes → ℕ → LineFault → Notes
 blamed notes number fault = record notes { faults = notes.faults ++ fault_text number fault }
 
--- the notes with these lines written as faulty, behind all before
+-- the notes with this text, of faulty lines, behind what is written for those before
 abbrev pub blamed_too : Notes → List ℕ → Notes
 blamed_too notes faults = record notes { faults = notes.faults ++ faults }
 
@@ -136,8 +137,8 @@ abbrev pub blamed_if : Option LineFault → Notes → ℕ → Notes
 blamed_if None notes number = notes
 blamed_if (Some fault) notes number = blamed notes number fault
 
--- the notes after this event on the line of this number, as `note_of` says; if the reading is strict, a call of a
--- text that isn't a statement makes its line faulty, too, but is noted all the same, so that its return isn't faulty
+-- the notes after this event on the line of this number, as `note_of` says; if the reading is strict, and the text of a
+-- call that is noted isn't a statement, its line is faulty too. The call stays noted, so that its return isn't faulty
 abbrev pub note_strictly : Bool → Notes → ℕ → Told → Notes
 note_strictly false notes number told = note_of notes number told
 note_strictly true notes number told =
@@ -162,8 +163,8 @@ unfoldable pub up_to_return : ℕ → List NumberedEvent → ℕ
 up_to_return session [] = 0
 up_to_return session (one ∷ more) = one_more (up_to_return session more) (is_return_of session one.told)
 
--- the loss is put in behind the session's last return, since it may have happened at any time after it, unless this
--- fault blames the line
+-- the loss is put in behind the session's last return, or at the beginning if it has none, since it may have happened
+-- at any time from there on, unless this fault blames the line
 unfoldable pub closed_if : Option LineFault → Notes → ℕ → ℕ → Notes
 closed_if None notes number session =
     record notes {
@@ -188,7 +189,7 @@ abbrev pub awaiting : Notes → Awaited → Notes
 awaiting notes awaited =
     if awaited.missing == 0 then returned notes awaited else record notes { awaited = Some awaited }
 
--- the notes after a line in the place of a row: the row has come, or the line isn't one
+-- the notes after a line in the place of a row, which is this row, or isn't one: in both cases one fewer is to come
 unfoldable pub with_row : Notes → Awaited → ℕ → Option Xid → Notes
 with_row notes awaited number None = awaiting notes (record awaited
     { missing = awaited.missing - 1; faults = awaited.faults ++ fault_text number NotARow })
@@ -235,6 +236,6 @@ ended_by (Some awaited) notes = blamed_too (blamed notes awaited.number RowsMiss
 unfoldable pub notes_by : Bool → List ℕ → Notes
 notes_by strict text = let notes = noted_lines strict no_notes 1 (lines_of text) in ended_by notes.awaited notes
 
--- what was read of a record
+-- what was read of a record, whose calls don't have to be statements
 abbrev pub notes_of : List ℕ → Notes
 notes_of text = notes_by false text

@@ -1,6 +1,6 @@
 -- What the lines of a record tell, and which of them is the first faulty one: a rule for each kind of line
 -- and of fault.
--- The rules know no order of reading; Reading.antt says how lines are read one by one.
+-- The rules know no order of reading; Reading.antt says how lines are read one by one. Texts of calls aren't tested.
 --     RowsOf              so many rows are on these lines
 --     on_next_line        an event, with the number of the line after these
 --     EndsInReturn, HasNoReturn      the last event, if there is one, is a return to the session;  no event is
@@ -23,7 +23,7 @@ use Rattle.xa_record.specs.Lines.{Awaits, Closed, is_silent, reading_of_line}
 use Rattle.xa_record.specs.Rows.{row_said}
 use Rattle.xa_record.specs.Reading.{NumberedEvent, is_return_of, session_of, presence_after, cause_of}
 
--- so many rows are on these lines, with blank lines and comments before each of them
+-- so many rows are on these lines, maybe with blank lines and comments before each of them, and have these identifiers
 pub data RowsOf : ℕ → List (List ℕ) → List Xid → Type 0 where
   no_row : RowsOf 0 [] []
   silent_row : {count : ℕ} {line : List ℕ} {lines : List (List ℕ)} {rows : List Xid} → is_silent line ≡ true
@@ -47,7 +47,7 @@ abbrev pub HasNoReturn : ℕ → List NumberedEvent → Type 0
 HasNoReturn session [] = Unit {0}
 HasNoReturn session (one ∷ more) = (is_return_of session one.told ≡ false) × HasNoReturn session more
 
--- whether a session is idle, has an open call or is lost after this: a client that is gone stays gone
+-- whether a session is idle, has an open call or is lost after this event of it: a client that is gone stays gone
 abbrev pub presence_then : Presence → Told → Presence
 presence_then Lost told = Lost
 presence_then Idle told = presence_after told
@@ -73,9 +73,9 @@ Fits list told = cause_next list told ≡ None
 
 -- the lines tell these events, in this order, and none of the lines is faulty
 pub data Tells : List (List ℕ) → List NumberedEvent → Type 0 where
-  -- no line tells nothing
+  -- where no line is, no event is told
   no_line : Tells [] []
-  -- nor does a blank line or a comment
+  -- a blank line or a comment tells no event
   silent_line : (lines : List (List ℕ)) (line : List ℕ) (list : List NumberedEvent) → Tells lines list
       → reading_of_line line ≡ Nothing
       → Tells (lines ++ line ∷ []) list
@@ -155,6 +155,6 @@ pub data HasFault : List (List ℕ) → ℕ → LineFault → Type 0 where
       → is_silent row ≡ false → row_said (unblank row) ≡ None → count ≤ filled (rows ++ row ∷ more)
       → HasFault (lines ++ line ∷ (rows ++ row ∷ more)) (length lines + 1 + (length rows + 1)) NotARow
 
--- a text begins with this one
+-- the text `whole` begins with `text`
 abbrev pub Begins : List ℕ → List ℕ → Type 0
 Begins whole text = (rest : List ℕ) × (whole ≡ text ++ rest)

@@ -52,7 +52,8 @@ use Rattle.xa_record.specs.VerdictText.{with_call, act_text, order_text, no_call
 abbrev pub effect_line : List (List ℕ) → ℕ → Act → List ℕ
 effect_line calls session act = decimal session ++ codes " " ++ act_text act (slice_get calls session)
 
--- the lines of the script that is written for an order
+-- the lines of the script that is written for an order, if these events are still to happen, and the sessions called
+-- for these texts last before them
 unfoldable pub order_lines : List (List ℕ) → List NumberedEvent → List Move → List (List ℕ)
 order_lines calls numbered [] = []
 order_lines calls numbered (Effect session act ∷ moves) =
@@ -158,19 +159,19 @@ pub record IsWellCalled (text : List ℕ) : Type 0 where
   pub canonical : (statement : Statement) → read_of text ≡ Ok statement → statement ≢ Unsupported
       → IsWrittenBack statement
 
--- if it is a call, its text can stand on a line of a script
+-- if this is a call, its text is as `IsWellCalled` says
 abbrev pub IsWellTold : Told → Type 0
 IsWellTold (Calls session text) = IsWellCalled text
 IsWellTold (Returns session shown) = Unit {0}
 IsWellTold (ReturnsUnknown session) = Unit {0}
 IsWellTold (Leaves session) = Unit {0}
 
--- the text of each call can stand on a line of a script
+-- the text of each call is as `IsWellCalled` says
 abbrev pub AreWellCalled : List NumberedEvent → Type 0
 AreWellCalled [] = Unit {0}
 AreWellCalled (numbered ∷ more) = IsWellTold numbered.told × AreWellCalled more
 
--- the statement of a call is written back, unless it is unsupported
+-- if the event calls for a statement that is supported, that is written back
 abbrev pub IsWrittenCall : Event → Type 0
 IsWrittenCall (Call session (Asked statement)) = statement ≢ Unsupported → IsWrittenBack statement
 IsWrittenCall event = Unit {0}
@@ -181,8 +182,8 @@ pub record IsAnswered (config : Config) (session : ℕ) (act : Act) (written : L
   pub is : requested config session act ≡ Some request
   pub answers : AnswersSo config.state session request written
 
--- one answer for each effect, in order, along moves that lead through the events; a return shows the answer
--- that its session has there
+-- the text is one answer for each effect, in order, along moves that lead through the events; a return shows the
+-- answer that its session has there
 abbrev pub AnswersAlong : Config → List Event → List Move → List ℕ → Type 0
 AnswersAlong old events (Effect session act ∷ moves) written =
     (mid : Config) × (answer rest : List ℕ) × (effect_of old session act ≡ Some mid) × IsAnswered old session act answer
@@ -194,7 +195,7 @@ AnswersAlong old (event ∷ events) (Seeing ∷ moves) written =
 AnswersAlong old [] [] written = written ≡ []
 AnswersAlong old (event ∷ events) [] written = ⊥
 
--- the order of a legal verdict, run as a script from the state in which the record begins, gives the answers
+-- if the verdict is legal, its order, run as a script from the state in which the record begins, gives the answers
 -- of its moves, by which what was seen is explained
 abbrev pub IsReplayed : State → List NumberedEvent → List Event → Verdict → Type 0
 IsReplayed base numbered events (LegalBy moves) =

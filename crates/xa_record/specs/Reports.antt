@@ -43,8 +43,8 @@ pub record Reason : Type 0 where
   pub order : List ℕ
   pub state : List ℕ
 
--- what is told beside the answers of an ILLEGAL verdict: what was seen and its call, why, and a smaller
--- record, if they are asked for
+-- what is told beside the answers of an ILLEGAL verdict: what was seen and its call; an order of what comes before, and
+-- the store after it; a smaller record: each if it is asked for and found
 pub record Grounds : Type 0 where
   pub exchange : Option Exchange
   pub reason : Option Reason
@@ -61,7 +61,7 @@ pub data Report : Type 0 where
   -- the number of the line that no order explains, the texts of what could have been answered there, and what else is
   -- told
   Illegal : ℕ → List (List ℕ) → Grounds → Report
-  -- the number of the line before which too many configurations are
+  -- the number of the line before which too many configurations have to be kept
   Undecided : ℕ → Report
 
 -- how judging ends, by which of the five reports it is
@@ -113,7 +113,7 @@ IsReasonFound base numbered events limit None = (place : ℕ) × IsWide base eve
 abbrev pub is_reason_asked : Asked → Bool
 is_reason_asked asked = asked.explains && not asked.shrinks
 
--- the reason is found if it is asked for
+-- if a reason is asked for, it is found or missing as `IsReasonFound` says; else there is none
 abbrev pub IsReasonSought : Bool → State → List NumberedEvent → List Event → ℕ → Option Reason → Type 0
 IsReasonSought true base numbered events limit reason = IsReasonFound base numbered events limit reason
 IsReasonSought false base numbered events limit reason = reason ≡ None

@@ -16,7 +16,7 @@ use Rattle.xa_lines.specs.Script.{is_empty_line, first_word, behind_word, number
 unfoldable pub leading_number : List ℕ → Option ℕ
 leading_number text = number_of_word (front (belongs Decimal) text)
 
--- the digits of a word after its `0x`; None if it doesn't begin so
+-- what a word has after its `0x`, where digits belong; None if it doesn't begin so
 abbrev pub digits_named : List ℕ → Option (List ℕ)
 digits_named (zero_digit ∷ letter ∷ digits) = if zero_digit == 48 && letter == 120 then Some digits else None
 digits_named word = None

@@ -1,5 +1,5 @@
 -- A smaller record that no order explains either.
--- Every rule here is the project's own: docs/HISTORIES.md#verdicts.
+-- Every rule here is the project's own: docs/HISTORIES.md#smaller-records.
 --     chosen_text       some of the lines, in their order
 --     is_illegal        a verdict says that no order explains what was seen
 --     AreUnexplained    a right verdict on events is that no order explains them
@@ -21,7 +21,7 @@ use Rattle.xa_record.specs.FaultyLines.{faulty_text}
 use Rattle.xa_record.specs.Reading.{NumberedEvent}
 use Rattle.xa_record.specs.Records.{Tells}
 
--- a line that is chosen, without the blanks at its beginning and with a line feed at its end
+-- a line without the blanks at its beginning and with a line feed at its end, if it is chosen; else nothing
 abbrev pub line_if : Bool → List ℕ → List ℕ
 line_if true line = unblank line ++ codes "\n"
 line_if false line = []
@@ -65,7 +65,8 @@ abbrev pub IsSmallerIfSome : State → List Allowance → Asked → List (List �
 IsSmallerIfSome base allowances asked lines None = Unit {0}
 IsSmallerIfSome base allowances asked lines (Some written) = IsSmaller base allowances asked lines written
 
--- if one is asked for, what is found is such a record; that it is found, and that no smaller one is, isn't promised
+-- if one is asked for, what is found, if anything is, is such a record; else nothing is found. That no record is
+-- smaller isn't promised
 abbrev pub IsSmallerSought : Bool → State → List Allowance → Asked → List (List ℕ) → Option (List ℕ) → Type 0
 IsSmallerSought true base allowances asked lines found = IsSmallerIfSome base allowances asked lines found
 IsSmallerSought false base allowances asked lines found = found ≡ None

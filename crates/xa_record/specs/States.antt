@@ -1,7 +1,7 @@
 -- The state that a listing is of. Every rule here is the project's own: docs/HISTORIES.md#records-in-pieces.
 --     NamesAllRows     each row that has a value is one of these
---     IsStateOf        the text lists the state: every branch, and every row that has a value
---     leaves_rows      the session's statement leaves the committed values of rows as they are
+--     IsStateOf        the text lists the state: every branch, and rows, among them every row that has a value
+--     leaves_rows      the session's statement leaves the committed values of rows as they are, as its kind shows
 use Rattle.std.specs.Prelude.{◌≡◌, ◌≢◌, ℕ, Bool, true, false, None, List}
 use Rattle.std.specs.List.{Contains}
 use Rattle.xa_xid.specs.declared.statement.Statement.{Statement}
@@ -21,8 +21,8 @@ pub record IsStateOf (text : List ℕ) (state : State) : Type 0 where
   pub lists : text ≡ listing state keys
   pub all : NamesAllRows keys state
 
--- the session's statement leaves the committed values of rows as they are: it is no commit, and a free session
--- writes no row
+-- the session's statement leaves the committed values of rows as they are, as its kind shows: it is no commit, and a
+-- free session writes no row. A refused one leaves them too, also if this is false
 abbrev pub leaves_rows : Association → Statement → Bool
 leaves_rows association (Commit xid one_phase) = false
 leaves_rows Free (Put key value) = false

@@ -29,7 +29,7 @@ abbrev pub canonical_text : Statement → List ℕ → List ℕ
 canonical_text Unsupported text = text
 canonical_text statement text = statement_text statement
 
--- the canonical form of a text that is a statement, and any other text as it is
+-- the canonical form of the statement that a text was read as, if it has one; any other text as it is
 abbrev pub text_read : Result Statement ℕ → List ℕ → List ℕ
 text_read (Ok statement) text = canonical_text statement text
 text_read (Err place) text = text
@@ -70,8 +70,8 @@ order_text calls (numbered ∷ more) (Seeing ∷ moves) = order_text (with_call 
 abbrev pub no_calls : List (List ℕ)
 no_calls = replicate 17 []
 
--- a reply as `run` prints it, with rows as CONVERT XID prints them; for a text that isn't a statement the number alone,
--- without what `run` prints behind it
+-- a reply as `run` prints it, with rows as CONVERT XID prints them; for a text that isn't a statement `ERROR 1064`
+-- alone, without what `run` prints behind it
 abbrev pub answer_text : Answer → List ℕ
 answer_text (Replied reply) = reply_text true reply
 answer_text NotRead = codes "ERROR 1064"

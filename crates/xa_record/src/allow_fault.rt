@@ -6,7 +6,7 @@ use thiserror::Error;
 /// Why allowances couldn't be read.
 #[derive(Clone, Copy, Debug, PartialEq, Eq, Error)]
 pub enum AllowFault {
-    /// The line of this number, counted from 1, is the first that isn't an allowance.
+    /// The line of this number, counted from 1, is the first that is no allowance, and isn't blank or a comment.
     #[error("allow line {0}: not an allowance")]
     Line(u64),
     /// An allocation failed.

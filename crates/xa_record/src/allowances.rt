@@ -144,7 +144,7 @@ fn push_found(list: &mut Vec<Allowance>, found: Option<Allowance>) -> Result<(),
 /// A line is `NUMBER WORDS: NUMBER`: the number of the rules, the words of a kind of statement, and the
 /// number of the server. Both numbers are in `[0, 65535]`. Lines are cut as in a script; blank lines and
 /// comments say nothing.
-/// Errors: `Line` with the number, from 1 on, of the first line that isn't an allowance; `NoMemory` if an
+/// Errors: `Line` with the number, from 1 on, of the first line that is none of these; `NoMemory` if an
 /// allocation failed.
 /// May return `NoMemory`. Doesn't wait.
 /// Own rule: docs/HISTORIES.md#allowances.

@@ -2,10 +2,10 @@
 //!
 //! The events behind the ILLEGAL line are left out first. Then it is tried to leave out all the rest, and then
 //! windows: runs of what is still there, later ones first, at first all of it, then a half, a quarter, and so on down
-//! to single ones. The first windows are of calls that are refused, and the next of calls that read, shorter windows
-//! only while there are few: what such calls are answered depends on much, and little depends on them. Then come
-//! windows of branches, since the answers to the other statements of a branch depend on each of them. Windows of calls
-//! come last; the short ones of these get shorter one by one, and are tried again while that helps.
+//! to single ones. The first windows are of calls that are refused, and the next of calls that read, since what such
+//! calls are answered depends on much, and little depends on them. Shorter ones of these are tried only while there are
+//! few. Then come windows of whole branches, since what a statement of a branch is answered depends on the others of
+//! it. Windows of calls come last. The short ones get shorter one by one, and are tried again while that helps.
 //!
 //! The call that returns on the ILLEGAL line stays. If that line shows a value, one of the calls that write it stays
 //! too, and for each branch that it shows one of those that prepare it: without them any value would be ILLEGAL there.
@@ -23,7 +23,8 @@ use xa_xid::NoMemory;
 const SHORT: usize = 8;
 
 /// If there are more windows than this, as `is_few` counts, of calls that are refused, or of calls that read, no
-/// shorter ones are tried: so many of these calls are needed that it would take too long to find the others.
+/// shorter ones are tried: so many of these calls are needed that it would take too long to find the others. The number
+/// is a choice.
 const MANY: usize = 16;
 
 /// What is left out of an ILLEGAL record, and what is to be left out next.
@@ -31,21 +32,21 @@ const MANY: usize = 16;
 pub struct Cuts {
     /// The parts, and where lines belong.
     parts: Parts,
-    /// Which lines are kept, if what is proposed is left out.
+    /// For each line of the text, in order, whether it is kept if what is proposed is left out.
     keeps: Vec<bool>,
     /// What is tried now.
     stage: Stage,
     /// How many parts a window has of those by which windows are counted: see `leads`.
     size: usize,
-    /// Where the next window ends: it has the parts before this rank, among those that are there and by which windows
-    /// are counted. 0 if no window of this size is left.
+    /// Where the next window ends: directly before this rank, counted from 0 among the parts that are there and by
+    /// which windows are counted. 0 if no window of this size is left.
     to: usize,
     /// Whether a part was left out since the beginning, or since short windows of calls were last begun again.
     shrunk: bool,
 }
 
 impl Parts {
-    /// Tells whether a part is there.
+    /// Tells whether a part is there. False past the end.
     fn is_there(&self, index: usize) -> bool {
         index < self.parts.len() && self.parts[index].standing != Standing::Out
     }
@@ -62,22 +63,22 @@ impl Parts {
         }
     }
 
-    /// Tells whether a part does this.
+    /// Tells whether a part does this. False past the end.
     fn does(&self, index: usize, does: Does) -> bool {
         index < self.parts.len() && self.parts[index].does == does
     }
 
-    /// Tells whether the part `index` belongs to the branch that the part `start` starts.
+    /// Tells whether the part `index` belongs to the branch that the part `start` starts. False past the end.
     fn belongs(&self, index: usize, start: usize) -> bool {
         index < self.parts.len() && self.parts[index].start == start
     }
 
-    /// Tells whether a part starts a branch, or belongs to none.
+    /// Tells whether a part starts a branch, or belongs to none. False past the end.
     fn starts(&self, index: usize) -> bool {
         self.belongs(index, index)
     }
 
-    /// Tells whether the part that starts this part's branch is proposed.
+    /// Tells whether the part that starts this part's branch is proposed. False past the end.
     fn is_led(&self, index: usize) -> bool {
         if index >= self.parts.len() {
             return false;
@@ -262,7 +263,7 @@ impl Cuts {
             return false;
         }
         self.to = self.parts.count(self.stage);
-        // There may be fewer parts, or none: then the window is empty, and `propose` passes it over.
+        // There may be fewer parts. If there are none, the window is empty, and `propose` passes it over.
         if self.size > self.to {
             self.size = self.to;
         }
@@ -338,7 +339,7 @@ impl Cuts {
         false
     }
 
-    /// Returns which lines are kept if what is proposed is left out.
+    /// Returns for each line, in order, whether it is kept if what is proposed is left out.
     pub fn keeps(&self) -> &[bool] {
         self.keeps.as_slice()
     }

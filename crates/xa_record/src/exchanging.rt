@@ -39,7 +39,7 @@ fn push_shown(alloc: Global, out: &mut Vec<u8>, shown: &Shown) -> Result<(), NoM
     }
 }
 
-/// What was seen, as a line of a record in canonical form. It is empty if this is no return.
+/// What was seen, as a line of a record in canonical form. It is empty unless this is a return with a known answer.
 fn seen_text(alloc: Global, line_event: &LineEvent) -> Result<Vec<u8>, NoMemory>
     ensures { IfOk result (λ text. text.items ≡ seen_line (told_kept line_event.now)) }
 {
@@ -87,7 +87,7 @@ pub fn last_call_in<'n, 'a>(
     found
 }
 
-/// A call, as a line of a record in canonical form. It is empty if this is no call.
+/// A call, as a line of a record, with its text as `push_call` writes it. It is empty if this is no call.
 fn call_text_of(alloc: Global, line_event: &LineEvent) -> Result<Vec<u8>, NoMemory>
     ensures { IfOk result (λ text. text.items ≡ call_line (told_kept line_event.now)) }
 {

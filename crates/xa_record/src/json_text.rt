@@ -109,7 +109,7 @@ fn write_could_be(
     write_texts(alloc, writer, texts)
 }
 
-/// Writes a key with lines as its value.
+/// Writes the key `name`, and the lines of the text `lines` as its value, without their line feeds.
 fn write_lines_of(
     alloc: Global,
     writer: &mut Writer,
@@ -124,7 +124,7 @@ fn write_lines_of(
     write_lines(alloc, writer, lines)
 }
 
-/// Writes a key with a text as its value.
+/// Writes the key `name` with a text as its value.
 fn write_text_of(
     alloc: Global,
     writer: &mut Writer,

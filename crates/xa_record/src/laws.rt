@@ -15,8 +15,8 @@ ghost use Rattle.xa_record.specs.declared.line_fault.LineFault.{LineFault};
 ghost use Rattle.xa_record.specs.Reading.{NumberedEvent, fault_text, notes_of};
 ghost use Rattle.xa_record.specs.Records.{Tells, HasFault, Begins};
 
-/// States that a record without a faulty line is read as its lines tell by the rules, and that lines that
-/// tell something by the rules have no fault. Does nothing when it is called.
+/// States that a record without a faulty line is read as its lines tell by the rules, and that lines that tell events
+/// by the rules have no fault and are read as these. Texts of calls aren't tested. Does nothing when it is called.
 ///
 /// Takes no memory. Doesn't wait. Own rule: docs/HISTORIES.md#records.
 pub fn lines_tell_what_is_read()
@@ -30,7 +30,7 @@ pub fn lines_tell_what_is_read()
 {}
 
 /// States that one line of a record with faulty lines is the first faulty one by the rules, for one cause,
-/// and is written first. Does nothing when it is called.
+/// and is written first. Texts of calls aren't tested. Does nothing when it is called.
 ///
 /// Takes no memory. Doesn't wait. Own rule: docs/HISTORIES.md#records.
 pub fn first_fault_is_written_first()

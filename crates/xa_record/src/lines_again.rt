@@ -63,8 +63,8 @@ pub fn order_in(
     order_lines(alloc, numbered.as_slice(), events, moves)
 }
 
-/// The lines of the order of these moves, which go through the events before this place, an index in `numbered`.
-/// `events` are those of `numbered`, also from the place on.
+/// The lines of the order of these moves, which go through the first `place` events of `numbered`: `place` isn't more
+/// than there are. `events` are those of `numbered`, also from the place on.
 fn order_up_to(
     alloc: Global,
     numbered: &[NumberedEvent],

@@ -71,7 +71,7 @@ impl<'a> Notes<'a> {
         fault.push(&mut self.faults, number)
     }
 
-    /// Notes these faulty lines, for which the text is given.
+    /// Appends this text, which is written for faulty lines, to that of those before.
     fn blame_too(&mut self, faults: &[u8]) -> Result<(), NoMemory>
         ensures { OnOk result (notes_kept self.new ≡ blamed_too (notes_kept self.old) faults.now) }
     {
@@ -116,9 +116,9 @@ impl<'a> Notes<'a> {
         }
     }
 
-    /// Notes this event of the line of this number, or that the line is faulty, as `note` does. If `strict`, the line
-    /// of a call whose text isn't a statement is noted as faulty; the call is noted all the same, so that its return
-    /// isn't faulty.
+    /// Notes this event of the line of this number, or that the line is faulty, as `note` does. If `strict`, and the
+    /// text of a call that is noted isn't a statement, its line is noted as faulty too. The call stays noted, so that
+    /// its return isn't faulty.
     fn note_strictly(
         &mut self,
         strict: bool,

@@ -13,7 +13,7 @@ use xa_xid::{NoMemory, SessionNo};
 /// The parts of a record, and where its lines belong.
 #[derive(Drop)]
 pub struct Parts {
-    /// Where each line belongs.
+    /// Where each line of the text belongs, in order.
     pub lines: Vec<Belongs>,
     /// The parts, in the order in which they happen.
     pub parts: Vec<Part>,

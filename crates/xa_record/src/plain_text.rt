@@ -13,7 +13,7 @@ use std::collections::BTreeSet;
 use xa_lines::push_number;
 use xa_xid::NoMemory;
 
-/// Appends each of the possible answers, on a line of its own.
+/// Appends each of the possible answers, with `COULD BE` before it and a line feed behind it.
 fn push_texts(out: &mut Vec<u8>, texts: &BTreeSet<Vec<u8>>) -> Result<(), NoMemory>
     ensures { OnOk result (out.new.items ≡ out.old.items ++ answers_text (map (λ text. text.items) texts.now.keys)) }
 {
@@ -35,7 +35,7 @@ fn push_line(out: &mut Vec<u8>, word: &[u8], number: u64) -> Result<(), NoMemory
     out.extend_from_slice(b"\n")
 }
 
-/// Appends the order before a line and the store after that order, each below its word, if they are given.
+/// Appends the order before a line and the store after that order, each below its heading, if they are given.
 fn push_reason(out: &mut Vec<u8>, reason: &Option<Reason>) -> Result<(), NoMemory>
     ensures { OnOk result (out.new.items ≡ out.old.items ++ reason_text (option_map reason_kept reason.now)) }
 {
@@ -68,7 +68,7 @@ fn push_exchange(out: &mut Vec<u8>, exchange: &Option<Exchange>) -> Result<(), N
     }
 }
 
-/// Appends a smaller record, if one is given.
+/// Appends a smaller record below its heading, if one is given.
 fn push_smaller(out: &mut Vec<u8>, smaller: &Option<Vec<u8>>) -> Result<(), NoMemory>
     ensures { OnOk result (out.new.items ≡ out.old.items
         ++ smaller_text (option_map (λ written. written.items) smaller.now)) }

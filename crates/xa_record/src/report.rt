@@ -16,8 +16,8 @@ pub enum Report {
     Empty,
     /// The lines of an order that explains it.
     Legal(Vec<u8>),
-    /// The number of the line whose event no order explains together with those before it, the answers that its call
-    /// could have had, and what else is told.
+    /// The number of the line whose event no order explains together with those before it, the texts of the answers
+    /// that its call could have had, and what else is told.
     Illegal(u64, BTreeSet<Vec<u8>>, Grounds),
     /// The number of the line before which more different configurations than allowed have to be kept.
     Undecided(u64),

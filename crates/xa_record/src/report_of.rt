@@ -24,7 +24,7 @@ use xa_server::Server;
 use xa_xid::NoMemory;
 
 /// The text of an answer: a reply as `run` prints it, with rows as `CONVERT XID` prints them. For a text that isn't a
-/// statement it is the number alone, without what `run` prints behind it.
+/// statement it is `ERROR 1064` alone, without what `run` prints behind it.
 fn answer_text(alloc: Global, answer: &Answer) -> Result<Vec<u8>, NoMemory>
     ensures { IfOk result (λ text. text.items ≡ text_of_answer answer.now) }
 {

@@ -26,7 +26,7 @@ pub fn leading_number(text: &[u8]) -> Option<u64>
     number_in(ByteClass::Decimal.split(text).0)
 }
 
-/// The digits of a word after its `0x`. None if it doesn't begin so.
+/// What a word has after its `0x`, where digits belong. None if it doesn't begin so.
 fn digits_in(word: &[u8]) -> Option<&[u8]>
     ensures { option_copied result ≡ digits_named word.now }
 {

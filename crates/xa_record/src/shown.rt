@@ -2,8 +2,8 @@
 
 use xa_xid::Bytes;
 
-/// What a return shows, as its lines are written. A value and a list are in boxes of their own, so that they
-/// take no room in other lines.
+/// What a return shows, as its lines say it. A value and a list are in boxes of their own, so that they take no
+/// room in other lines.
 #[derive(Drop)]
 pub enum Shown<'a> {
     /// The statement was carried out.

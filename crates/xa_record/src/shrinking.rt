@@ -35,8 +35,8 @@ fn is_at_last(verdict: &Verdict, count: usize) -> bool
     }
 }
 
-/// True only if no order explains these events, and some order explains all but the last. False may also mean that it
-/// isn't decided within `limit`.
+/// True only if no order explains these events, which begin with `base`, and some order explains all but the last.
+/// False may also mean that it isn't decided within `limit`.
 fn is_refuted_at_last(
     alloc: Global,
     base: &Server,

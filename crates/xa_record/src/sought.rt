@@ -11,7 +11,7 @@ use xa_xid::{Bytes, Key, NoMemory, Statement, Xid, copy_of};
 /// The value or the prepared branches that an ILLEGAL line shows: calls have to write them.
 #[derive(Drop)]
 pub enum Sought {
-    /// The line shows neither.
+    /// The line shows neither, or a value though its call is no `GET`.
     Nothing,
     /// The key of a row, and its value.
     Value(Key, Bytes),
@@ -76,7 +76,7 @@ impl Sought {
     }
 
     /// Returns the value or the prepared branches that the return at `place`, an index in `numbered`, shows. `Nothing`
-    /// if it shows neither, or if no return is there.
+    /// as for `of_return`, or if no return is there.
     ///
     /// May return `NoMemory`.
     pub fn at(alloc: Global, numbered: &[NumberedEvent], place: usize) -> Result<Sought, NoMemory> {

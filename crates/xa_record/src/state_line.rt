@@ -18,7 +18,7 @@ pub enum StateLine {
     Row(Key, Bytes),
 }
 
-/// A literal at the beginning of the text, and the text after it. None if no literal is there.
+/// A literal at the beginning of the text, and the text after it. None if none of at most 64 bytes is there.
 fn part_ahead(text: &[u8]) -> Option<(Bytes, &[u8])> {
     match literal_of(text) {
         Ok((bytes, rest)) => Some((bytes, rest)),

@@ -1,4 +1,4 @@
-//! Reads a state.
+//! Reads a state: the listing of the store with which a record begins.
 ghost use Rattle.std.specs.Prelude.{◌≡◌, true, None, IfOk};
 ghost use Rattle.xa_lines.specs.Listing.{listing};
 ghost use Rattle.xa_record.specs.States.{IsStateOf, NamesAllRows};

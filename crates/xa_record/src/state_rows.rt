@@ -1,4 +1,4 @@
-//! The rows of a listing.
+//! Makes the rows of a listing, by statements.
 ghost use Rattle.std.specs.Prelude.{◌++◌, OnOk};
 ghost use Rattle.xa_record.specs.States.{NamesAllRows};
 

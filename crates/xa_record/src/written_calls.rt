@@ -1,5 +1,5 @@
-//! Calls are written in an order so that they are read back. These functions do nothing; their contracts state
-//! that.
+//! Statements of calls are read back as they are written in an order. These functions do nothing. Their contracts
+//! state that.
 ghost use Rattle.std.specs.Prelude.{◌≢◌};
 ghost use Rattle.std.specs.List.{All};
 ghost use Rattle.xa_record.specs.Replaying.{IsFit, IsWrittenBack, IsWrittenCall};
@@ -56,7 +56,8 @@ fn is_written_call(event: &Event)
     }
 }
 
-/// States that each call among the events is written so that it is read back.
+/// States of each event: if it calls for a statement that is supported, the canonical form of that is read as that
+/// statement, and has no line feed.
 pub fn are_written_calls(events: &[Event])
     ensures { All IsWrittenCall events.now }
 {

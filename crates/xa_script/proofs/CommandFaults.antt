@@ -9,12 +9,12 @@ use Rattle.clap.specs.declared.parser.matches.ArgMatches.{ArgMatches}
 use Rattle.xa_script.specs.CommandLine.{script_app, IsJob, Names, ReadsCommand}
 use Rattle.xa_script.specs.declared.command.Job.{Job}
 
--- the program's command line has only simple options, whose names are different: by computation
+-- the program's command line is simple, and no option of it has a rule on another
 simple_and_free : is_simple_and_free script_app ≡ true
 unfolding clap_on_literals
 simple_and_free = refl
 
--- the program's command line has only simple options: by computation
+-- the program's command line is simple: it is one of those of which `clap` says which matches they have
 simple : is_simple script_app ≡ true
 unfolding clap_on_literals
 simple = refl
@@ -37,8 +37,8 @@ pub found : (words : List Text) (m : ArgMatches) (job : Job) → subcommand_rows
 found words m job is names = let P : Option (Text × List Row) → Type 0 = λ s. IsSomeAnd s (IsJob job) in
     subst P (sym is) names
 
--- if `app` is the program's command line, and an error has the kind of the words' fault provided that `app` is
--- simple, it has the kind of their fault for the program
+-- if `app` is the program's command line, and an error has the kind of the words' fault (`HasKind`) provided that `app`
+-- is simple and has no rules between options, it has the kind of their fault for the program
 pub kind_of_script : (app : App) (words : List Text) (error : Error) → app ≡ script_app
     → (is_simple_and_free app ≡ true → HasKind (fault_of app words) error)
     → HasKind (fault_of script_app words) error
@@ -46,15 +46,16 @@ kind_of_script app words error is kinds =
     let P : App → Type 0 = λ a. HasKind (fault_of a words) error in
     subst P is (kinds (ap is_simple_and_free is ∙ simple_and_free))
 
--- if `app` is the program's command line, and the words have no fault provided that `app` is simple, they have none
--- for the program
+-- if `app` is the program's command line, and the words have no fault provided that `app` is simple and has no rules
+-- between options, they have none for the program
 pub no_fault_of_script : (app : App) (words : List Text) → app ≡ script_app
     → (is_simple_and_free app ≡ true → fault_of app words ≡ [])
     → fault_of script_app words ≡ []
 no_fault_of_script app words is none = let P : App → Type 0 = λ a. fault_of a words ≡ [] in
     subst P is (none (ap is_simple_and_free is ∙ simple_and_free))
 
--- if reading the command line ends with an error that is passed on, its kind is that of the words' fault
+-- if the answer is an error that is passed on, which has the kind of the words' fault or says that memory ran out, the
+-- command line is read as it is to be (`ReadsCommand`)
 pub refused_as : (words : List Text) (answer : Result Job Error) (passed error : Error) → answer ≡ Err passed
     → passed ≡ error
     → HasKind (fault_of script_app words) error → ReadsCommand words answer

@@ -4,11 +4,11 @@ use Rattle.xa_lines.specs.Script.{lines_of}
 use Rattle.xa_lines.proofs.JsonWritten.{lines-none}
 use Rattle.xa_script.specs.Listing.{first_of, first_line, notes_of}
 
--- an empty text has no first line
+-- the first line of an empty text is empty
 pub no_first : (text : List ℕ) → (length text == 0) ≡ true → [] ≡ first_line text
 no_first text empty = sym (ap first_of (lines-none text empty))
 
--- the loop over lines ends: no line is left, and no comment
+-- if `out` and the comments for the lines of `text` are the whole, and `text` is empty, `out` is the whole
 pub notes_end : (out whole text : List ℕ) → (length text == 0) ≡ true → out ++ notes_of (lines_of text) ≡ whole
     → out ≡ whole
 notes_end out whole text empty is =

@@ -13,7 +13,7 @@ use Rattle.xa_script.specs.declared.command.Job.TheVariants.{Run, Race, Coordina
 use Rattle.xa_script.specs.declared.command.Job.TheVariants.{Audit}
 use Rattle.xa_script.specs.declared.histories.Histories.{Histories}
 
--- if the subcommand is `audit` and its options are read as this form, the matches are that job's
+-- if the subcommand is `audit` and its option `--json` says this job, the matches are that job's
 pub audits : (m found : ArgMatches) (name : Text) (job : Job)
     → subcommand_rows_of m ≡ Some (name, rows_of (found_of found)) → name ≡ codes "audit"
     → IsAuditOf (one_text (found_of found) (codes "json")) job → IsSomeAnd (subcommand_rows_of m) (IsJob job)

@@ -1,4 +1,4 @@
--- When the matches of a command line name calls, or the stops of their coordinator.
+-- When the matches of a command line name the job `coordinate` or `stops`.
 use Rattle.std.proofs.Common.{◌≡◌, ◌∙◌, refl, sym, ap, subst, List, Option, Some, None, codes, length, arith}
 use Rattle.std.specs.Prelude.{IfSome}
 use Rattle.std.specs.Option.{IsSomeAnd}

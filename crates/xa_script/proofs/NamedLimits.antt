@@ -1,4 +1,4 @@
--- When the matches of a command line name a judging or an exploring.
+-- When the matches of a command line name the job `judge` or `explore`.
 use Rattle.std.proofs.Common.{◌≡◌, ◌∙◌, ℕ, refl, sym, ap, subst, List, Option, Some, None, codes, length, arith}
 use Rattle.std.specs.Prelude.{IfSome}
 use Rattle.std.specs.Option.{IsSomeAnd}
@@ -127,7 +127,7 @@ pub explores_if : (m found : ArgMatches) (name : Text) (r : Option Job)
 explores_if m found name None is named of = tt
 explores_if m found name (Some job) is named of = explores m found name job is named of
 
--- if the limit of `explore` can't be read, the matches are no job's
+-- if the limit of `explore` says no job, the matches are no job's
 pub no_explore : (m found : ArgMatches) (name : Text) → subcommand_rows_of m ≡ Some (name, rows_of (found_of found))
     → name ≡ codes "explore"
     → ((job : Job) → IsExploreOf (one_text (found_of found) (codes "limit")) job → ⊥) → (job : Job)

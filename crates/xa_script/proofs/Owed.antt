@@ -9,12 +9,12 @@ use Rattle.std.specs.Io.KnownBytes.{Appends, Keeps, append_known}
 use Rattle.std.specs.Prelude.{OnOk}
 use Rattle.xa_script.specs.TextLines.{ends_line}
 
--- the bytes that are due are the first `count` of them, and then the others
+-- the bytes that are still due are the first `count` of them, and then the others
 split_due : (due : List ℕ) (given count : ℕ) → take count (drop given due) ++ drop (given + count) due ≡ drop given due
 split_due due given count = ap (λ rest. take count (drop given due) ++ rest) (sym (drop-drop count given due))
     ∙ take-append-drop count (drop given due)
 
--- bytes that were due and are written stay known
+-- if `count` more of the due bytes are written, what was written and what is still due are together what they were
 pub given_more : (old new : Option (List ℕ)) (due : List ℕ) (given count : ℕ)
     → Appends old new (take count (take (length due - given) (drop given due)))
     → Keeps (append_known old (drop given due)) (append_known new (drop (given + count) due))
@@ -28,7 +28,7 @@ given_more (Some old) (Some new) due given count written =
     ∙ append_assoc old (take count (drop given due)) rest
     ∙ ap (λ (xs : List ℕ). old ++ xs) (split_due due given count)
 
--- if what was sent stays known, it does so with the same held bytes behind it
+-- if what is written and due stays the same, where it is known, so does that with the same held bytes behind it
 pub known_kept : (old new : Option (List ℕ)) (due rest held same : List ℕ)
     → Keeps (append_known old due) (append_known new rest) → same ≡ held
     → Keeps (append_known old (due ++ held)) (append_known new (rest ++ same))
@@ -73,7 +73,8 @@ cases_le_at count taken within = elim (cases_lt taken count) [
   | inr less ↦ inl less
 ]
 
--- no line ends among more bytes, if none did before and none does at the last of them
+-- no line ends at one of the first `taken + 1` bytes behind `held`, if none does at the first `taken` and none at the
+-- next one
 pub begun_more : (rows : ℕ) (held bytes : List ℕ) (taken : ℕ)
     → ((count : ℕ) → 0 < count → count ≤ taken → ends_line rows (held ++ take count bytes) ≡ false)
     → ends_line rows (held ++ take (taken + 1) bytes) ≡ false
@@ -88,7 +89,7 @@ pub on_ok : {V E P : Type 0} (answer : Result V E) → P → OnOk answer P
 on_ok (Ok _) holds = holds
 on_ok (Err _) holds = tt
 
--- what two calls keep both together keep
+-- what each of two calls keeps, one after the other, both together keep
 pub kept_on : (first second third : Option (List ℕ)) → Keeps first second → Keeps second third → Keeps first third
 kept_on None second third before after = tt
 kept_on (Some first) None third before after = absurd before

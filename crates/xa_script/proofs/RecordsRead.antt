@@ -14,7 +14,7 @@ use Rattle.xa_script.specs.Status.{AppendsVerdict}
 use Rattle.xa_script.proofs.Allowed.{read_whole}
 use Rattle.xa_script.proofs.Audited.{kept_all}
 
--- what a reader gave up to its end is all that another had, which had the same bytes
+-- if a reader gave these bytes and is at its end, `input`, which had the same bytes, has these and no more
 pub all_read : (input first rest : Option (List ℕ)) (given : List ℕ) → first ≡ input → Consumes first rest given
     → IsAtEnd rest → (left : Option (List ℕ)) × Consumes input left given × IsAtEnd left
 all_read input first rest given is read end =
@@ -48,7 +48,7 @@ faulted_whole base allowances asked (Err Full) given input rest old new read end
 faulted_whole base allowances asked (Err GateShut) given input rest old new read end left = left
 faulted_whole base allowances asked (Err ThreadRefused) given input rest old new read end left = left
 
--- a fault of reading leaves the writer as it was
+-- a writer that is as it was is what a fault of reading leaves (`AfterJudgeFaultFrom`)
 pub unread : (base : State) (allowances : List Allowance) (asked : Asked) (fault : ScriptFault)
     (input contents : Option (List ℕ)) → IsOfReading fault
     → AfterJudgeFaultFrom base allowances asked fault input contents contents

@@ -10,13 +10,13 @@ use Rattle.xa_script.specs.Listing.{worse, worst_from, piece, pieces}
 use Rattle.xa_script.specs.Several.{IsVerdictOn, AreVerdicts, IsListing}
 use Rattle.xa_script.proofs.Audited.{taken_more}
 
--- the worst of several statuses and one more is the worse of the several's worst and that one
+-- the worst of `first`, `statuses` and `status` is the worse of the worst of the others and `status`
 worst_more : (first : ℕ) (statuses : List ℕ) (status : ℕ)
     → worst_from first (statuses ++ status ∷ []) ≡ worse (worst_from first statuses) status
 worst_more first [] status = refl
 worst_more first (one ∷ statuses) status = worst_more (worse first one) statuses status
 
--- what is written for several records and one more has that record's piece at the end
+-- what is written for several records and one more has that record's piece at the end, with the number `last`
 pieces_more : (tap : Bool) (number last : ℕ) (names : List (List ℕ)) (name : List ℕ) (verdicts : List (ℕ × List ℕ))
     (verdict : ℕ × List ℕ) → length names ≡ length verdicts → last ≡ number + length names
     → pieces tap number (names ++ name ∷ []) (verdicts ++ verdict ∷ [])
@@ -54,7 +54,7 @@ as_many base allowances asked (first ∷ records) [] are = absurd are
 as_many base allowances asked (first ∷ records) (one ∷ verdicts) are =
     let rest = as_many base allowances asked records verdicts are.1 in omega (arith, rest)
 
--- nothing is written for no records
+-- for no records nothing is written behind `before`, and the status is 0
 pub none_listed : (base : State) (allowances : List Allowance) (asked : Asked) (tap : Bool) (before text : List ℕ)
     → text ≡ before → IsListing base allowances asked tap before [] [] 0 text
 none_listed base allowances asked tap before text is = record {
@@ -65,8 +65,8 @@ none_listed base allowances asked tap before text is = record {
   text_is = is ∙ sym (append-nil before);
 }
 
--- if one record more is judged, its piece is written behind the others', and the worse of its status and the one that
--- counted before counts
+-- a listing for some records, with the piece of one record more behind it, is one for all of these; its status is the
+-- worse of the two
 listing_more : (base : State) (allowances : List Allowance) (asked : Asked) (tap : Bool) (before : List ℕ)
     (names records : List (List ℕ)) (name seen : List ℕ) (count status next : ℕ) (text more : List ℕ)
     (verdict : ℕ × List ℕ) → count ≡ length names → IsListing base allowances asked tap before names records status text
@@ -110,13 +110,13 @@ next_listed base allowances asked tap own before names name count status next te
     taken.0 many so_far taken.1 taken.2
     (taken.3 ∙ ap (λ (form : Bool). text ++ piece form (count + 1) name taken.0) same)
 
--- mapping leaves the length
+-- a mapped list is as long as the list
 mapped_long : {A B : Type 0} (f : A → B) (all : List A) → length (map f all) ≡ length all
 mapped_long f [] = refl
 mapped_long f (one ∷ all) = let rest = mapped_long f all in omega (arith, rest)
 
--- if a text is what is written for the records of several readers, it is that for one reader more with its piece
--- behind
+-- if a text is what is written for the records of several readers, that text and the piece of one reader more are what
+-- is written for the records of all these
 pub list_more : {S : Type 0} (sources : List S) (source : S) (remaining : S → Option (List ℕ)) (name : S → List ℕ)
     (base : State) (allowances : List Allowance) (asked : Asked) (tap own : Bool) (before : List ℕ)
     (count status next : ℕ) (text more : List ℕ) → own ≡ tap → count ≡ length sources

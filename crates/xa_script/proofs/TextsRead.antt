@@ -28,7 +28,7 @@ form_more byte false true front bytes quote other form =
 form_more byte false false front bytes quote other form =
     plain byte (eqb-false byte 39 quote) (eqb-false byte 92 other) form
 
--- what stands between quotes, with the closing one, stands for the bytes
+-- what `between_quotes` gives, with the closing quote behind it, stands for the bytes
 form_of : (bytes : List ℕ) → Quoted 39 (between_quotes bytes ++ 39 ∷ []) bytes
 form_of [] = close
 form_of (byte ∷ bytes) = form_more byte (byte == 39) (byte == 92) (between_quotes bytes) bytes refl refl (form_of bytes)
@@ -47,7 +47,7 @@ read_quoted text fits complete =
     ∙ complete (quoted text.items ++ []) text.items [] (quoted_at text.items [] tt)
     ∙ ap (λ found. sized found []) (kept-fits text.items fits)
 
--- if a literal is read as the same text in quotes and as it was, so is the one of both that a test chooses
+-- if a word, and the text in quotes, are each read as that text, so is the one of the two that a test chooses
 chosen : (word : List ℕ) (text : Text) (is_plain : Bool) → literal_ahead word ≡ Ok (text, [])
     → literal_ahead (quoted text.items) ≡ Ok (text, [])
     → literal_ahead (if is_plain then quoted text.items else word) ≡ Ok (text, [])

@@ -7,7 +7,7 @@ use Rattle.std.specs.Str.Parse.{ParsesUnsigned, ParsesBool, true_text, false_tex
 use Rattle.clap.specs.Words.{Text, ReadsOne}
 use Rattle.xa_script.specs.CommandLine.{IsSeedText, HasNoSeed, IsFlagOf, IsLimitText, IsRunsOf}
 
--- equal texts that were found are equal
+-- `Some` of two texts is equal only if the texts are
 some_is : {text other : Text} → Some text ≡ Some other → text ≡ other
 some_is e = cc
 
@@ -68,7 +68,8 @@ pub flag_of : (given : Option Text) (flag : Bool) → (flag ≡ true → given �
 flag_of given true is absent = is refl
 flag_of given false is absent = absent refl
 
--- a number that is read from `--runs` exactly if it is there is the number of runs that the option asks for
+-- if what is read from `--runs` is the number that it gives, and None only if it gives none, it is how many runs the
+-- option asks for
 pub runs_of : (given : Option Text) (read : Option ℕ) → IfSome read (λ count. IsSomeAnd given (IsLimitText count))
     → (read ≡ None → (count : ℕ) → IsSomeAnd given (IsLimitText count) → ⊥) → IsRunsOf given read
 runs_of given None some none = none refl

@@ -31,7 +31,7 @@ use Rattle.xa_script.specs.declared.command.Job.{Job}
 use Rattle.xa_script.specs.declared.command.Job.TheVariants.{Run, Race, Coordinate, Serve, Show, Judge, Explore, Stops}
 use Rattle.xa_script.specs.declared.command.Job.TheVariants.{Audit}
 
--- `--NAME N`, which this parser reads, with a default
+-- `--NAME N`, whose N this parser reads, with a default
 abbrev pub number_rule : Text → ValueParser → Text → Rule
 number_rule name reads default =
     record (new_rule name) { long = Some name; value_names = 1; parser = Some reads; defaults = default ∷ [] }
@@ -160,7 +160,7 @@ audit_app =
 abbrev pub IsLocal : Command → Type 0
 IsLocal command = (out-Command command).has_globals ≡ false
 
--- the command without its subcommands: one is required, unless `--version` is given
+-- the command without its subcommands: one is required, unless help or the version is asked for
 abbrev pub bare_app : App
 bare_app = on_top (λ shape. record shape { subcommand_required = true; has_version = true })
     (new_app (codes "xa_script"))
@@ -199,12 +199,12 @@ abbrev pub IsLimitText : ℕ → Text → Type 0
 IsLimitText limit text =
     IsNumeral 10 (without_leading_plus text) × (limit ≡ digits_value 10 (without_leading_plus text)) × IsLimit limit
 
--- the text of a value is this number, which has 64 bits
+-- the text of a value is this number, which is below 2^64
 abbrev pub IsSeedText : ℕ → Text → Type 0
 IsSeedText seed text =
     IsNumeral 10 (without_leading_plus text) × (seed ≡ digits_value 10 (without_leading_plus text)) × (seed < 2 ^ 64)
 
--- no number is given as a seed
+-- no number below 2^64 is given as a seed
 abbrev pub HasNoSeed : Option Text → Type 0
 HasNoSeed shuffle = (seed : ℕ) → IsSomeAnd shuffle (IsSeedText seed) → ⊥
 
@@ -215,7 +215,7 @@ IsScheduleOf together shuffle Freely = HasNoSeed shuffle × (together ≢ Some (
 IsScheduleOf together shuffle Together = HasNoSeed shuffle × (together ≡ Some (codes "true"))
 IsScheduleOf together shuffle (Shuffled seed) = IsSomeAnd shuffle (IsSeedText seed)
 
--- whether an option without a value is given, by its value
+-- whether an option that takes no value is given: `clap` then has the text `true` for it
 abbrev pub IsFlagOf : (flag : Option Text) → Bool → Type 0
 IsFlagOf flag true = flag ≡ Some (codes "true")
 IsFlagOf flag false = flag ≢ Some (codes "true")

@@ -1,4 +1,5 @@
--- Forms of a text that no record has. Every rule here is the project's own: docs/HISTORIES.md.
+-- Forms of a text whose lines are likely not read as its writer meant them. Every rule here is the project's own:
+-- docs/HISTORIES.md.
 --     foreign_of    in which of these forms a text is, if it is in one
 use Rattle.std.specs.Prelude.{ℕ, Bool, true, false, not, ◌==◌, ◌&&◌, ◌||◌, nat_le, if◌then◌else◌, Option, Some, None}
 use Rattle.std.specs.Prelude.{List, [], ◌∷◌}
@@ -26,7 +27,7 @@ has_byte byte text = list_any (λ other. other == byte) text
 abbrev pub begins_line : ℕ → Bool
 begins_line byte = byte == 35 || nat_le 48 byte && nat_le byte 57
 
--- a byte that begins a line is directly behind a carriage return, which may be the byte before the text
+-- a byte that begins a line is directly behind a carriage return; `returned`: one comes right before the text
 abbrev pub goes_on : (returned : Bool) → List ℕ → Bool
 goes_on returned [] = false
 goes_on returned (byte ∷ bytes) = returned && begins_line byte || goes_on (byte == 13) bytes

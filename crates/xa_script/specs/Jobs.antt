@@ -67,7 +67,7 @@ AfterCame true renews runs fault input old new =
     AfterObjects (λ before after. (status : ℕ) × AppendsCame runs status input before after) fault old new
 AfterCame false renews runs fault input old new = AfterRunsFault renews runs fault input old new
 
--- the script was raced `runs` times: how that ended, and what was written of the outcomes that came
+-- the script was raced `runs` times, if no line of it is faulty: how that ended, and what was written
 abbrev pub HasCame : (json renews : Bool) → (runs : ℕ) → (input old new : Option (List ℕ)) → End → Type 0
 HasCame json renews runs input old new done =
     MatchResult done (λ status. WritesAs json (AppendsCame runs status input) old new)
@@ -155,8 +155,8 @@ HasDone contents (Stops stores capacity) json base allowances input old new done
     IsFlushed contents (HasStopped json stores input old) new done
 HasDone contents (Audit object) json base allowances input old new done = ⊥
 
--- a job ended as `Done` says, and then its result was made by whether one of its lines was faulty (`end_of`):
--- `faulty` is None if memory was refused for finding that out
+-- a job ended as `Done` says, and then `end_of` made its result by `faulty`: whether one of its lines was faulty, or
+-- None if memory was refused for finding that out. It isn't tied to the lines here: it may be any of the three
 pub record IsLookedAt {W A : Type 0} (strict : Bool) (Done : BufWriter W A → End → Type 0) (new : BufWriter W A)
     (result : End) : Type 0 where
   pub done : End

@@ -38,7 +38,8 @@ kind_of_lines (Audit json) = ShownKind
 abbrev pub any_length : ℕ
 any_length = 2 ^ 64 - 1
 
--- how many bytes a line may have: the jobs that answer line by line keep no more of one
+-- how many bytes a line may have when it is looked at: the jobs that answer line by line keep no more of one. `stops`
+-- doesn't read a longer line either, but here it counts as any other
 abbrev pub most_bytes : Job → ℕ
 most_bytes Run = any_length
 most_bytes (Race capacity schedule renews runs) = any_length

@@ -35,8 +35,8 @@ HasHistories words histories =
     IsSomeAnd (subcommand_of script_app words) (λ found. map (λ name. name.now) histories.names.items
     ≡ unwrap_or (all_of (codes "history") found.1) [])
 
--- the names are all values of `RECORD..`, in their order, as `clap` matches the words, and TAP is as its option says;
--- none, for a job that has no such argument
+-- the names are all values of `RECORD..`, in their order, as `clap` matches the words (none if there are none, as for a
+-- job that has no such argument), and TAP is as its option says
 abbrev pub HasRecords : List Text → Records → Type 0
 HasRecords words records =
     IsSomeAnd (subcommand_of script_app words) (λ found. (map (λ name. name.now) records.names.items

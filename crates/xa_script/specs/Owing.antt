@@ -44,8 +44,8 @@ pub record Comes {W : Type 0} (contents : W → Option (List ℕ)) (old : Texts 
   pub rows : new.rows ≡ old.rows
   pub passes : new.passes ≡ false
 
--- the bytes pass unchanged, up to a line feed, since the line has more bytes than there is room for, or was cut off by
--- a flush
+-- the bytes pass unchanged, since the line has more bytes than there is room for, which is 512, or was cut off by a
+-- flush. Passing goes on unless the last of them is a line feed
 pub record Passes {W : Type 0} (contents : W → Option (List ℕ)) (old : Texts W) (bytes : List ℕ)
     (new : Texts W) : Type 0 where
   pub why : (old.passes ≡ true) ⊎ (length old.held.items ≡ 512)

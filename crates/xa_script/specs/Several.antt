@@ -26,7 +26,7 @@ abbrev pub IsVerdictOn : State → List Allowance → Asked → (seen : List ℕ
 IsVerdictOn base allowances asked seen verdict =
     AppendsVerdict base allowances asked verdict.0 (Some seen) (Some []) (Some verdict.1)
 
--- one record more was judged: its verdict is right, if what the reader held is known, what is written for it comes
+-- one record more was judged. If what its reader held is known, its verdict is right, what is written for it comes
 -- behind what was written for those before, and the status is the worse of theirs and its own
 pub record ListsOne (base : State) (allowances : List Allowance) (asked : Asked) (seen : Option (List ℕ))
     (name : List ℕ) (old new : Listed) : Type 0 where
@@ -61,7 +61,8 @@ AppendsListing base allowances asked tap names records status old new =
     (text : List ℕ) × IsListing base allowances asked tap (heading tap (length names)) names records status text
     × Appends old new text
 
--- what is written for several records; with `--strict` the status is 8 instead of 0 if a line was faulty
+-- what is written for several records; with `--strict` the status is 8 instead of 0 if `faulty`. That says
+-- whether a line was faulty, but isn't tied to the records here: it may be either
 abbrev pub ListsAll : State → List Allowance → Asked → (strict tap : Bool) → (names records : List (List ℕ))
     → (status : ℕ) → Option (List ℕ) → Option (List ℕ) → Type 0
 ListsAll base allowances asked strict tap names records status old new =

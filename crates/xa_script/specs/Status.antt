@@ -9,9 +9,9 @@
 --     AppendsOutcomes  the writer got what is written for a script that is explored, and the status is for how that
 --                      ended
 --     AppendsRaceBy    the writer got what is written for a race
---     AppendsCame      the writer got which outcomes of a script came, and the status is for how its races ended
+--     AppendsCame      the writer got what is written for counted races, and the status is for how these ended
 --     status_of_stops  the exit status for how stopping a coordinator ended
---     AppendsStopped   the writer got what is written for each stop, and the status is for how that ended
+--     AppendsStopped   the writer got what is written for stops, and the status is for how stopping ended
 --     status_of_audit  the exit status for how an audit ended
 --     AppendsAuditBy   the writer got what is written for histories, and the status is for how their audit ended
 --     AfterAuditing    what a fault leaves in the writer
@@ -48,8 +48,8 @@ use Rattle.xa_manager.specs.Scripts.{AppendsStops}
 use Rattle.xa_manager.specs.declared.stop_ended.Ended.{Ended as StopsEnded}
 use Rattle.xa_manager.specs.declared.stop_ended.Ended.TheVariants.{Done as AllStops, Faulty as FaultyCalls}
 
--- 1 where the script can't be read or its answers can't be written, 3 where memory, the log, the gate or a thread gave
--- out (own rule)
+-- 1 where the input can't be read or is too long, or the output can't be written, 3 where memory, the log, the gate or
+-- a thread gave out (own rule)
 abbrev pub status_after : ScriptFault → ℕ
 status_after Read = 1
 status_after TooLong = 1
@@ -126,8 +126,8 @@ abbrev pub AppendsRaceBy : Bool → (capacity : ℕ) → List ℕ → Option (Li
 AppendsRaceBy true capacity script old new = AppendsRace None script old new
 AppendsRaceBy false capacity script old new = AppendsRace (Some capacity) script old new
 
--- racing the script `runs` times ended in some way: the writer got which outcomes came, if the script is known, and
--- the status is the one for that end
+-- racing the script `runs` times ended in some way: the writer got what is written then, if the script is known, which
+-- outcomes came or the faulty lines, and the status is the one for that end
 abbrev pub AppendsCame : (runs status : ℕ) → Option (List ℕ) → Option (List ℕ) → Option (List ℕ) → Type 0
 AppendsCame runs status input old new =
     (ended : Ended) × (status ≡ status_of_end ended) × IfSome input (λ script. AppendsRuns runs ended script old new)
@@ -137,8 +137,8 @@ abbrev pub status_of_stops : StopsEnded → ℕ
 status_of_stops AllStops = 0
 status_of_stops FaultyCalls = 6
 
--- stopping the script's coordinator ended in some way: the writer got what is written for each stop, if the script is
--- known, and the status is the one for that end
+-- stopping the script's coordinator ended in some way: the writer got what is written then, if the script is known, the
+-- stops or the faulty lines, and the status is the one for that end
 abbrev pub AppendsStopped : (stores status : ℕ) → Option (List ℕ) → Option (List ℕ) → Option (List ℕ) → Type 0
 AppendsStopped stores status input old new =
     (ended : StopsEnded) × (status ≡ status_of_stops ended)

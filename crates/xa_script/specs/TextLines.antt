@@ -31,7 +31,7 @@ abbrev pub or_zero : Option ℕ → ℕ
 or_zero None = 0
 or_zero (Some number) = number
 
--- how many rows a reply says that it has: `ROWS` and their number
+-- how many rows a reply says that it has: `ROWS` and their number; 0 for any other reply
 abbrev pub rows_of : List ℕ → ℕ
 rows_of reply = if starts_with nat_eq reply (codes "ROWS ") then or_zero (number_of_word (drop 5 reply)) else 0
 
@@ -43,7 +43,7 @@ behind_first text = drop 1 (after_word text)
 abbrev pub first_number : List ℕ → Option ℕ
 first_number text = number_of_word (first_word text)
 
--- what comes after the first word if that is a number, else the text
+-- what comes after the first word and one more byte if that word is a number, else the text
 abbrev pub past_number : List ℕ → List ℕ
 past_number text = if is_some (first_number text) then behind_first text else text
 
@@ -55,7 +55,7 @@ could_be line = starts_with nat_eq line (codes "COULD BE ")
 abbrev pub was_seen : List ℕ → Bool
 was_seen line = starts_with nat_eq line (codes "SEEN ")
 
--- the reply in a line that says what was seen, behind the session and the sign
+-- the reply in a line that says what was seen, behind `SEEN `, the session and the sign
 abbrev pub seen_reply : List ℕ → List ℕ
 seen_reply line = behind_first (past_number (drop 5 line))
 
@@ -92,13 +92,13 @@ is_whole_row row =
     let second = behind_first lengths in
     holds_texts (first_number lengths) (first_number second) (behind_first second)
 
--- whether a text was read as a statement that the grammar has
+-- whether a text was read as a statement that has a canonical form
 abbrev pub has_form : Result Statement ℕ → Bool
 has_form (Ok Unsupported) = false
 has_form (Ok statement) = true
 has_form (Err place) = false
 
--- whether the line gives a session a statement that the grammar has
+-- whether the line gives a session a statement that has a canonical form
 abbrev pub is_given : Line → Bool
 is_given Blank = false
 is_given Bad = false
@@ -123,8 +123,8 @@ is_own line = not (is_of_job line) && (not (is_called line) && not (is_given (li
 abbrev pub is_point_or_own : (line : List ℕ) → Bool
 is_point_or_own line = if starts_with nat_eq line (codes "# ") then is_own (drop 2 line) else true
 
--- whether a line is written as it is: a comment where stores are shown, a client's own text in a verdict, each line
--- of TAP that is no comment, and each object, but no answer
+-- whether a line is written as it is: a comment where stores are shown, a client's own line of a verdict (with TAP
+-- behind `# `), each line of TAP that is no comment, and each object, but no answer
 abbrev pub keeps_line : LineForm → (line : List ℕ) → Bool
 keeps_line Answers line = false
 keeps_line Shown line = is_comment_line line

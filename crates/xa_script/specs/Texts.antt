@@ -33,7 +33,7 @@ abbrev pub text_or : List ℕ → (bytes rest : List ℕ) → List ℕ
 text_or word bytes [] = if are_printable bytes then quoted bytes else word
 text_or word bytes (byte ∷ rest) = word
 
--- the word with its literal in quotes, if its bytes were read and are printable; else the word as it was
+-- the literal's bytes in quotes, if it was read, is all of the word, and they are printable; else the word as it was
 abbrev pub said_or : List ℕ → Reading Text → List ℕ
 said_or word (Ok (text, rest)) = text_or word text.items rest
 said_or word (Err fault) = word

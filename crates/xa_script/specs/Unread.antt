@@ -1,7 +1,7 @@
 -- Which lines aren't read, as `--strict` counts them.
 --     is_silent      a line is blank, or a comment
 --     is_unread_by   a line isn't one for a job that reads lines of this kind
---     kind_after     the kind that a line, and all after it, are of
+--     kind_after     the kind that a line is of, and those after it until one of them changes it
 --     is_unread      a line isn't read, by how long it may be, and by whether it is in the place of a row
 use Rattle.std.specs.Prelude.{ℕ, Bool, true, false, not, ◌&&◌, ◌||◌, if◌then◌else◌, nat_lt, nat_eq, Result, Ok, Err}
 use Rattle.std.specs.Prelude.{List, [], length, codes}
@@ -40,7 +40,7 @@ is_silent line = is_empty_line (unblank line) || is_comment_line line
 abbrev pub divides_script : List ℕ → Bool
 divides_script line = is_word (codes "BESIDE") line || is_word (codes "AFTER") line
 
--- a line was read as no call
+-- a line that isn't silent was read as no call
 abbrev pub is_no_call : Call → Bool
 is_no_call (Unread place) = true
 is_no_call call = false
@@ -55,7 +55,7 @@ given_by (Given session text) = text
 abbrev pub has_sign : (sign text : List ℕ) → Bool
 has_sign sign text = pointwise nat_eq (first_word text) sign
 
--- a client calls for a text that isn't a statement
+-- what comes after a line's session is a call for a text that isn't a statement
 abbrev pub is_no_call_of_record : List ℕ → Bool
 is_no_call_of_record text = has_sign (codes ">") text && goes_wrong (read_of (behind_word text))
 
@@ -63,7 +63,7 @@ is_no_call_of_record text = has_sign (codes ">") text && goes_wrong (read_of (be
 abbrev pub is_no_record : List ℕ → Bool
 is_no_record line = is_bad (reading_of_line line) || is_no_call_of_record (given_by (line_of line))
 
--- whether a line isn't one for a job that reads lines of this kind
+-- whether a line, wherever it stands and however long it is, isn't one for a job that reads lines of this kind
 abbrev pub is_unread_by : LineKind → List ℕ → Bool
 is_unread_by Stated line = is_faulty (line_of line)
 is_unread_by Raced line = is_faulty (line_of line)
@@ -73,12 +73,13 @@ is_unread_by Called line = is_no_call (call_of line)
 is_unread_by Stopped line = is_no_call (taken (call_of line))
 is_unread_by Recorded line = not (is_silent line) && is_no_record line
 
--- a script that is raced has comments if its first line that isn't blank is one
+-- the kind of the lines of a script that is raced, by a line before which only blank ones came: with comments if the
+-- line is one, without if it isn't, and not settled yet if it is blank
 abbrev pub kind_of_first : List ℕ → LineKind
 kind_of_first line =
     if is_empty_line (unblank line) then Raced else (if is_comment_line line then Shown else Stated)
 
--- the kind that a line, and all after it, are of
+-- the kind that a line is of, and those after it until one of them changes it: only `Raced` is ever changed
 abbrev pub kind_after : LineKind → List ℕ → LineKind
 kind_after Stated line = Stated
 kind_after Raced line = kind_of_first line
@@ -88,8 +89,8 @@ kind_after Called line = Called
 kind_after Stopped line = Stopped
 kind_after Recorded line = Recorded
 
--- whether a line isn't read: it is longer than it may be, isn't a row while rows have to come, or isn't one for the
--- job
+-- whether a line isn't read: it has more than `most` bytes, or it isn't what has to come. While `rows` have to come,
+-- that is a row or a silent line, else a line for a job that reads lines of this kind
 abbrev pub is_unread : LineKind → (most rows : ℕ) → List ℕ → Bool
 is_unread kind most rows line =
     if nat_lt most (length line) then true else (if nat_lt 0 rows then is_no_row line else is_unread_by kind line)

@@ -36,7 +36,7 @@ pub enum Job {
     Coordinate {
         /// How many stores, in `[1, 16]`.
         stores: u64,
-        /// How many entries each store has room for, in `[1, 1024]`, if that is fixed.
+        /// How many entries each store has room for if `fixed`, in `[1, 1024]`.
         capacity: u64,
         /// Whether stores are limited to that capacity.
         fixed: bool,
@@ -47,10 +47,10 @@ pub enum Job {
     Show,
     /// Judges the record of the standard input.
     Judge {
-        /// How many configurations may be kept before a return, in `[1, 1_000_000]`.
+        /// How many different configurations may be kept before an event, in `[1, 1_000_000]`.
         limit: u64,
-        /// Whether what was seen, its call, an order of the lines before, and the store after it come with an ILLEGAL
-        /// verdict.
+        /// Whether what was seen and its call come with an ILLEGAL verdict, and, unless `shrink`, an order of the lines
+        /// before and the store after it.
         explain: bool,
         /// Whether the verdict is a JSON object.
         json: bool,
@@ -101,7 +101,7 @@ fn seed_in(found: &ArgMatches<'_>) -> Option<u64>
     found.get_one::<u64>("shuffle")
 }
 
-/// Returns whether the sessions begin together.
+/// Returns whether `--together` is given.
 fn begins_together(found: &ArgMatches<'_>) -> bool
     ensures given { result ≡ true → one_text (found_of found.now) (codes "together") ≡ Some (codes "true") }
     ensures other { result ≡ false → one_text (found_of found.now) (codes "together") ≢ Some (codes "true") }

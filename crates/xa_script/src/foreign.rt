@@ -1,9 +1,9 @@
-//! Forms of a text that no record has: its lines aren't read as its writer meant them.
+//! Forms of a text whose lines are likely not read as its writer meant them.
 ghost use Rattle.std.specs.Prelude.{◌≡◌, false};
 ghost use Rattle.xa_script.specs.Foreign.{begins_with_mark, begins_as_utf16, has_byte, begins_line, goes_on};
 ghost use Rattle.xa_script.specs.Foreign.{foreign_of};
 
-/// The form of a text whose lines aren't read as its writer meant them.
+/// The form of a text whose lines are likely not read as its writer meant them.
 #[derive(Clone, Copy, Debug, PartialEq, Eq)]
 pub enum Foreign {
     /// It begins with the byte order mark of UTF-8.
@@ -70,7 +70,7 @@ fn goes_on_behind(text: &[u8]) -> bool
     false
 }
 
-/// Returns in which form a text is whose lines aren't read as its writer meant them, if it is in such a form.
+/// Returns in which of these forms a text is, if it is in one: the first that fits, as tested below.
 ///
 /// Takes no memory. Doesn't wait.
 /// Own rule: docs/HISTORIES.md#records.

@@ -21,10 +21,10 @@ use xa_record::Allowance;
 use xa_server::Server;
 
 /// Returns how a job reads its lines, and above how many bytes a line counts as too long: `usize::MAX`, so never, for
-/// the jobs that read their whole input first.
+/// the jobs that read their whole input first. `stops` itself refuses a line of more than 65,536 bytes all the same.
 fn lines_of(job: Job) -> (LineKind, usize)
     // Proved (scripts, lines-of-a-job): Each job looks at its lines as the page says: as statements, calls or a
-    //   record, with comments or without. Only the jobs that answer line by line have a longest line.
+    //   record, with comments or without. It looks at lines of any length, unless it answers line by line.
     ensures kind { result.0 ≡ kind_of_lines job }
     // Proved (scripts, lines-of-a-job)
     ensures most { result.1 ≡ most_bytes job }

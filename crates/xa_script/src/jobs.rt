@@ -142,8 +142,8 @@ pub fn race<I: Read, W: Write + Drop, R: Alloc<A = Global> + Threads + Wait + Sy
     flushed(output, done)
 }
 
-/// Races the script `runs` times, each time over a store as `race` has it, and counts the outcomes. If `json`, each
-/// line is written as an object.
+/// Races the script `runs` times, each time over a store as `race` has it, and counts the outcomes. Only entries of the
+/// lines side by side need room. If `json`, each line is written as an object.
 pub fn races<I: Read, W: Write + Drop, R: Alloc<A = Global> + Threads + Wait + Sync>(
     rt: &R,
     input: &mut I,

@@ -41,8 +41,8 @@ fn tell_end<I: Read + Drop, R: Eprint + Alloc<A = Global>>(
     }
 }
 
-/// Judges the next record, and returns its verdict. What the standard error says of the record comes behind its name,
-/// also that it can't be read. If `quiet`, progress isn't reported.
+/// Judges the next record, and returns its verdict. What the standard error says of its form, its lines or the limit
+/// comes behind its name, and if it can't be read, it is named too. If `quiet`, progress isn't reported.
 fn verdict_on<I: Read + Drop, R: Clock + Eprint + Alloc<A = Global>>(
     rt: &R,
     base: &Server,
@@ -166,8 +166,8 @@ pub fn list_within<I: Read + Drop, W: Write, R: Clock + Eprint + Alloc<A = Globa
     requires limit { IsLimit asked.limit }
     requires count { length inputs.items ≤ 1000 }
     // Proved (scripts, several-records): For each of several records that are judged in one call, in their order, what
-    //   is written is made of the verdict that judging it alone writes. The status is the least of theirs that isn't 0,
-    //   and with `--strict` 8 instead of 0 if a line was faulty.
+    //   is written is made of the verdict that judging it alone writes. The status is the least of theirs that isn't 0.
+    //   With `--strict`, and only then, 0 may be 8 instead.
     ensures listed { IfOk result (λ status. (records : List (List ℕ))
         → map (λ input. I.remaining input.inner) inputs.entry.items ≡ map Some records
         → ListsAll base.now allowances.now asked manner.now.strict tap

@@ -22,8 +22,8 @@ const RECORD_BYTES: usize = 16_777_216;
 /// The greatest number of reads for a record: two for each byte, ample for a reader that gives one byte at a time.
 const RECORD_READS: u64 = 33_554_432;
 
-/// Says on the standard error in which form a record is, if its lines aren't read as its writer meant them. The
-/// record's `name` comes first, if it has one.
+/// Says on the standard error in which form a record is, if its lines are likely not read as its writer meant them.
+/// The record's `name` comes first, if it has one.
 fn tell_form<R: Eprint>(rt: &R, name: Option<&str>, record: &[u8]) {
     if let Some(form) = foreign_in(record) {
         if let Some(name) = name {

@@ -15,7 +15,7 @@ pub enum LineFault<'a> {
     NoStopped,
     /// It gives a statement that `WORK` doesn't take.
     NoWork,
-    /// It isn't a line of a record, from this place on.
+    /// It isn't a line of a record, or not a row where one is due, from this place on.
     NoRecord(LineGap),
     /// It is too long.
     TooLong,

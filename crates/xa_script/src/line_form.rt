@@ -20,7 +20,7 @@ pub enum LineForm {
     Answers,
     /// Answers, and the store after each.
     Shown,
-    /// A verdict, and what comes below it: an order or answers, and a store.
+    /// A verdict, and what comes below it, such as an order, answers or a store.
     Verdict,
     /// JSON objects.
     Object,
@@ -101,7 +101,7 @@ fn is_of_store(line: &[u8]) -> bool
     line.starts_with(b"  ")
 }
 
-/// Whether a line of a verdict is an answer, what was seen, or of the store.
+/// Whether a line of a verdict is an answer that could have been, what was seen, or of the store.
 fn is_of_job_itself(line: &[u8]) -> bool
     ensures { result ≡ is_of_job line.now }
 {
@@ -140,7 +140,7 @@ fn past_number(text: &[u8]) -> &[u8]
 fn reply_in(line: &[u8]) -> &[u8]
     ensures { result.now ≡ after_number (after_number line.now) }
 {
-    // Not every answer has a place, and a comment has no session either.
+    // Not every answer has a place. An answer of `coordinate`, and a comment, has no session either.
     past_number(past_number(line))
 }
 
@@ -193,7 +193,7 @@ impl LineForm {
         match self {
             LineForm::Answers | LineForm::Shown => rows_of(reply_in(line)),
             LineForm::Verdict => rows_of_verdict(line),
-            // An object holds its rows itself. In TAP a row is a line behind `# ` that `keeps` leaves as it is.
+            // A row is an object or part of one, or in TAP a line behind `# `, and `keeps` leaves each as it is.
             LineForm::Object | LineForm::Noted => 0,
         }
     }

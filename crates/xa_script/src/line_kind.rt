@@ -27,11 +27,11 @@ pub enum LineKind {
     Raced,
     /// Statements of sessions, comments, and the words that divide a script.
     Explored,
-    /// Calls of a transaction manager.
+    /// Calls of a transaction manager, and comments.
     Call,
-    /// The calls that `stops` takes.
+    /// The calls that `stops` takes, and comments.
     Stopped,
-    /// What clients saw.
+    /// Lines of a record of what clients saw, and comments.
     Record,
 }
 
@@ -139,7 +139,7 @@ pub fn rows_behind(line: &[u8]) -> u64 {
     }
 }
 
-/// Returns why a line that has to be a row of a return isn't one; None if it is one.
+/// Returns why a line in the place of a row of a return isn't one; None if it is one, is blank or is a comment.
 ///
 /// The line is without its line feed. Takes no memory. Doesn't wait.
 pub fn row_fault(line: &[u8]) -> Option<LineFault<'_>>
@@ -203,13 +203,14 @@ impl LineKind {
         }
     }
 
-    /// Returns why a line isn't read, if it isn't.
+    /// Returns why a line isn't one of this kind; None if it is, wherever it stands and however long it is. So a second
+    /// `BESIDE` or `AFTER` has no fault here, though the job refuses it.
     ///
     /// The line is without its line feed. Takes no memory. Doesn't wait.
     pub fn fault_in(self, line: &[u8]) -> Option<LineFault<'_>>
-        // Proved (scripts, unread-lines): `--strict` and `--verbose` look at each line as the job reads it: a line is
-        //   at fault if it is bad, if its text isn't a statement, or if it isn't a call or not one for the job. A blank
-        //   line, a comment where there are comments, and a word that divides a script to explore never is.
+        // Proved (scripts, unread-lines): `--strict` and `--verbose` look at each line by itself. It is at fault if it
+        //   is bad, if its text isn't a statement, or if it isn't a call or not one for the job. A blank line, a
+        //   comment where there are comments, and a word that divides a script to explore never is, wherever it stands.
         ensures { is_some result ≡ is_unread_by self line.now }
     {
         // Where lines are statements alone, a comment is faulty. Of calls `read_call` takes comments as silent itself.

@@ -9,7 +9,7 @@ pub struct Listed {
     pub tap: bool,
     /// How many records were judged.
     pub count: u64,
-    /// The status that counts of those of the records that were judged, as `worse` says.
+    /// Of the statuses of the records that were judged, the one that counts, as `worse` says; 0 before the first.
     pub status: u8,
     /// Whether a line of a record had a syntax fault.
     pub faulty: bool,

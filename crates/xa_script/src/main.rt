@@ -3,10 +3,10 @@
 //! `xa_races` races, `xa_manager` coordinates and shows stops, `xa_orders` explores, `xa_record` judges, and
 //! `xa_audit` audits.
 //!
-//! Functions that use the process or its streams promise nothing, since no contract can name these; tests of
-//! the built program show what they do. Down from `carry_out_to` (`src/from_reader.rt`), which does a job from a reader
-//! to a writer, those that make the job's output or its status have contracts. `src/carrying_out.rt` opens what a job
-//! reads. Read `src/from_reader.rt` next, then `src/jobs.rt`, `src/command.rt`, `src/subcommands.rt` and
+//! Functions that use the process or its streams promise nothing of these, since no contract can name them. Tests
+//! of the built program show what they do. Down from `carry_out_to` (`src/from_reader.rt`), which does a job from a
+//! reader to a writer, those that make the job's output or its status have contracts. `src/carrying_out.rt` opens what
+//! a job reads. Read `src/from_reader.rt` next, then `src/jobs.rt`, `src/command.rt`, `src/subcommands.rt` and
 //! `src/help.rt`.
 #![tactic(auto)]
 
@@ -80,13 +80,13 @@ pub use xa_races::{race_script, race_script_in_rounds};
 /// The status of a job that was done and has no status of its own, and of help and the version.
 const DONE: u8 = 0;
 
-/// The status if the input can't be read or is too long, or the output can't be written.
+/// The status if an input can't be read or is too long, or the output can't be written.
 const STREAM_FAULT: u8 = 1;
 
 /// The status of a command line that isn't understood, or whose file of `--allow` or `--from` has a faulty line.
 const COMMAND_FAULT: u8 = 2;
 
-/// The status if memory ran out, the log is full, a gate stopped a session, or a thread couldn't be started.
+/// The status if memory ran out, the log of a race is full, a gate stopped a session, or a thread couldn't be started.
 const GAVE_OUT: u8 = 3;
 
 /// The status with `--strict` if a line had a syntax fault, in place of 0.
@@ -161,7 +161,7 @@ fn refuse_words<R: Eprint>(rt: &R, error: &io::Error) -> u8 {
     COMMAND_FAULT
 }
 
-/// Writes why a command line isn't carried out, or the help that it asks for, and returns the exit status.
+/// Writes why a command line isn't carried out, or the help or version that it asks for, and returns the exit status.
 fn refuse<R: Print + Eprint>(rt: &R, error: &Error) -> u8 {
     if error.kind() == ErrorKind::OutOfMemory {
         tell(rt, &ScriptFault::NoMemory);

@@ -76,7 +76,7 @@ pub fn shuffle_option<'a>(alloc: Global) -> Arg<'a>
         .value_parser(value_parser!(u64))
 }
 
-/// Returns the option `--renew`: a race goes on over a store without an end.
+/// Returns the option `--renew`: a race takes a store without an end.
 pub fn renew_option<'a>(alloc: Global) -> Arg<'a>
     ensures rule { rule_of result ≡ renew_rule }
     ensures global { result.global ≡ false }

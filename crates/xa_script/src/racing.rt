@@ -1,4 +1,4 @@
-//! Races of the script of the standard input.
+//! Races a script once, and returns the exit status for how that ended.
 ghost use Rattle.std.specs.Prelude.{◌≡◌, Ok, Err, OnOk, IfSome, MatchResult};
 ghost use Rattle.decision_log.specs.Opens.{IsCapacity};
 ghost use Rattle.xa_lines.specs.Writing.{AppendsObjects};

@@ -6,15 +6,15 @@ use xa_judge::{Progress, SoFar};
 use xa_xid::NoMemory;
 
 /// Reports on the standard error how far judging a record is, at most once a second, and not in the first
-/// second.
+/// second after it is first called.
 #[derive(Drop)]
 pub struct Telling<'r, R> {
     /// The runtime whose standard error is written to.
     rt: &'r R,
     /// Whether nothing is reported.
     quiet: bool,
-    /// When the first event was judged, or the last report was made; `None` before that. The record may take long to
-    /// come, which is no judging.
+    /// When it was first called, or the last report was made; `None` before that, or if the clock couldn't be read
+    /// then. It isn't called while the record still comes, which may take long.
     last: Option<Instant>,
 }
 
@@ -34,7 +34,7 @@ fn grouped(alloc: Global, number: u64) -> Result<String, NoMemory> {
 }
 
 impl<'r, R: Clock + Eprint + Alloc<A = Global>> Telling<'r, R> {
-    /// Returns a reporter that begins with the first event that is judged. If `quiet`, it reports nothing.
+    /// Returns a reporter whose first second begins when it is first called. If `quiet`, it reports nothing.
     ///
     /// Takes no memory. Doesn't wait.
     pub fn new(rt: &'r R, quiet: bool) -> Telling<'r, R> {
@@ -46,8 +46,7 @@ impl<'r, R: Clock + Eprint + Alloc<A = Global>> Telling<'r, R> {
     }
 
     /// Returns whether a report is due: whether `last` is at least a second ago. If `last` is None, as at the first
-    /// call, which is at the first event that is judged, sets it to the time now, and returns false. Returns false also
-    /// if the clock can't be read.
+    /// call, sets it to the time now, and returns false. Returns false also if the clock can't be read.
     fn is_due(&mut self) -> bool {
         match self.last {
             None => {

@@ -11,7 +11,7 @@ use std::{io, mem};
 
 /// A writer that writes the literals of printable bytes in its lines as texts in quotes.
 ///
-/// A line is written when it is whole. A line of more than 512 bytes has no literals of the job's own, and
+/// A line is held until it is whole. A line of more than 512 bytes has no literals of the job's own, and
 /// passes unchanged. So does a line that would have more with its texts, and one that a flush cuts off.
 #[derive(Drop)]
 pub struct Texts<W> {

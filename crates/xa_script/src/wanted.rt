@@ -6,7 +6,7 @@ use std::alloc::Global;
 use xa_statement::read_statement;
 use xa_xid::NoMemory;
 
-/// Tokens of the grammar: one of each kind, with its name.
+/// Tokens of the grammar: one of each kind, with its name. Only `;` is left out, which may stand just before the end.
 const TOKENS: [(&[u8], &str); 24] = [
     (b"XA", "XA"),
     (b"GET", "GET"),
@@ -52,8 +52,8 @@ fn takes(alloc: Global, front: &[u8], token: &[u8]) -> Result<bool, NoMemory>
     }
 }
 
-/// Returns the names of the tokens with which some statement goes on after the front. The end of the line is
-/// among them if the front is a statement, or no statement goes on.
+/// Returns the names of those of `TOKENS` with which some statement goes on after the front. The end of the line is
+/// among them if the front is a statement, or none of them goes on.
 fn names_behind(alloc: Global, front: &[u8]) -> Result<Vec<&'static str>, NoMemory>
     ensures { IfOk result (λ names. 0 < vec_len names) }
 {
@@ -87,10 +87,10 @@ fn joined(alloc: Global, names: &[&str]) -> Result<String, NoMemory> {
     Ok(text)
 }
 
-/// Returns what has to come at a byte of a text: the names of the tokens with which some statement goes on
-/// there.
+/// Returns what has to come at a byte of a text: the names that `names_behind` has for the text before it, joined
+/// in one text.
 ///
-/// `at` counts from 0.
+/// `at`, from 0, is the place at which reading the text goes wrong.
 /// Errors: `NoMemory`. Doesn't wait.
 /// Own rule: docs/COMMANDS.md#options-of-every-job.
 pub fn wanted_at(alloc: Global, text: &[u8], at: usize) -> Result<String, NoMemory> {

@@ -22,7 +22,7 @@ pub struct Watch<'r, I: Read + Drop, R> {
     inner: I,
     /// The runtime whose standard error is written to.
     rt: &'r R,
-    /// The file's name, if it is one of a list: it is reported before what is reported of the file.
+    /// The file's name, if it is one of a list. What is reported of the file comes with it.
     name: Option<&'r str>,
     /// The kind of lines that the job reads.
     kind: LineKind,
@@ -30,7 +30,7 @@ pub struct Watch<'r, I: Read + Drop, R> {
     most: usize,
     /// Whether lines are looked at.
     looks: bool,
-    /// Whether it reports what has to come in a line.
+    /// Whether it reports what has to come in a line, and why the input can't be read.
     speaks: bool,
     /// What has been read of the line.
     line: Vec<u8>,
@@ -38,7 +38,7 @@ pub struct Watch<'r, I: Read + Drop, R> {
     number: u64,
     /// How many rows of a return are still missing.
     rows: u64,
-    /// Whether a line had a syntax fault.
+    /// Whether some line was faulty, as `new` says.
     faulty: bool,
     /// Whether memory was refused.
     refused: bool,
@@ -46,8 +46,8 @@ pub struct Watch<'r, I: Read + Drop, R> {
 
 impl<'r, I: Read + Drop, R: Eprint + Alloc<A = Global>> Watch<'r, I, R> {
     /// Returns a reader of the same bytes that looks at their lines, if `speaks` or `counts`: it notes whether some
-    /// line is faulty, and if `speaks`, reports what has to come in each that is. A line of more than `most` bytes is
-    /// faulty.
+    /// line is faulty, and if `speaks`, reports what has to come in each that is. A line is faulty if it isn't one of
+    /// this kind, or has more than `most` bytes.
     ///
     /// Takes no memory. Doesn't wait.
     pub fn new(

@@ -1,7 +1,7 @@
 //! Races that are counted, and races that stop, at gates of these tests' own.
 //!
-//! That a race is counted for what it came to, and no other, leaves no trace where two races come to the same. So a
-//! gate here has the races come to two outcomes in turn.
+//! If all races come to the same outcome, the counts don't show whether each race was counted for its own. So a gate
+//! here has the races come to two outcomes in turn.
 ghost use Rattle.std.specs.Prelude.{◌≡◌, IfSome};
 ghost use Rattle.std.specs.List.{All};
 ghost use Rattle.decision_log.specs.Opens.{IsCapacity};
@@ -50,6 +50,7 @@ impl Gate for TakesTurns {
             }
             return true;
         }
+        // After so many tries the race ends with a fault, so a test of it ends in any case.
         for _ in 0..100_000_000u64 {
             if self.has_answer.load(Ordering::SeqCst) == 1 {
                 return true;
@@ -69,7 +70,8 @@ impl Gate for LetsOne {
     }
 }
 
-/// Races a script so often, and returns the fault and what is written.
+/// Races a script `runs` times, in logs with room for `capacity` entries, or if `renews` over rings of as many rows.
+/// Returns the fault, if there is one, and what is written.
 fn raced<G: Gate + Sync, R: Threads + Wait + Sync + Alloc<A = Global>>(
     rt: &R,
     script: &[u8],
@@ -111,7 +113,7 @@ fn is_refused(rt: &impl Abort, raced: (Option<ScriptFault>, Vec<u8>), wanted: Sc
     assert!(rt; output.is_empty());
 }
 
-/// Two sessions that start one branch.
+/// Two sessions that start the same branch.
 const BOTH_START: &[u8] = b"1 XA START 'a'\n2 XA START 'a'\n1 XA RECOVER\n2 XA RECOVER\n";
 
 /// Session 1 was first three times, and session 2 twice.
@@ -149,7 +151,7 @@ fn shut_gate_is_told_of_counted_races(rt: HostRuntime) {
 /// One row is written before, and two by lines side by side.
 const WRITES: &[u8] = b"1 PUT 'a','1'\nBESIDE\n1 PUT 'b','2'\n2 PUT 'c','3'\n";
 
-/// What its races write.
+/// What two races of it write.
 const WRITTEN: &[u8] = b"OUTCOME 1 CAME 2\n1 OK\n1 OK\n2 OK\nSEEN 1 OF 1 OUTCOMES\n";
 
 #[test]
@@ -179,7 +181,7 @@ fn only_run(alloc: Global, store: &Arc<EndlessStore>) -> Option<Vec<LongRun>>
     vec![in alloc; LongRun { session, lines }].ok()
 }
 
-/// Whether the gate stops that run before its second statement.
+/// Whether a race of that run alone ends in a fault, at the gate that stops it before its second statement.
 fn stops<R: Threads + Wait + Sync>(rt: &R, alloc: Global, store: &Arc<EndlessStore>) -> bool {
     match only_run(alloc, store) {
         Some(runs) => race_on(rt, alloc, store, 0, runs, &LetsOne).is_err(),
@@ -187,7 +189,8 @@ fn stops<R: Threads + Wait + Sync>(rt: &R, alloc: Global, store: &Arc<EndlessSto
     }
 }
 
-/// How many entries there are after a stop, by an answer of session 2.
+/// How many entries there are after that stop, by the place of an answer of session 2. `None` if the race has no fault,
+/// or a call fails.
 fn entries_after_a_stop<R: Threads + Wait + Sync + Alloc<A = Global>>(rt: &R) -> Option<u64> {
     let store = EndlessStore::open(rt.alloc(), 8, 2).ok()?;
     let mut other = EndlessStore::take(&store, 2).ok()?;

@@ -15,7 +15,7 @@ fn text(byte: u8) -> Bytes {
     bytes
 }
 
-/// The session calls for the statement.
+/// The event in which the session calls for the statement.
 fn call(alloc: Global, session: SessionNo, statement: Statement) -> Result<Event, NoMemory> {
     let request = SharedRequest::of(alloc, Request::Statement(statement))?;
     Ok(Event::Call(session, request))
@@ -39,7 +39,7 @@ fn overlapping(alloc: Global) -> Result<Vec<Event>, NoMemory> {
     Ok(events)
 }
 
-/// The statement of the session of this number takes effect.
+/// The move by which the statement of the session of this number takes effect, or `Move::Event` if no session has it.
 fn effect(number: u64) -> Move {
     match SessionNo::of(number) {
         None => Move::Event,
@@ -63,7 +63,7 @@ fn moves_lead_through_what_was_seen_with_their_effects_alone(rt: HostRuntime) ->
     Ok(())
 }
 
-/// Whether what was seen is legal, by these moves.
+/// Whether what was seen is legal, by these moves, with a limit of two configurations.
 fn is_legal_by(alloc: Global, order: &[Move]) -> bool {
     let Ok(events) = overlapping(alloc) else {
         return false;
@@ -92,6 +92,7 @@ fn read_that_overlaps_a_write_may_come_before_it(rt: HostRuntime) {
 struct Counted {
     /// How often progress was reported.
     times: u64,
+    /// How many events there were by the last report.
     all: u64,
 }
 

@@ -1,4 +1,4 @@
-//! Races of lists of statements over stores without an end, whose rings are small.
+//! Races of lists of statements over stores without an end, whose rings have from 1 to 1,024 rows.
 ghost use Rattle.std.specs.Prelude.{◌≤◌, length, IfSome};
 ghost use Rattle.chain_log.specs.RingOpens.{AreRows};
 
@@ -13,14 +13,14 @@ use xa_store::{Gate, OpenGate, RaceFault};
 use xa_words::Entry;
 use xa_xid::{Bytes, Key, SessionNo, Statement};
 
-/// A statement that writes a row.
+/// A statement that writes the row of this letter.
 fn write(letter: u8) -> Option<Statement> {
     let mut key = Bytes::new();
     key.push(letter);
     Some(Statement::Put(Key::of(key)?, Bytes::new()))
 }
 
-/// So many statements that write a row.
+/// So many times that statement.
 fn writes(alloc: Global, letter: u8, count: u64) -> Option<Vec<Statement>> {
     let mut list = Vec::new(alloc);
     for _ in 0..count {
@@ -29,7 +29,7 @@ fn writes(alloc: Global, letter: u8, count: u64) -> Option<Vec<Statement>> {
     Some(list)
 }
 
-/// Such a list for each of three sessions.
+/// Such a list for each of three sessions, of which each has a row of its own.
 fn three_lists(alloc: Global, count: u64) -> Option<Vec<Vec<Statement>>>
     ensures { IfSome result (λ lists. length lists.items ≤ 3) }
 {
@@ -48,7 +48,7 @@ fn is_there(history: &[Entry], session: u64, answer: &Answer) -> bool {
     }
 }
 
-/// Whether each answer of a session stands at a place of its own, behind those before it.
+/// Whether each answer of a session is OK, at an entry of its own, behind those of the answers before it.
 fn are_there(history: &[Entry], session: u64, answers: &[Answer]) -> bool {
     let mut least = 0;
     for answer in answers {
@@ -60,7 +60,7 @@ fn are_there(history: &[Entry], session: u64, answers: &[Answer]) -> bool {
     true
 }
 
-/// Whether each of three sessions has written so many rows, each an entry of one history.
+/// Whether each of three sessions has written so often, each time with an entry in one history that has no others.
 fn is_whole(outcome: &LongOutcome, count: u64) -> bool {
     let [first, second, third] = outcome.answers.as_slice() else {
         return false;
@@ -74,7 +74,7 @@ fn is_whole(outcome: &LongOutcome, count: u64) -> bool {
         && are_there(history, 3, third.as_slice())
 }
 
-/// Whether a race of three sessions gives that.
+/// Whether a race of those three lists over a ring of so many rows gives that.
 fn races<R: Threads + Wait + Sync>(rt: &R, alloc: Global, rows: u64, count: u64) -> bool
     requires { AreRows rows }
 {
@@ -92,6 +92,7 @@ fn history_is_whole_after_many_laps(rt: HostRuntime) {
     assert!(rt; races(&rt, rt.alloc(), 1, 60));
     assert!(rt; races(&rt, rt.alloc(), 3, 200));
     assert!(rt; races(&rt, rt.alloc(), 64, 600));
+    // No lap: 300 entries in 1,024 rows.
     assert!(rt; races(&rt, rt.alloc(), 1_024, 100));
 }
 
@@ -113,7 +114,7 @@ impl Gate for LetsTwo {
     }
 }
 
-/// The fault of a race of three sessions that are stopped.
+/// The fault of a race of three sessions that are stopped so, each with four statements.
 fn stopped<R: Threads + Wait + Sync>(rt: &R, alloc: Global) -> Option<RaceFault> {
     let lists = three_lists(alloc, 4)?;
     hold_long_race(rt, alloc, 2, lists, &LetsTwo).err()

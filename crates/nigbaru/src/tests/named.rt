@@ -70,7 +70,7 @@ fn key_of(byte: u8) -> Option<Key> {
     Key::of(name)
 }
 
-/// Whether the listing of a server with the row `k` is this text.
+/// Whether the listing of a server's branches, and of the row `k`, is this text.
 fn is_listed(alloc: Global, server: &Server, text: &[u8]) -> bool {
     let Some(key) = key_of(b'k') else {
         return false;

@@ -1,4 +1,4 @@
-//! How logs are opened, and the numbers of faults.
+//! How logs are opened, the laws of logs, which do nothing when they are called, and the numbers of faults.
 
 use chain_log::ChainLog;
 use decision_log::{AddFault, OpenFault, TurnLog, laws};

@@ -33,7 +33,8 @@ fn is_entry(entry: Option<&Entry>, session: SessionNo, statement: &Statement) ->
     }
 }
 
-/// Whether an answer was logged, or nothing if the server doesn't reply so, or the next entry isn't the one logged.
+/// Whether an answer's statement was logged. `None` if the server doesn't reply so, or if it was, and the next entry
+/// isn't that statement.
 fn logged(
     server: &Server,
     session: SessionNo,

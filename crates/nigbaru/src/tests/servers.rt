@@ -5,7 +5,7 @@ use xa_server::{BranchState, Reply, Server, XaError};
 use xa_statement::read_statement;
 use xa_xid::{SessionNo, read_xid, with_part};
 
-/// Each refusal's number, SQLSTATE and XA code, as docs/STATEMENTS.md#errors has them, and its text.
+/// Each refusal's number, SQLSTATE and XA code (0 for none), as docs/STATEMENTS.md#errors has them, and its text.
 const REFUSALS: &str = "1397 XAE04 -4 XAER_NOTA unknown xid
 1398 XAE05 -5 XAER_INVAL clause not supported
 1399 XAE07 -7 XAER_RMFAIL state NON-EXISTING
@@ -30,7 +30,7 @@ fn short(alloc: Global, reply: &Reply) -> Option<Vec<u8>> {
     }
 }
 
-/// What a server replies to a line: a session number, a blank and a statement.
+/// What a server replies, in short, to a line: a session number, a blank and a statement, which it carries out.
 fn answered(alloc: Global, server: &mut Server, line: &str) -> Option<Vec<u8>> {
     let (number, text) = line.split_once(' ')?;
     let session = SessionNo::of(number.parse::<u64>().ok()?)?;
@@ -39,7 +39,7 @@ fn answered(alloc: Global, server: &mut Server, line: &str) -> Option<Vec<u8>> {
     short(alloc, &reply)
 }
 
-/// Gives the lines in turn, and asks for these replies.
+/// Gives the lines in turn, and asks for the reply that each has behind ` => `.
 fn replies(rt: &impl Abort, alloc: Global, server: &mut Server, script: &str) {
     for line in script.lines() {
         let (said, wanted) = line.split_once(" => ").unwrap_or((line, ""));

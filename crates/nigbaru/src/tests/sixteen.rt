@@ -20,7 +20,7 @@ use xa_xid::{Bytes, Key, Statement, Xid};
 const BRANCHES: u8 = 50;
 
 /// How many sessions at least are answered that the log is full. A session that isn't adds four entries or
-/// more for each of its branches, so at most five end before there are 1,024.
+/// more for each of its 50 branches, so there are at most five: six would add more than 1,024.
 const AT_LEAST_FULL: usize = 11;
 
 /// The branch of this number of a session.
@@ -48,8 +48,8 @@ fn write(session: u8, number: u8) -> Option<Statement> {
 /// How many statements a branch has.
 const STEPS: u8 = 8;
 
-/// The statement of a branch at this step: it reads a row that all sessions write, writes it, and is
-/// committed. Its list of the prepared branches may be anything.
+/// The statement of a branch at this step, `None` from step 8 on. Before it begins, a row is read that all sessions
+/// write. It writes one of the seven rows and that one, and is prepared, listed and committed.
 fn statement(session: u8, number: u8, step: u8) -> Option<Statement> {
     match step {
         0 => read_statement(b"GET 'k'").ok(),
@@ -67,7 +67,7 @@ fn statement(session: u8, number: u8, step: u8) -> Option<Statement> {
     }
 }
 
-/// What a session has worked.
+/// A session that works, and what came of it so far.
 #[derive(Drop)]
 struct Worked<'a, L: DecisionLog> {
     session: Session<'a, L>,
@@ -79,7 +79,7 @@ struct Worked<'a, L: DecisionLog> {
     is_sound: bool,
 }
 
-/// Has a session execute a statement.
+/// Has a session execute a statement, and notes its answer, or that the log is full.
 fn tells<L: DecisionLog, R: Wait>(rt: &R, worked: &mut Worked<'_, L>, statement: Statement)
     ensures { L.belongs_to worked.new.session.pass ≡ L.belongs_to worked.old.session.pass }
 {
@@ -171,7 +171,7 @@ fn connected<'a>(
     sessions
 }
 
-/// Each session by itself, and what it was answered.
+/// Each session by itself, and what it was answered. Asks for each to be sound.
 fn apart<'a>(
     rt: &impl Abort,
     alloc: Global,

@@ -14,7 +14,7 @@ use xa_session::{Fault, Session};
 use xa_store::{Log, Pass, Store};
 use xa_xid::{Bytes, Key, Statement, Xid};
 
-/// The longest text of a byte.
+/// The longest text: 64 times this byte.
 fn longest(rt: &impl Abort, byte: u8) -> Bytes {
     let Ok(text) = Bytes::try_from([byte; 64].as_slice()) else {
         panic!(rt; "64 bytes")
@@ -22,7 +22,7 @@ fn longest(rt: &impl Abort, byte: u8) -> Bytes {
     text
 }
 
-/// The row of a byte.
+/// The row whose key is that text.
 fn row(rt: &impl Abort, byte: u8) -> Key {
     let Some(key) = Key::of(longest(rt, byte)) else {
         panic!(rt; "a key")
@@ -50,7 +50,7 @@ fn says<R: Abort + Wait>(rt: &R, session: &mut Session<'_, Log>, statement: &Sta
     assert!(rt; is_carried_out, "{statement:?}");
 }
 
-/// Has a session write 1,020 rows.
+/// Has a session write 1,020 times, to 256 rows.
 fn writes<R: Abort + Wait>(rt: &R, session: &mut Session<'_, Log>)
     ensures { log_of session.new.pass ≡ log_of session.old.pass }
 {
@@ -61,7 +61,7 @@ fn writes<R: Abort + Wait>(rt: &R, session: &mut Session<'_, Log>)
     }
 }
 
-/// Has a session fill a history of 1,024 entries.
+/// Has a session fill a history of 1,024 entries, by one branch that it commits.
 fn fills<R: Abort + Wait>(rt: &R, session: &mut Session<'_, Log>)
     ensures { log_of session.new.pass ≡ log_of session.old.pass }
 {
@@ -76,7 +76,7 @@ fn fills<R: Abort + Wait>(rt: &R, session: &mut Session<'_, Log>)
     says(rt, session, &commit);
 }
 
-/// A session of the last pass.
+/// A session of the last of the passes, which is taken from them.
 fn last_session<'a>(rt: &impl Abort, store: &'a Store, passes: &mut Vec<Pass>) -> Session<'a, Log>
     requires { All (λ pass. log_of pass ≡ identity_of store.now.log) passes.old.items }
     ensures { log_of result.pass ≡ identity_of store.now.log }
@@ -90,7 +90,7 @@ fn last_session<'a>(rt: &impl Abort, store: &'a Store, passes: &mut Vec<Pass>) -
     session
 }
 
-/// The pass of a store's last session, which fills the history and leaves.
+/// The pass of a store's last session, in a list, after it has filled the history and left.
 fn filled<R: Abort + Wait>(
     rt: &R,
     alloc: Global,
@@ -120,7 +120,7 @@ fn is_longest(reply: &Reply, byte: u8) -> bool {
     }
 }
 
-/// Whether a session answers by the longest value of this byte.
+/// Whether a session answers `get` by the longest value of this byte.
 fn finds<S: Speak>(session: &mut S, get: &Statement, byte: u8) -> bool {
     match session.attempt(get) {
         Ok(answer) => is_longest(&answer.reply, byte),
@@ -137,7 +137,7 @@ fn is_cut_off<S: Speak>(fused: &mut Fused<S>, get: &Statement) -> bool {
         && fused.attempt(&recover).err() == Some(Fault::NoMemory)
 }
 
-/// The row of the greatest byte is there, and a session leaves that was cut off after one call.
+/// Asks for the row of the greatest byte to be there, and has a session leave that was cut off after one call.
 fn goes_on<R: Abort + Wait>(rt: &R, session: Session<'_, Log>) {
     let get = Statement::Get(row(rt, 255));
     let mut fused = Fused::new(session, 1);
@@ -145,7 +145,7 @@ fn goes_on<R: Abort + Wait>(rt: &R, session: Session<'_, Log>) {
     leaves(rt, fused.into_inner());
 }
 
-/// A session answers, and leaves.
+/// Asks a session to answer, and to leave.
 fn leaves<R: Abort + Wait>(rt: &R, mut session: Session<'_, Log>) {
     let answers = session
         .attempt(&Statement::Recover { convert: false })

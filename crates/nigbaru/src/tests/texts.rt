@@ -1,5 +1,6 @@
-//! The text of every fault, and its number if no other test has it. A refusal's and a state's are in
-//! `servers`, with its codes.
+//! The texts of faults, and the numbers of those of races and scripts. A refusal's and a state's texts are in
+//! `servers`, with their codes, and those of `--allow` and `--from` in cases/judge. Not tested are the texts of stores
+//! without an end and their rings, and of `Decisions::of`.
 use decision_log::{AddFault, OpenFault};
 use std::alloc::Global;
 use std::fmt::Display;
@@ -146,7 +147,7 @@ out of memory
 thread refused
 ";
 
-/// docs/COMMANDS.md#options-of-every-job.
+/// docs/COMMANDS.md#messages.
 const SCRIPTS: &str = "read fault
 script too long
 write fault

@@ -2,7 +2,7 @@ use Rattle.std.proofs.Common.{◌≡◌, Some, subst, sym}
 use Rattle.std.specs.Prelude.{slice_get}
 use Rattle.xa_judge.specs.Found.{Has}
 use Rattle.xa_judge.specs.Foreseen.{hints_of, GoesOn}
-use Rattle.xa_judge.proofs.ForeseenAdvances.{goes_never}
+use Rattle.xa_judge.proofs.ForeseenAdvances.{noted_goes_on}
 use Rattle.xa_judge.proofs.hints.note_unheard.Goals as goal
 
 pub returns-in-Some : goal.returns-in-Some
@@ -11,5 +11,5 @@ returns-in-Some c = λ known more end goes.
     let is = c.in-Some.ensures in
     let there = subst (λ l. slice_get l number ≡ Some is.0) c.as_slice.ensures.value is.1 in
     subst (λ p. GoesOn (hints_of c.args.events.now p) (Has known) more end) (sym c.put_open.ensures)
-    (goes_never c.args.events.now c.args.places.now.items number is.0 c.in-Some.entry there is.2 is.3 known more end
+    (noted_goes_on c.args.events.now c.args.places.now.items number is.0 c.in-Some.entry there is.2 is.3 known more end
     goes)

@@ -2,7 +2,7 @@ use Rattle.std.proofs.Common.{◌+◌, ◌<◌, [], ◌∷◌, ◌++◌, Vec, Gl
 use Rattle.std.proofs.Common.{append-nil}
 use Rattle.xa_judge.specs.declared.event.Event.{Event}
 use Rattle.xa_judge.specs.Keys.{picked}
-use Rattle.xa_judge.proofs.KeyParts.{same_side, other_side, picked_next, picked_past, picked_end, at_least_one}
+use Rattle.xa_judge.proofs.KeyParts.{same_side, other_side, picked_next, picked_past, picked_end, one_at_most}
 use Rattle.xa_judge.proofs.parts.pick.Goals as goal
 use Rattle.xa_judge.proofs.parts.pick.Goals.{then-sides-place+in_ok-copy_of+in_ok-push, else-sides-place}
 
@@ -32,7 +32,7 @@ loop-place-preserved c =
 
 pub returns : goal.returns
 returns c =
-    let over = at_least_one (length c.args.sides.now) (length c.args.events.now) c.loop-place.place
+    let over = one_at_most (length c.args.sides.now) (length c.args.events.now) c.loop-place.place
     (omega (arith, c.loop-place-test.false, c.min-place-end.ensures)) in
     sym (append-nil c.loop-place.part.items)
     ∙ ap (λ l. c.loop-place.part.items ++ l)

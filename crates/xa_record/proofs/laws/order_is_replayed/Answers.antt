@@ -1,6 +1,6 @@
-use Rattle.xa_record.proofs.ReplayedEffects.{order_replayed}
+use Rattle.xa_record.proofs.ReplayedEffects.{order_gives}
 use Rattle.xa_record.proofs.RunAnswers.{line_answered, line_followed, order_joined}
 use Rattle.xa_record.proofs.laws.order_is_replayed.Goals as goal
 
 pub returns : goal.returns
-returns c = record { written = order_joined; effects = order_replayed; answers = line_answered; states = line_followed }
+returns c = record { written = order_joined; effects = order_gives; answers = line_answered; states = line_followed }
