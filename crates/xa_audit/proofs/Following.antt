@@ -60,7 +60,8 @@ deed_more : (deed : Option (Xid × Deed)) (deeds : List (Xid × Deed)) (m n : BT
 deed_more None deeds m n same xid = ap (λ map. lives_after (get xid_cmp map xid) (deeds_about xid deeds)) same
 deed_more (Some told) deeds m n notes xid = told_more told deeds m n notes xid
 
--- noting what a line says, and then the statements behind it, is noting all of them
+-- the lives after the deed of what a line says was noted, and then after the deeds of the statements behind it, are
+-- those after the deeds of all of them
 pub said_more : (said : Said) (state : State) (m n : BTreeMap Xid Lives) (rest : List (ℕ × Statement))
     → Notes (deed_said state said) m n → (xid : Xid)
     → lives_after (get xid_cmp n xid) (deeds_about xid (deeds_from (state_said state said) rest))

@@ -36,7 +36,8 @@ pub exact_globals : CmpEqualImpliesEq global_cmp
 unfolding parts whole
 exact_globals a b h = ap whole (exact_pairs nat_cmp bytes_cmp exact_unsigned exact_bytes (parts a) (parts b) h)
 
--- a list that is kept only if it isn't empty (`if_any`) is kept once it has one element more at its end
+-- `x` put behind the list that `if_any` gives of `xs`, or behind the empty list if it gives None, is what it gives of
+-- `xs` with `x` behind it
 some_more : {A : Type 0} (xs : List A) (x : A) → Some (unwrap_or (if_any xs) [] ++ x ∷ []) ≡ if_any (xs ++ x ∷ [])
 some_more [] x = refl
 some_more (y ∷ ys) x = refl

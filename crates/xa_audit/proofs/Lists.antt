@@ -10,7 +10,7 @@ use Rattle.xa_audit.specs.declared.ends.End.{End}
 use Rattle.xa_audit.specs.declared.verdict.Verdict.{Verdict}
 use Rattle.xa_audit.specs.Globals.{Global, last_end, verdict_of, same_verdict, count_of}
 
--- one place more without a value changes nothing that is read
+-- if `d` is what is read where a list has no place, one place more at its end, with `d`, changes nothing that is read
 pub one_more_place : {A : Type 0} (d : A) (xs : List A) (i : ℕ) → get_or (xs ++ d ∷ []) i d ≡ get_or xs i d
 one_more_place d [] zero = refl
 one_more_place d [] (suc i) = refl

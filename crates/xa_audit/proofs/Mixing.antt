@@ -225,7 +225,8 @@ own_branches histories globals account global among =
     some [] e = absurd (cc)
     some (branch ∷ branches) e = cc
 
--- whether lives are of a branch of this global transaction, and pass a test
+-- whether a branch with these lives is of this global transaction and passes a test; the store's number, here 1,
+-- doesn't count
 own_and : GlobalName → (Branch → Bool) → Xid × Lives → Bool
 own_and name test entry = is_of name (branch_in 1 entry) && test (branch_in 1 entry)
 
@@ -328,7 +329,8 @@ own_any histories globals account global among test =
     ap (list_any test) (own_branches histories globals account global among)
     ∙ filtered (is_of global.0) test account.branches
 
--- MIXED stands if, and only if, one branch was committed and another one's writes were dropped
+-- MIXED stands if, and only if, in the histories one branch was committed (`HasCommitted`), and another, which wasn't,
+-- failed by dropped writes (`HasDropped`)
 pub mixed_over : (histories : List (List ℕ)) (globals : List Global) → IsAccount histories globals → (global : Global)
     → Contains globals global
     → (verdict_of global.1 ≡ Mixed) ↔ (HasCommitted histories global.0 × HasDropped histories global.0)

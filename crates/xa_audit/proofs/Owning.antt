@@ -202,7 +202,8 @@ gone_owned : (session : ℕ) → is_owned session None ≡ false
 unfolding is_owned
 gone_owned session = refl
 
--- a branch that a statement takes from its session isn't owned by it afterwards
+-- if a statement makes `new` of the branch `xid`, and `new` isn't the session's, the branch `at` isn't afterwards if it
+-- is `xid`
 at_itself : (session : ℕ) (new found : Option Branch) (at xid : Xid) → xid ≡ at → is_owned session new ≡ false
     → is_owned session (cond (same_xid at xid) new found) ≡ false
 at_itself session new found at xid is e =

@@ -25,7 +25,8 @@ use Rattle.xa_audit.specs.Written.{text_in}
 abbrev pub history_bytes : ℕ
 history_bytes = 16777216
 
--- how many histories there are, their lines that aren't read, and, if each is read, their branches
+-- the audit has the number of these histories, what is written for their lines that aren't read, and, if each line is
+-- read, their branches
 pub record IsAuditOf (histories : List (List ℕ)) (audit : Audit) : Type 0 where
   pub stores : audit.stores ≡ length histories
   pub faults : audit.faults.items ≡ faults_of histories
@@ -40,17 +41,18 @@ ended_by false = SomeNotAtomic
 unfoldable pub ended_of : List Global → Ended
 ended_of globals = ended_by (count_of Atomic globals == length globals)
 
--- if some line isn't read, only the faults of lines are written; else the global transactions are
+-- an audit ends so, and this is written, by what is written for lines that aren't read: if there is such a line, just
+-- that, and the audit ends in `Unread`; else the text of the global transactions, and it ends as `ended_of` says
 abbrev pub IsAuditedWith : List ℕ → List (List ℕ) → Form → Ended → List ℕ → Type 0
 IsAuditedWith [] histories form ended text =
     (globals : List Global) × IsAccount histories globals × (ended ≡ ended_of globals) × (text ≡ text_in form globals)
 IsAuditedWith (byte ∷ faults) histories form ended text = (ended ≡ Unread) × (text ≡ byte ∷ faults)
 
--- how an audit of these histories ends, and what is written
+-- an audit of these histories ends so, and this is written in the form
 abbrev pub IsAudited : List (List ℕ) → Form → Ended → List ℕ → Type 0
 IsAudited histories form ended text = IsAuditedWith (faults_of histories) histories form ended text
 
--- the writer got what is written for these histories
+-- an audit of these histories ends so, and the writer got what is written for it
 abbrev pub AppendsAudit : List (List ℕ) → Form → Ended → Option (List ℕ) → Option (List ℕ) → Type 0
 AppendsAudit histories form ended old new = (text : List ℕ) × IsAudited histories form ended text × Appends old new text
 

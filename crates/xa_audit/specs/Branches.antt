@@ -24,7 +24,7 @@ pub record IsIndex {K V : Type 0} (cmp : K → K → Ordering) (told : K → Opt
 abbrev pub lives_in : List ℕ → Xid → Option Lives
 lives_in history xid = lives_after None (deeds_about xid (deeds_in history))
 
--- a branch of the store of this number
+-- the branch of the store of this number that has this identifier, with the ends of these lives
 abbrev pub branch_in : ℕ → Xid × Lives → Branch
 branch_in store named = record { store = store; xid = named.0; ends = ends_in named.1 }
 

@@ -1,7 +1,7 @@
 -- What the accepted statements of a history do to branches: their deeds.
 --     deed_of         what a statement does, in a state: the branch and the deed
---     deeds_from      the deeds of a history, beginning in a state
---     deeds_in        the deeds of a history whose lines these are, by a server that holds nothing at first
+--     deeds_from      the deeds of statements, beginning in a state
+--     deeds_in        the deeds of a history, by a server that holds nothing at first
 --     deeds_about     the deeds that are about one branch
 use Rattle.std.specs.Prelude.{ℕ, cond, Option, Some, None, option_to_list, List, [], ◌∷◌, ◌++◌}
 use Rattle.std.specs.Option.{option_map}
@@ -38,7 +38,7 @@ unfoldable pub deed_of : State → ℕ → Statement → Option (Xid × Deed)
 deed_of state session statement =
     cond (is_refused (reply_to state session statement)) None (deed_by (own_xid state session) statement)
 
--- the deeds of a history that begins in this state, in order
+-- the deeds of these statements, each of its session, from this state on, in order
 unfoldable pub deeds_from : State → List (ℕ × Statement) → List (Xid × Deed)
 deeds_from state [] = []
 deeds_from state (entry ∷ entries) =

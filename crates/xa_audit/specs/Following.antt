@@ -23,7 +23,7 @@ use Rattle.xa_audit.specs.declared.deed.Deed.{Deed}
 use Rattle.xa_audit.specs.declared.lives.Lives.{Lives}
 use Rattle.xa_audit.specs.declared.owned.Owned.{Owned}
 
--- what a session owns after its statement was accepted
+-- what a session owns after its statement was accepted, by what it owned before
 abbrev pub own_after : Option Xid → Statement → Option Xid
 own_after own (Start xid) = Some xid
 own_after own (End xid) = own

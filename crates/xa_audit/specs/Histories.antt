@@ -17,7 +17,7 @@ abbrev pub said_by : ℕ → Result Statement ℕ → Said
 said_by session (Ok statement) = Gives session statement
 said_by session (Err place) = Unread place
 
--- a line that isn't a comment says what it says in a script
+-- what a line says that isn't a comment; one that isn't written as a line is goes wrong at byte 0
 abbrev pub said_in : Line → Said
 said_in Blank = Nothing
 said_in Bad = Unread 0
@@ -33,12 +33,12 @@ statement_said Nothing = []
 statement_said (Gives session statement) = (session, statement) ∷ []
 statement_said (Unread place) = []
 
--- the statements of a history, in order
+-- the statements of a history that has these lines, each with its session, in order
 unfoldable pub statements_in : List (List ℕ) → List (ℕ × Statement)
 statements_in [] = []
 statements_in (line ∷ lines) = statement_said (said_on line) ++ statements_in lines
 
--- what is written for the line of this number, if it isn't read
+-- what is written for the line of this number of a store's history, by what it says: nothing, unless it isn't read
 abbrev pub fault_said : ℕ → ℕ → Said → List ℕ
 fault_said store number Nothing = []
 fault_said store number (Gives session statement) = []

@@ -115,7 +115,7 @@ counts_json globals =
     ++ codes ",\"in_doubt\":" ++ decimal (count_of LeftInDoubt globals) ++ codes ",\"open\":"
     ++ decimal (count_of LeftOpen globals)
 
--- all of it as one object of JSON
+-- all global transactions, and how many have each verdict, as one object of JSON on one line
 abbrev pub json_text : List Global → List ℕ
 json_text globals =
     codes "{\"globals\":[" ++ each_json global_json globals ++ codes "]," ++ counts_json globals ++ codes "}\n"

@@ -43,8 +43,9 @@ pub fn mixed_is_one_that_took_and_one_that_failed()
         → (verdict_of branches ≡ Mixed) ↔ ((list_any took branches ≡ true) × (list_any failed branches ≡ true)) }
 {}
 
-/// States that the verdict on a global transaction is MIXED if, and only if, one branch of it was committed and another
-/// one's writes were dropped, in the histories that are audited.
+/// States that the verdict on a global transaction is MIXED if, and only if, in the histories that are audited an
+/// `XA COMMIT` of one branch of it was accepted, and another one failed: no `XA COMMIT` of that one was accepted, and
+/// its last life wrote and was rolled back.
 ///
 /// Takes no memory. Doesn't wait.
 /// Own rule: docs/HISTORIES.md#audits.

@@ -46,6 +46,7 @@ pub record AddsOnly (kind : Statement → Type 0) (old new : SessionView) : Type
   pub mine : new.known.mine ≡ old.known.mine ++ map (entry_of old.known.number) statements
   pub each : All kind statements
 
+-- in these lemmas each statement that may have been added is of the kind; so the session added only such (`AddsOnly`)
 module _ (kind : Statement → Type 0) where
   -- a session, compared with itself, has added nothing
   pub adds_none : (session : SessionView) → AddsOnly kind session session
@@ -323,8 +324,8 @@ module _ {S : Type 0} (view : S → SessionView) (kind : ℕ → Statement → T
       at_same view store (AddsOnly (kind store)) (λ a. adds_none (kind store) a) old new
       (ap (λ list. slice_get list store) is.1)
 
-  -- work adds in its store only statements of its kind, if that has the row statement and, where the store takes part
-  -- then, the branch's XA START; in the others it adds nothing
+  -- work adds in each store only statements of its kind, if that of the store that works has the row statement and,
+  -- where that store takes part then, the branch's XA START
   pub work_adds : (marks marks' : List (Option OpenBranch)) (before after : Transaction) (store : ℕ) (row : Statement)
       (answer : Result Reply WorkFault)
       (old new : List S) → (takes_part after.participants store ≡ true → kind store (Start (branch_of before store)))

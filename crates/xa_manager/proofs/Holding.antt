@@ -31,7 +31,7 @@ Session = Fused CountedStore
 
 -- ---- how far a transaction has come
 
--- the stage of a transaction that can be decided already: it was voted Ready, or is over
+-- the stage that a decided transaction may have: its vote was Ready, or it is over
 abbrev pub MayStandDecided : Option Stage → Type 0
 MayStandDecided None = ⊥
 MayStandDecided (Some (Working transaction)) = ⊥
@@ -52,9 +52,9 @@ pub record IsUndecidedOver (manager : Managing) (number : ℕ) : Type 0 where
   pub undecided : is_decided manager.decisions number ≡ false
   pub over : stage_of manager.stages number ≡ Some Over
 
--- what holds of a manager if a store was given this statement: XA COMMIT is of a decided transaction's branch; with
--- ONE PHASE it is of one that is over and undecided, with no branch in another store; XA ROLLBACK is of one that is
--- over and undecided
+-- what holds of a manager if the coordinator added this statement in a store: XA COMMIT is of a decided transaction's
+-- branch; with ONE PHASE it is of one that is over and undecided, of which it began no branch in another store; XA
+-- ROLLBACK is of one that is over and undecided; any other statement may be added
 abbrev pub Goes : Managing → ℕ → Statement → Type 0
 Goes manager store (Commit xid false) =
     (number : ℕ) × IsBranchOf (codes "c") number store xid × (is_decided manager.decisions number ≡ true)
@@ -95,7 +95,7 @@ pub record Holds (manager : Managing) : Type 0 where
 
 -- ---- what sessions add
 
--- the session of each store that there is now was there, and added statements of this kind
+-- the store had a session before, which is this one now, and added only statements of the store's kind since
 pub record Grew (kind : ℕ → Statement → Type 0) (store : ℕ) (old : List Session) (after : Session) : Type 0 where
   pub before : Session
   pub there : slice_get old store ≡ Some before
@@ -156,7 +156,7 @@ still_alone kind old new number store fits on over alone other after is added =
       | inr now ↦ absurd (on.begins number other fits over.over now)
     ]
 
--- a statement that was allowed where the manager stood still is: decisions and endings stay
+-- if `Goes` held of a statement before, it still does: decisions and endings stay
 pub goes_still : (kind : ℕ → Statement → Type 0) (old new : Managing) (store : ℕ) (statement : Statement)
     → GoesOn kind old new → Goes old store statement
     → Goes new store statement
@@ -188,7 +188,7 @@ all_go kind old new holds on fresh store session statement is added =
       | inr now ↦ fresh store statement now
     ]
 
--- if no branch of a transaction begins anew, each that was prepared still is
+-- if no branch of a transaction begins anew, and each that it began was prepared, that is still so
 pub still_prepared : (kind : ℕ → Statement → Type 0) (old new : Managing) (number : ℕ)
     → Grows kind old.sessions new.sessions
     → ((store : ℕ) → kind store (Start (branch_in number store)) → ⊥) → PreparesAll old number → PreparesAll new number

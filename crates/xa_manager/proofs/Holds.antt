@@ -114,16 +114,16 @@ fits_number : (stores number : ℕ) (transaction : Transaction) → IsTransactio
     → number < 2 ^ 64
 fits_number stores number transaction is = subst (λ n. n < 2 ^ 64) is.number transaction.eight_bytes
 
--- ---- statements that begin and finish no branch
+-- ---- statements other than XA START, XA COMMIT and XA ROLLBACK
 
--- a statement that neither begins a branch nor finishes one
+-- any statement but XA START, XA COMMIT and XA ROLLBACK; DISCONNECT, too, though it may end a branch
 abbrev Harmless : Statement → Type 0
 Harmless (Start xid) = ⊥
 Harmless (Commit xid one_phase) = ⊥
 Harmless (Rollback xid) = ⊥
 Harmless statement = Unit {0}
 
--- a statement that neither begins nor finishes a branch is allowed wherever the manager stands
+-- `Goes` holds of any harmless statement, whatever holds of the manager
 harmless_goes : (manager : Managing) (store : ℕ) (statement : Statement) → Harmless statement
     → Goes manager store statement
 harmless_goes manager store (Start xid) is = tt
@@ -139,7 +139,7 @@ harmless_goes manager store (Put key value) is = tt
 harmless_goes manager store (Del key) is = tt
 harmless_goes manager store Disconnect is = tt
 
--- GET, PUT and DEL neither begin nor finish a branch
+-- GET, PUT and DEL are harmless
 row_harmless : (row : Statement) → takes_rows row ≡ true → Harmless row
 row_harmless (Start xid) is = absurd (cc)
 row_harmless (End xid) is = tt
@@ -164,7 +164,7 @@ abbrev Begins : Transaction → Transaction → ℕ → Statement → Type 0
 Begins before after store statement =
     Harmless statement ⊎ ((statement ≡ Start (branch_of before store)) × (takes_part after.participants store ≡ true))
 
--- the XA START and harmless statements of work are allowed where the manager stands
+-- `Goes` holds of the XA START and the harmless statements of work
 begins_goes : (manager : Managing) (before after : Transaction) (store : ℕ) (statement : Statement)
     → Begins before after store statement
     → Goes manager store statement

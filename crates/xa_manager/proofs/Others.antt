@@ -37,14 +37,15 @@ use Rattle.xa_manager.proofs.Recovering.{one_of, nothing_in, front_all, last_all
 abbrev pub OtherAdded : Session → Statement → Type 0
 OtherAdded session statement = Contains (other_of session.inner).known.mine (entry_of 2 statement)
 
--- what other clients added ends no branch of the coordinator's
+-- no statement that other clients added is an XA COMMIT or XA ROLLBACK of a branch of the coordinator's naming
 abbrev pub OthersLeave : Managing → Type 0
 OthersLeave manager =
     (store : ℕ) (session : Session) (statement : Statement) → slice_get manager.sessions store ≡ Some session
     → OtherAdded session statement
     → EndsNone store statement
 
--- the other client's session of each store added statements of this kind
+-- the store had a session before, which is this one now, and its other client's session added only statements of the
+-- store's kind since
 pub record OtherGrew (kind : ℕ → Statement → Type 0) (store : ℕ) (old : List Session) (after : Session) : Type 0 where
   pub before : Session
   pub there : slice_get old store ≡ Some before

@@ -1,5 +1,5 @@
 -- No call of a script is RECOVER, and none that is carried out for a stop of it but the last. So each stop leaves
--- every transaction whole.
+-- every transaction whole, if no line has another client end a branch of the coordinator's.
 use Rattle.std.proofs.Common.{◌≡◌, ◌+◌, ℕ, zero, suc, Bool, true, false, List, [], ◌∷◌, ◌++◌, take, drop, map, refl}
 use Rattle.std.proofs.Common.{sym, subst, Some, None, Result, Ok, Err, append_assoc}
 use Rattle.std.specs.Prelude.{Option, All, if◌then◌else◌, bytes_eq, codes}
@@ -165,7 +165,7 @@ module _ (word text : List ℕ) where
       (either (bytes_eq word (codes "ABANDON")) (numbered (λ n. Abandon n) number) (plain_call word text)
       (fine_numbered (λ n. Abandon n) number (λ n. record { is = tt })) fine_plain))))
 
--- a line that isn't empty isn't taken as RECOVER
+-- a line without its first blanks isn't taken as RECOVER
 fine_filled : (line : List ℕ) → Fine (filled_call line)
 fine_filled [] = record { is = tt }
 fine_filled (first ∷ rest) = fine_named (first_word (first ∷ rest)) (behind_word (first ∷ rest))
@@ -218,11 +218,12 @@ module _ (P : Call → Type 0) (of_fail : (store calls : ℕ) → P (Fail store 
 
 -- ---- what they leave
 
--- what holds of some calls and of the stop holds of the calls with a stop behind them
+-- what holds of some calls and of STOP holds of the calls with STOP behind them
 with_stop_call : (P : Call → Type 0) (calls : List Call) → P StopCall → All P calls → All P (calls ++ StopCall ∷ [])
 with_stop_call P calls is each = All-append P calls (StopCall ∷ []) each (All-cons P StopCall [] is (All-nil P))
 
--- what is left after a stop, of calls that leave the coordinator's branches to it: each transaction is whole
+-- after calls of which none is RECOVER, and which leave the coordinator's branches to it, then STOP and RECOVER, each
+-- transaction is left whole
 pub left_whole : (stores : ℕ) (script calls : List Call) (text : List ℕ)
     (left : IsLeft stores script (ended_calls calls) text) → All IsPlain calls
     → All LeavesBranches calls → LeavesWhole left

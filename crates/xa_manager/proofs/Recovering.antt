@@ -153,7 +153,7 @@ last_call old new all answers (one_more cs rs mid so_far c r n answered) told ca
 -- ---- a recovery that came to its end
 
 -- what a recovery may add: XA COMMIT of a decided number's branch, not with ONE PHASE, XA ROLLBACK of an undecided
--- one's, and no XA START
+-- one's, and any other statement but XA START
 abbrev pub Recovering : List Decision → ℕ → Statement → Type 0
 Recovering decisions store (Start xid) = ⊥
 Recovering decisions store (Commit xid false) =

@@ -97,8 +97,8 @@ pub map_twice : {X Y Z : Type 0} (f : X → Y) (g : Y → Z) (xs : List X) → m
 map_twice f g [] = refl
 map_twice f g (x ∷ xs) = ap (λ rest. g (f x) ∷ rest) (map_twice f g xs)
 
--- after calls, STOP, and RECOVER, in which each statement was answered, the answer to RECOVER and the rows are what
--- is left; the responses before it are those to the calls and to STOP
+-- after calls, STOP, and RECOVER, in which each statement was answered, if memory was refused for no statement in all,
+-- the answer to RECOVER and the rows are what is left; the responses before it are those to the calls and to STOP
 pub recovered : (stores : ℕ) (script told : List Call) (mid stopped last : Managing) (first second : Response)
     (kept : List CountedStore) (text : List ℕ)
     → (before : HasCarried stores told mid) → IsAnswered mid Stop first stopped → IsAnswered stopped Recover second last
@@ -199,8 +199,8 @@ unfolding fails_from
 fails_length from [] = refl
 fails_length from (limit ∷ limits) = ap suc (fails_length (from + 1) limits)
 
--- calls, a call FAIL for each store, and the call of one line, carried out one after another, are one run from the
--- beginning
+-- calls, more calls (`fails`), and the call of one line, answered one after another, are one run from the beginning,
+-- with their responses one after another
 pub cut_run : (stores : ℕ) (calls fails line same : List Call) (first one two three : Managing)
     (responses more : List Response) (call : Call) (response : Response)
     → IsFresh stores first → CarriesOut first calls responses one → CarriesOut one fails more two

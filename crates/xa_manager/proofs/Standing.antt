@@ -1,4 +1,5 @@
--- After a recovery that came to its end each transaction is in all of its stores, or in none.
+-- After a recovery that came to its end each transaction is in all of its stores, or in none, if no other client ended
+-- a branch of the coordinator's.
 use Rattle.std.proofs.Common.{◌≡◌, ◌⊎◌, ◌<◌, ◌≤◌, ◌+◌, ◌^◌, ℕ, zero, suc, Bool, true, false, cond, List, [], ◌∷◌, ◌++◌}
 use Rattle.std.proofs.Common.{length, take, refl, ap, sym, ◌∙◌, subst, inl, inr, Some, Ok, arith}
 use Rattle.std.specs.Prelude.{slice_get, slice_index_or, Contains, All, codes, nat_eq}

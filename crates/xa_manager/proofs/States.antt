@@ -34,7 +34,7 @@ whole stores decisions stages branches sessions other_clients = record {
   other_clients = other_clients;
 }
 
--- managers are equal if their stores, decisions and stages are, over the same sessions
+-- managers are equal if their stores, decisions and stages are, and all else is the same
 pub same_whole : {C T : Type 0} (n m : ℕ) (d e : List Decision) (s t : List Stage) (b : List (Option OpenBranch))
     (xs : List C) (os : List T)
     → n ≡ m → d ≡ e → s ≡ t → whole n d s b xs os ≡ whole m e t b xs os
@@ -42,7 +42,7 @@ same_whole n m d e s t b xs os stores decisions stages =
     ap (λ k. whole k d s b xs os) stores ∙ ap (λ list. whole m list s b xs os) decisions
     ∙ ap (λ list. whole m e list b xs os) stages
 
--- managers over as many stores, in which the same is open, are equal
+-- managers over as many stores, in which the same is open, are equal if all else is the same
 pub same_open : {C T : Type 0} (n m : ℕ) (d : List Decision) (s : List Stage) (b c : List (Option OpenBranch))
     (xs : List C) (os : List T)
     → n ≡ m → b ≡ c → whole n d s b xs os ≡ whole m d s c xs os
@@ -72,7 +72,7 @@ pub after_decision : {A B : Type 0} (result : Result A B) (old new : List Decisi
 after_decision (Ok a) old new number decided kept = ap length decided ∙ decided-length old number
 after_decision (Err b) old new number decided kept = ap length kept
 
--- a vote is kept with the transaction that was voted on
+-- the transaction that is kept after a vote is the one of its number, if the one that was voted on is
 pub voted_kept : {S : Type 0} (view : S → SessionView) (transaction : Transaction) (vote : Vote) (old new : List S)
     (count number : ℕ)
     → VotesAs view transaction vote old new → IsTransactionOf count number transaction

@@ -57,7 +57,7 @@ pub faults_none : faults_from 1 [] ≡ []
 unfolding faults_from
 faults_none = refl
 
--- the loop over calls: the row that one more names is put among the keys
+-- the loop over calls: the key that one more names, if it names one, is put among the keys
 pub keys_step : (keys : List (List ℕ)) (store place : ℕ) (calls : List Call) (call : Call) → place < length calls
     → call ≡ get_or calls place call
     → keys_with keys store (drop place calls) ≡ keys_with (with_key keys (key_named call store)) store
@@ -112,7 +112,7 @@ read_whole P None rest given read end p = tt
 read_whole P (Some x) None given read end p = absurd read
 read_whole P (Some x) (Some y) given read end p = subst P (sym (read ∙ ap (λ l. given ++ l) end ∙ append-nil given)) p
 
--- if the input was read and the whole text was written, what `stops` promises after Ok holds
+-- if the input was read and the whole text was written, what `stops_script` promises after Ok holds (`written`)
 pub stops_written : (stores : ℕ) (result : Result Ended ScriptFault) (ended : Ended) (text given : List ℕ)
     (input rest old new : Option (List ℕ))
     → Consumes input rest given → IsAtEnd rest → IsStopsText stores given ended text
@@ -123,7 +123,7 @@ stops_written stores (Ok e) ended text given input rest old new read end is same
     (text, subst (λ x. IsStopsText stores given x text) (sym same) is, written)
 stops_written stores (Err fault) ended text given input rest old new read end is same written = tt
 
--- if writing failed and a prefix of the text was written, what `stops` promises after that fault holds
+-- if writing failed and a prefix of the text was written, what `stops_script` promises after that fault holds (`fault`)
 pub stops_faulted : (stores : ℕ) (result : Result Ended ScriptFault) (ended : Ended) (text given : List ℕ)
     (input rest old new : Option (List ℕ))
     → Consumes input rest given → IsAtEnd rest → IsStopsText stores given ended text

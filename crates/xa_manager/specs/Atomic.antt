@@ -93,7 +93,7 @@ EndsNone store (Commit xid one_phase) = IsNamed (codes "c") store xid → ⊥
 EndsNone store (Rollback xid) = IsNamed (codes "c") store xid → ⊥
 EndsNone store statement = Unit {0}
 
--- a call that has no other client finish a branch of the coordinator's naming
+-- a call that gives another client no XA COMMIT and no XA ROLLBACK of a branch of the coordinator's naming
 abbrev pub LeavesBranches : Call → Type 0
 LeavesBranches (At store statement) = EndsNone store statement
 LeavesBranches call = Unit {0}
@@ -117,7 +117,7 @@ KeepsRowsOr counted place entry =
     ⊎ ChangesRows (association_of (state_before counted place) entry.session) entry.statement
 
 -- the coordinator's XA PREPARE of the branch is in the store's history; from there the branch was PREPARED up
--- to a later place, at which the coordinator's XA COMMIT made all its writes the committed values
+-- to a later place, at which the coordinator's XA COMMIT made all writes of the branch the committed values
 pub record WasCommitted (counted : CountedStore) (xid : Xid) : Type 0 where
   pub prepare : ℕ
   pub prepares : slice_get (history_of counted.store) prepare ≡ Some (entry_of 1 (Prepare xid))

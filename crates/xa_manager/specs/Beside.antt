@@ -6,7 +6,7 @@
 --     IsShownBeside            SHOW
 --     CarriesBeside    a call was carried out, by the call
 --     PerformsBeside   a call was refused or carried out
---     BeginsBeside     nothing has begun, and no session fails
+--     BeginsBeside     nothing has begun, and each session passes on 2^64 - 1 calls
 --     IsRefusedBeside  memory was refused for a call, or for its answer
 --     IsBesideAnswer   how a line may be answered
 use Rattle.std.specs.Prelude.{◌≡◌, ◌⊎◌, ◌<◌, ℕ, false, List, [], All, length, map, Result}
@@ -88,7 +88,8 @@ abbrev pub PerformsBeside : {S T : Type 0} → (S → SessionView) → (S → Se
 PerformsBeside view other nobody old call response new =
     IsRefused old call response new ⊎ CarriesBeside view other nobody old call response new
 
--- no transaction was begun, nothing is open, no session fails, and the two sessions of a store are a pair
+-- no transaction was begun, nothing is open, each of the coordinator's sessions passes on 2^64 - 1 calls, and the two
+-- sessions of a store are a pair
 pub record BeginsBeside {S T : Type 0} (view other : S → SessionView)
     (manager : WholeManager (Fused S) T) : Type 0 where
   pub decisions : manager.decisions ≡ []

@@ -62,7 +62,7 @@ work_of text =
 unfoldable pub at_of : List ℕ → Call
 at_of text = with_number (number_of_word (first_word text)) (λ store. at_call store (read_of (behind_word text)))
 
--- the call of the text behind FAIL: a store's number, the word AFTER, and after how many statements its session fails
+-- the call of the text behind FAIL: a store's number, the word AFTER, and after how many more calls its session fails
 unfoldable pub fail_of : List ℕ → Call
 fail_of text =
     with_number (number_of_word (first_word text)) (λ store.
@@ -70,7 +70,7 @@ fail_of text =
     (lone_number (behind_word (behind_word text)))
     else Unread 0)
 
--- the calls that name no transaction, by their first word and the text after it
+-- the calls that name no transaction, by their first word and the text after it; any other word is unread
 unfoldable pub plain_call : List ℕ → List ℕ → Call
 plain_call word text =
     if bytes_eq word (codes "BEGIN") then alone Begin text else

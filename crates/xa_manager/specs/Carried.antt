@@ -131,7 +131,8 @@ pub record HasWorked {C T : Type 0} (view : C → SessionView) (number store : �
   pub alone : SpeaksAlone view old.decisions (with_stage old.stages number (Working after)) old new
 
 -- the stores of a transaction that takes work voted, this is the vote, and the transaction's stage is that after it
--- (`stage_after`); what is open stays so in the stores that take no part or weren't asked
+-- (`stage_after`); what is open stays so in the stores that take no part or weren't asked, and after One Phase and No
+-- it is as `KeepsMark` says in the store that was asked last
 pub record HasVoted {C T : Type 0} (view : C → SessionView) (number : ℕ) (old : WholeManager C T) (response : Response)
     (new : WholeManager C T) : Type 0 where
   pub before : Transaction
@@ -143,7 +144,7 @@ pub record HasVoted {C T : Type 0} (view : C → SessionView) (number : ℕ) (ol
   pub marked_there : KeepsMark before vote old.branches new.branches
   pub alone : SpeaksAlone view old.decisions (with_stage old.stages number (stage_after vote)) old new
 
--- a transaction with a vote of Ready is decided, or its number is closed and nothing changes
+-- a transaction with a vote of Ready is decided; or its number is closed or wasn't given, and nothing changes
 pub record IsDecided {C T : Type 0} (number : ℕ) (old : WholeManager C T) (response : Response)
     (new : WholeManager C T) : Type 0 where
   pub prepared : Prepared

@@ -18,7 +18,7 @@ pub record LimitsAlone {S : Type 0} (store calls : ℕ) (old new : List (Fused S
   pub others : ChangesAt store old new
   pub within : map (λ (s : Fused S). s.inner) new ≡ map (λ (s : Fused S). s.inner) old
 
--- nothing is open in any store, and no session fails before its 2 ^ 64 th call
+-- nothing is open in any store, and each session passes on 2 ^ 64 - 1 calls
 pub record StartsAnew {S : Type 0} (branches : List (Option OpenBranch)) (sessions : List (Fused S)) : Type 0 where
   pub free : (store : ℕ) → store < length sessions → slice_get branches store ≡ Some None
   pub passes : (store : ℕ) → store < length sessions → Passes store (2 ^ 64 - 1) sessions

@@ -9,7 +9,7 @@
 --     is_unanswered    whether a response tells that a session didn't answer a statement
 --     AreAnswered      that was so in no call
 --     passed           how many calls of a session were passed on
---     IsGiven          how many statements the coordinator's session of each store was given in a run
+--     IsGiven          how many calls the coordinator's session of each store passed on in a run (`passed`)
 use Rattle.std.specs.Prelude.{◌≡◌, ◌-◌, ◌^◌, ℕ, Bool, true, false, Err, List, [], ◌∷◌, ◌++◌, All, map}
 use Rattle.xa_coordinator.specs.declared.ending.Ending.TheVariants.{Unfinished}
 use Rattle.xa_coordinator.specs.declared.fault.Cause.{Cause}
@@ -28,7 +28,8 @@ use Rattle.xa_manager.specs.Carried.{WholeManager}
 use Rattle.xa_manager.specs.declared.counted_store.CountedStore.{CountedStore}
 use Rattle.xa_manager.specs.Counted.{own_of, other_of}
 
--- a manager whose sessions are stores that note when memory was refused; the other stores that it has get no statement
+-- a manager whose sessions are stores that note when memory was refused, and hold the other clients' sessions; no call
+-- gives a statement to the manager's own list of other clients (`CarriesBeside`)
 abbrev pub Managing : Type 0
 Managing = WholeManager (Fused CountedStore) LastingStore
 
@@ -64,7 +65,7 @@ pub record IsRun (stores : ℕ) (calls : List Call) (responses : List Response) 
   pub carried : CarriesOut first calls responses last
   pub fed : All (λ session. session.inner.starved ≡ false) last.sessions
 
--- a session's fault is the cause: its limit was spent, or memory was refused
+-- whether the cause is a session's fault, and not a refusal
 abbrev pub is_of_session : Cause → Bool
 is_of_session (BySession fault) = true
 is_of_session (ByRefusal error) = false
@@ -84,12 +85,12 @@ is_unanswered response = false
 abbrev pub AreAnswered : List Response → Type 0
 AreAnswered responses = All (λ response. is_unanswered response ≡ false) responses
 
--- how many calls were passed on since the limit was 2 ^ 64 - 1
+-- how many calls were passed on since the limit was set, if it was 2 ^ 64 - 1, as at first and after STOP
 abbrev pub passed : Fused CountedStore → ℕ
 passed session = 2 ^ 64 - 1 - session.left
 
--- after the calls were carried out, the coordinator's session of each store had been given so many statements, and
--- each was answered
+-- after the calls were answered, the coordinator's session of each store had passed on so many (`passed`), and no
+-- response tells that a session didn't answer a statement
 pub record IsGiven (stores : ℕ) (calls : List Call) (given : List ℕ) : Type 0 where
   pub responses : List Response
   pub last : Managing

@@ -31,7 +31,7 @@ taken Recover = UnreadCall 0
 taken Show = UnreadCall 0
 taken call = call
 
--- the call of a line; one that is too long isn't read
+-- the call of a line of a script whose stops are shown (`taken`); a line that is too long isn't read
 abbrev pub call_in : List ℕ → Call
 call_in line = taken (call_said (received_line line))
 
@@ -91,7 +91,7 @@ AppendsStopsPrefix stores script old new =
 abbrev pub IsFaultOfStops : List ℕ → ScriptFault → Type 0
 IsFaultOfStops script fault = fault ≡ NoMemory
 
--- what a fault leaves in the writer: a prefix of the text if a write failed, else nothing. No fault of a race comes:
+-- what the writer got before a fault: a prefix of the text if a write failed, else nothing. No fault of a race comes:
 -- `Full`, `GateShut` or `ThreadRefused`
 abbrev pub AfterStopsFault : ℕ → ScriptFault → Option (List ℕ) → Option (List ℕ) → Option (List ℕ) → Type 0
 AfterStopsFault stores Write input old new = IfSome input (λ script. AppendsStopsPrefix stores script old new)

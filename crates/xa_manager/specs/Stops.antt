@@ -7,8 +7,8 @@
 --     ended_calls      calls, and then STOP and RECOVER
 --     stopped_calls    the calls that are carried out for a stop
 --     IsLeft           what a recovery leaves after calls
---     IsWhole, IsCutAt         sessions answered all statements of the lines;  of those before a stop, and of the first
---                              calls of its own line alone
+--     IsWhole, IsCutAt         sessions answered all statements of the lines;  of those before a stop, and if it is
+--                              after some calls of its own line, not all of that line
 --     IsShown          the text of calls of which none is faulty
 use Rattle.std.specs.Prelude.{◌≡◌, ℕ, zero, suc, ◌+◌, ◌-◌, min, Bool, true, false, if◌then◌else◌, Some, Err, List, []}
 use Rattle.std.specs.Prelude.{◌∷◌, ◌++◌, length, take, drop, map}
@@ -40,8 +40,8 @@ differences [] before = []
 differences (one ∷ after) [] = one ∷ differences after []
 differences (one ∷ after) (other ∷ before) = (one - other) ∷ differences after before
 
--- the line at a place makes so many calls in each store: after it the sessions have been given so many more
--- statements
+-- the line at a place makes so many calls in each store: after it the coordinator's sessions have passed on so many
+-- more
 pub record MakesCalls (stores : ℕ) (calls : List Call) (place : ℕ) (made : List ℕ) : Type 0 where
   pub before : List ℕ
   pub after : List ℕ
@@ -107,8 +107,9 @@ cut_line calls place (suc count) limits = fails_from 0 limits ++ take 1 (drop pl
 abbrev pub stopped_calls : List Call → Stop → List ℕ → List Call
 stopped_calls calls stop limits = ended_calls (take stop.place calls ++ cut_line calls stop.place stop.calls limits)
 
--- a manager that began fresh carried out these calls (`told`), and sessions answered each statement of the last. The
--- text is the answer to the last one, and the committed values then of the rows that the script's calls name
+-- a manager that began fresh answered these calls (`told`), memory was refused for no statement, and sessions answered
+-- each statement of the last. The text is the answer to the last one, and the committed values then of the rows that
+-- the script's calls name
 pub record IsLeft (stores : ℕ) (script told : List Call) (text : List ℕ) : Type 0 where
   pub responses : List Response
   pub response : Response

@@ -1,6 +1,6 @@
 -- A transaction manager: how it begins, and what a call does to it.
 --     IsPair           the two sessions of a store that holds nothing
---     ManagerBegins    nothing has begun, and no session fails
+--     ManagerBegins    nothing has begun, and each session passes on 2^64 - 1 calls
 --     IsRefused        a call was refused, and nothing changed
 --     Performs         a call was refused or carried out
 use Rattle.std.specs.Prelude.{◌≡◌, ◌⊎◌, Some, []}
@@ -24,8 +24,8 @@ pub record IsPair (first second : SessionView) : Type 0 where
   pub first_known : first.known ≡ newcomer 1
   pub second_known : second.known ≡ newcomer 2
 
--- no transaction was begun, nothing is open, no session fails, and the coordinator's session in each store and the
--- other client's are a pair
+-- no transaction was begun, nothing is open, each of the coordinator's sessions passes on 2^64 - 1 calls, and its
+-- session in each store and the other client's are a pair
 pub record ManagerBegins {S T : Type 0} (view : S → SessionView) (view' : T → SessionView)
     (manager : WholeManager (Fused S) T) : Type 0 where
   pub decisions : manager.decisions ≡ []

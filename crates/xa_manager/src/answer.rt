@@ -287,10 +287,10 @@ impl<S: Speak, T: Speak> Manager<Fused<S>, T> {
 
     /// Carries a call out, and returns its response.
     ///
-    /// `call`: as `read_call` returns it. A call that the table of refusals refuses changes nothing. After
-    /// `FAIL` the coordinator's session in its store passes on as many calls as it says; after `STOP` each of the
-    /// coordinator's sessions passes on 2^64 - 1, and the coordinator has nothing open in any store.
-    /// Errors: `NoMemory` if a transaction can't be kept or a list of answers has no room.
+    /// `call`: as `read_call` returns it. A call that the table of refusals (`refusal_of`) refuses changes nothing.
+    /// After `FAIL` the coordinator's session in that store passes on as many calls as the call says; after `STOP` each
+    /// of the coordinator's sessions passes on 2^64 - 1, and the coordinator has nothing open in any store.
+    /// Errors: `NoMemory` if there is no room for a transaction that begins, or for the list of answers of `SHOW`.
     /// After an error no session got a statement, and nothing changed.
     /// May return `NoMemory`. May wait: no number of tries is promised.
     /// Own rule: docs/COORDINATOR.md#calls.

@@ -75,7 +75,7 @@ impl<S: Beside, T: Speak> Manager<Fused<S>, T> {
     ///
     /// The sessions that are held answer `AT` and `SHOW`; the manager's own list of other clients gets no
     /// statement.
-    /// Errors: `NoMemory` if a transaction can't be kept or a list of answers has no room.
+    /// Errors: `NoMemory` if there is no room for a transaction that begins, or for the list of answers of `SHOW`.
     /// After an error no session got a statement, and nothing changed.
     /// May return `NoMemory`. May wait: no number of tries is promised.
     /// Own rule: docs/COORDINATOR.md#calls.

@@ -1,4 +1,4 @@
-//! A transaction manager that answers lines, whose sessions hold the other clients'.
+//! A transaction manager that answers lines, and whose coordinator's sessions hold the other clients'.
 
 ghost use Rattle.std.specs.Prelude.{◌≡◌};
 

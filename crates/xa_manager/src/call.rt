@@ -30,12 +30,12 @@ pub enum Call {
     Finish(u64),
     /// Roll back a transaction that wasn't voted on.
     Abandon(u64),
-    /// Let the coordinator's session in a store answer so many more calls, and then return out of memory for
+    /// Let the coordinator's session in a store pass on so many more calls, and then return out of memory for
     /// each.
     Fail {
         /// The store.
         store: u64,
-        /// How many more calls it answers.
+        /// How many more calls it passes on.
         calls: u64,
     },
     /// Replace the coordinator by a new one.

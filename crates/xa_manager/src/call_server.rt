@@ -12,8 +12,8 @@ use std::sync::Wait;
 use xa_coordinator::{Fused, Speak};
 use xa_lines::{Answer, LineServer};
 
-/// Room for each answer but the lists of `AT` and `SHOW`, in bytes. It is taken before a call is carried out: if it
-/// can't be had, the call isn't carried out.
+/// Room for each answer but the lists of `AT` and `SHOW`, in bytes. None has more than 160: that is a recovery's report
+/// with three counts of 39 digits. The room is taken before a call is carried out: if it can't be had, the call isn't.
 pub(crate) const ANSWER_ROOM: usize = 256;
 
 /// The answer if memory is refused.

@@ -65,7 +65,7 @@ pub fn carry_out<R: Wait>(
     Ok(())
 }
 
-/// Lets the coordinator's session in store k answer `limits[k]` more calls and then fail, for each of the limits.
+/// Lets the coordinator's session in store k pass on `limits[k]` more calls and then fail, for each of the limits.
 pub fn limit_each<R: Wait>(
     rt: &R,
     alloc: Global,

@@ -20,7 +20,7 @@ pub struct CountedStore {
 }
 
 impl CountedStore {
-    /// The store, before any call of its sessions.
+    /// The store, with no refused memory noted yet.
     pub(crate) fn new(store: LastingStore) -> CountedStore
         ensures store { result.store ≡ store }
         ensures starved { result.starved ≡ false }

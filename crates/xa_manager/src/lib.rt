@@ -6,11 +6,11 @@
 //! `src/call_server.rt` (the manager as a server of lines) and `src/run.rt` (opened stores, and a
 //! conversation over them).
 //!
-//! `stops_script` shows every stop of the manager's coordinator: for each call of a session that it could have stopped
-//! before, what a recovery leaves. The calls of a script are carried out on new stores, once for each stop, up to that
-//! stop. Then a coordinator of the same name and decisions recovers, and the rows that the calls name are shown. Read
-//! docs/COORDINATOR.md#stops first, then `specs/Stops.antt`, `src/stop_run.rt` and `src/stopping.rt`; for what is left
-//! of each transaction, `specs/Atomic.antt` and `proofs/Holding.antt`.
+//! `stops_script` shows every stop of the manager's coordinator: for each call of a session, what a recovery leaves if
+//! the coordinator stopped before that call. The calls of a script are carried out on new stores, once for each stop,
+//! up to that stop. Then a coordinator of the same name and decisions recovers, and the rows that the calls name are
+//! shown. Read docs/COORDINATOR.md#stops first, then `specs/Stops.antt`, `src/stop_run.rt` and `src/stopping.rt`; for
+//! what is left of each transaction, `specs/Atomic.antt` and `proofs/Holding.antt`.
 #![tactic(auto)]
 
 mod answer;

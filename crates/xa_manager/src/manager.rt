@@ -24,8 +24,8 @@ fn name() -> Bytes
 /// A transaction manager: a coordinator with a session in each store, another client's session of each store,
 /// the decisions, and the stage of each transaction.
 ///
-/// If the coordinator's sessions hold the other clients' (`Beside`), calls are answered by `answer_beside`. The
-/// second list then has as many stores of its own, which get no statement.
+/// If the coordinator's sessions hold the other clients' (`Beside`), calls are answered by `answer_beside`. Then
+/// `other_clients` has as many stores of its own, which get no statement.
 #[derive(Drop)]
 pub struct Manager<C: Speak, T: Speak> {
     /// The coordinator, with its session in each store.
@@ -39,11 +39,11 @@ pub struct Manager<C: Speak, T: Speak> {
     pub(crate) ledger: Ledger,
     // Branches are named by this name: docs/COORDINATOR.md#calls.
     ghost named: { coordinator.name.items ≡ codes "c" },
-    // The second list has one for each store, also where it only fills a place.
+    // `other_clients` has one for each store, also where it only fills a place.
     ghost pairs: { vec_len other_clients ≡ vec_len coordinator.stores },
     // Each number that was given has a transaction, at whatever stage.
     ghost counted: { length ledger ≡ length decisions },
-    // Each transaction that is kept stands under its own number, and is over these stores.
+    // Each transaction that is kept stands under its own number, is of the coordinator `c`, and is over as many stores.
     ghost kept: { (number : ℕ) (stage : Stage) (transaction : Transaction)
         → stage_of ledger number ≡ Some stage
         → transaction_in stage ≡ Some transaction
@@ -57,7 +57,7 @@ impl<C: Speak, T: Speak> Manager<C, T> {
     /// Makes a manager over these sessions: the coordinator's and another client's of each store.
     ///
     /// Nothing has begun. There are 1 to 16 stores, and both lists are in their order. Over unbounded stores, which
-    /// hold the other client's session too, the second list has as many other stores.
+    /// hold the other client's session too, `other_clients` has as many other stores.
     /// Takes no memory. Doesn't wait.
     #[tactic(auto, using(crate::proofs::Nothing::none_begun))]
     pub fn new(alloc: Global, sessions: Vec<C>, other_clients: Vec<T>) -> Manager<C, T>

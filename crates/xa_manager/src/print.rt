@@ -18,7 +18,7 @@ use xa_server::{Reply, XaError};
 use xa_session::Fault;
 use xa_xid::NoMemory;
 
-/// Appends a word as it is, its space included, and a number in digits.
+/// Appends a word as it is, its space included, and a number in decimal digits.
 fn push_numbered(text: &mut Vec<u8>, word: &[u8], number: u64) -> Result<(), NoMemory>
     ensures { OnOk result (text.new.items ≡ text.old.items ++ (word.now ++ decimal number)) }
 {
@@ -26,7 +26,7 @@ fn push_numbered(text: &mut Vec<u8>, word: &[u8], number: u64) -> Result<(), NoM
     push_number(text, number)
 }
 
-/// Appends a word as it is, its spaces included, and a count of a recovery's report in digits.
+/// Appends a word as it is, its spaces included, and a count of a recovery's report in decimal digits.
 fn push_count(text: &mut Vec<u8>, word: &[u8], count: u128) -> Result<(), NoMemory>
     ensures { OnOk result (text.new.items ≡ text.old.items ++ (word.now ++ decimal count)) }
 {
@@ -52,7 +52,7 @@ fn push_fault(text: &mut Vec<u8>, fault: &Fault) -> Result<(), NoMemory>
 fn push_refusal(alloc: Global, text: &mut Vec<u8>, error: XaError) -> Result<(), NoMemory>
     ensures { OnOk result (text.new.items ≡ text.old.items ++ error_text error) }
 {
-    // A refusal has no identifiers that could be written in digits.
+    // A refusal has no identifiers that could be written in hexadecimal digits.
     push_reply(alloc, text, false, &Reply::Refused(error))
 }
 
@@ -92,7 +92,7 @@ fn push_worked(
     ensures { OnOk result (text.new.items ≡ text.old.items ++ worked_text worked.now) }
 {
     match worked {
-        // The reply to a row statement has no identifiers that could be written in digits.
+        // The reply to a row statement has no identifiers that could be written in hexadecimal digits.
         Ok(reply) => push_reply(alloc, text, false, reply),
         Err(WorkFault::Session(fault)) => {
             text.extend_from_slice(b"FAULT: ")?;
@@ -178,7 +178,7 @@ fn push_recover_fault(
     }
 }
 
-/// Appends another client's answer, with recovered identifiers in digits if `convert`.
+/// Appends another client's answer, with recovered identifiers in hexadecimal digits if `convert`.
 fn push_replied(
     alloc: Global,
     text: &mut Vec<u8>,
@@ -207,7 +207,7 @@ fn push_store(
 {
     push_numbered(text, b"STORE ", store)?;
     text.extend_from_slice(b"\n")?;
-    // It is the answer to `XA RECOVER CONVERT XID`, so identifiers are written in digits.
+    // It is the answer to `XA RECOVER CONVERT XID`, so identifiers are written in hexadecimal digits.
     push_replied(alloc, text, true, answer)?;
     text.extend_from_slice(b"\n")
 }

@@ -38,9 +38,9 @@ pub enum Response {
     Stopped,
     /// What a recovery did, or why it failed.
     Recovered(Result<Report, RecoverFault>),
-    /// The answer of another client's session, with identifiers in digits if `convert`.
+    /// The answer of another client's session, with identifiers in hexadecimal digits if `convert`.
     Replied {
-        /// Whether recovered identifiers are printed in digits.
+        /// Whether recovered identifiers are printed in hexadecimal digits.
         convert: bool,
         /// The answer.
         answer: Result<Reply, Fault>,

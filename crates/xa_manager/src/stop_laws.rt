@@ -35,12 +35,12 @@ pub fn recovery_keeps_to_decisions()
         → KeepsToDecisions last }
 {}
 
-/// States that each transaction is in all stores in which it has a branch, or in none, after calls, none of them
-/// `RECOVER`, and a completed recovery, if memory was refused for no statement.
+/// States that each transaction is in all stores in which the coordinator began a branch of it, or in none, after
+/// calls, none of them `RECOVER`, and a completed recovery, if memory was refused for no statement.
 ///
-/// A decided one was committed in each; one that isn't decided in none, or by ONE PHASE in the only store in
-/// which it has a branch. Another condition is that no call has another client end a branch of the coordinator's
-/// naming.
+/// A decided one was committed in each. One that isn't decided was committed in none, or only with ONE PHASE, and then
+/// the coordinator began a branch of it in no other store. Another condition is that no call has another client commit
+/// or roll back a branch of the coordinator's naming.
 /// Own rule: docs/COORDINATOR.md#stops.
 pub fn transactions_stand_whole_or_not_at_all()
     // Proved (coordinator, whole-or-not-at-all): After a run of a manager's calls that begins with nothing, in which
@@ -56,10 +56,11 @@ pub fn transactions_stand_whole_or_not_at_all()
         → AllOrNone last }
 {}
 
-/// States that all that was added goes with the decisions, and each transaction is in all of its stores or in none,
-/// after each stop that is shown of a script, and after all its lines, if `RECOVERED` is written there.
+/// States that all that the coordinator added goes with the decisions, that none of its branches is prepared, and that
+/// each transaction is in all stores in which the coordinator began a branch of it, or in none: after each stop that is
+/// shown of a script, and after all its lines, if `RECOVERED` is written there.
 ///
-/// The condition is that no line has another client end a branch of the coordinator's naming.
+/// The condition is that no line has another client commit or roll back a branch of the coordinator's naming.
 /// Own rule: docs/COORDINATOR.md#stops.
 pub fn each_stop_leaves_all_or_none()
     // Proved (scripts, stops-whole): After each stop of a coordinator's script whose recovery was answered

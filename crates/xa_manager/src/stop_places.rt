@@ -20,8 +20,8 @@ fn is_own(call: &Call) -> bool
     }
 }
 
-/// How many calls of sessions a line makes in all stores. `NoMemory` if they are 2^64 or more: as many stops couldn't
-/// be kept.
+/// How many calls of sessions a line makes in all stores: the sum of `made`, which has those in each. `NoMemory` if
+/// they are 2^64 or more: as many stops couldn't be kept.
 fn total(made: &[u64]) -> Result<u64, NoMemory>
     ensures { IfOk result (λ calls. calls ≡ sum made.now) }
 {

@@ -57,7 +57,7 @@ fn with_count(alloc: Global, count: usize) -> Result<Vec<u8>, NoMemory>
     Ok(text)
 }
 
-/// The stop at a place.
+/// The stop at a place of the list, so `get_or` has the same there, whatever its default (`other`).
 #[tactic(auto, using(crate::proofs::Counts::same_read))]
 fn stop_at(stops: &[Stop], place: usize) -> Stop
     requires { place < length stops.now }

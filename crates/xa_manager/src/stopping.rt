@@ -35,7 +35,7 @@ fn stop<R: Wait>(
     manager.answer_beside(rt, alloc, &Call::Stop)
 }
 
-/// Has a new coordinator recover.
+/// Has the manager's coordinator recover, and returns the response.
 fn recover<R: Wait>(
     rt: &R,
     alloc: Global,

@@ -26,7 +26,7 @@ pub record Chosen (known : List Way) (keys : List (List ℕ)) (marks : BTreeSet 
   pub marked : All (λ one. contains nat_cmp marks (mark keys (config_of one)) ≡ true) chosen
   pub differ : AreDifferent chosen
 
--- before the first way none was chosen
+-- no ways are a choice of which 0 were counted, whatever numbers the set has
 pub chosen_none : (known : List Way) (keys : List (List ℕ)) (marks : BTreeSet ℕ) → Chosen known keys marks 0
 chosen_none known keys marks = record {
   chosen = [];
@@ -106,7 +106,7 @@ chosen_new known keys old new count place number one added within at is was new_
     (subst (λ n. Updates nat_cmp old new n true) is updates)
     (subst (λ n. contains nat_cmp old n ≡ false) is (not_there (contains nat_cmp old number) (sym was ∙ new_one))) c
 
--- the chosen ways are different, since their numbers are
+-- the list has as many ways as were counted, no two of which have come to the same (`HasDifferent`)
 pub chosen_differ : (known : List Way) (keys : List (List ℕ)) (marks : BTreeSet ℕ) (count : ℕ)
     → Chosen known keys marks count → HasDifferent count known
 chosen_differ known keys marks count c =

@@ -41,21 +41,21 @@ has_kept old new one config order (inr is) has =
     subst (λ l. HasBy l config order) (sym is) (any_left (λ way. (config_of way ≡ config)
     × AtMost way.order.items order) old (one ∷ []) has)
 
--- the way was found by a turn of one of the front, or of this way by a session below a number
+-- `new` was found by a turn of one of the front, or by the turn of `way` of a session below the number
 abbrev pub IsFrom : List Told → List Way → Way → ℕ → Way → Type 0
 IsFrom lines front way number new =
     Any (λ one. (session : ℕ) × IsTurn lines session one new) front
     ⊎ ((session : ℕ) × (session < number) × IsTurn lines session way new)
 
--- the loop over ways and sessions: ways before this one have had all turns, and this one those of sessions below a
--- number
+-- the loop over ways and sessions: `list` is what these turns lead to: all of the ways of `front`, and those of `way`
+-- of sessions below the number
 pub record IsHalfway (lines : List Told) (front : List Way) (way : Way) (number : ℕ) (list : List Way) : Type 0 where
   pub each : All (IsFrom lines front way number) list
   pub fronts : All (λ one. Covers lines 17 one list) front
   pub own : Covers lines number way list
   pub ascending : IsAscending order_of list
 
--- if the list is what one more turn of the ways before this one leads to, `IsHalfway` holds of it up to session 1
+-- if the list is what one more turn of the ways before this one leads to, `IsHalfway` holds of it with number 1
 pub halfway_first : (lines : List Told) (front : List Way) (way : Way) (list : List Way) → IsNextOf lines front list
     → IsHalfway lines front way 1 list
 halfway_first lines front way list next = record {
@@ -100,7 +100,7 @@ module _ (lines : List Told) (front : List Way) (way : Way) (number : ℕ) (old 
   more_each = All-weaker (IsFrom lines front way number) (IsFrom lines front way (number + 1))
       (from_more lines front way number) old half.each
 
-  -- if the session of this number has no turn, `IsHalfway` holds of the list up to the next number
+  -- if the session of this number has no turn, `IsHalfway` holds of the list with the next number
   halfway_none : (IsSession number → turn lines (config_of way) number ≡ None)
       → IsHalfway lines front way (number + 1) old
   halfway_none none = record {
@@ -118,8 +118,8 @@ module _ (lines : List Told) (front : List Way) (way : Way) (number : ℕ) (old 
           absurd (none-some config (sym (none (subst IsSession same is)) ∙ ap (turn lines (config_of way)) (sym same)
           ∙ at))
 
-  -- if the turn of this number's session leads to a configuration that the list has, `IsHalfway` holds of the list up
-  -- to the next number
+  -- if the turn of this number's session leads to a configuration that the list has, `IsHalfway` holds of the list with
+  -- the next number
   halfway_there : (next : Way) → AllPrecede front way → IsTurn lines number way next
       → Any (λ one. config_of one ≡ config_of next) old
       → IsHalfway lines front way (number + 1) old
@@ -146,7 +146,7 @@ module _ (lines : List Told) (front : List Way) (way : Way) (number : ℕ) (old 
           ))
           old half.each there
 
-  -- if the way to which the turn of this number's session leads is added, `IsHalfway` holds of the new list up to the
+  -- if the way to which the turn of this number's session leads is added, `IsHalfway` holds of the new list with the
   -- next number
   halfway_added : (next : Way) → AllPrecede front way → IsTurn lines number way next
       → IsHalfway lines front way (number + 1) (old ++ next ∷ [])
@@ -180,7 +180,7 @@ module _ (lines : List Told) (front : List Way) (way : Way) (number : ℕ) (old 
             inl (is_turn.order_is ∙ ap (λ n. way.order.items ++ n ∷ []) (sym same)),
           )
 
-  -- the loop over sessions: after the turn of this number's session, `IsHalfway` holds of the list up to the next
+  -- the loop over sessions: after the turn of this number's session, `IsHalfway` holds of the new list with the next
   -- number
   pub halfway_more : (new : List Way) → AllPrecede front way → IsTurnAdded lines way number old new
       → IsHalfway lines front way (number + 1) new

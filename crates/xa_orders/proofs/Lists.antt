@@ -97,7 +97,7 @@ precedes_append (x ∷ a) [] c d p = absurd p
 precedes_append (x ∷ a) (y ∷ b) c d (inl p) = inl p
 precedes_append (x ∷ a) (y ∷ b) c d (inr p) = inr (p.0, precedes_append a b c d p.1)
 
--- a smaller last number precedes a greater one
+-- of two orders that differ only in the last session, the one with the smaller precedes the other
 pub precedes_last : (a : List ℕ) (s t : ℕ) → s < t → Precedes (a ++ s ∷ []) (a ++ t ∷ [])
 precedes_last [] s t below = inl below
 precedes_last (x ∷ a) s t below = inr (refl, precedes_last a s t below)

@@ -23,7 +23,7 @@ prefix_same p q (x ∷ xs) same =
 position_same : {A : Type 0} (p q : A → Bool) (xs : List A) → ((x : A) → p x ≡ q x) → position p xs ≡ position q xs
 position_same p q xs same = rw (prefix_same p q xs same)
 
--- next_place is the first place of a line of the session that has no text yet
+-- next_place is the first place of a line of the session whose answer has length 0
 pub next_is : (session : ℕ) (lines : List Told) (texts : List (List ℕ))
     → position (λ pair. (pair.0.session == session) && (length pair.1 == 0)) (zip lines texts)
     ≡ next_place session lines texts

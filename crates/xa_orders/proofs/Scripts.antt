@@ -77,7 +77,7 @@ read_whole P None rest given read end p = tt
 read_whole P (Some x) None given read end p = absurd read
 read_whole P (Some x) (Some y) given read end p = subst P (sym (read ∙ ap (λ l. given ++ l) end ∙ append-nil given)) p
 
--- if the input was read and the whole text was written, what `explore` promises after Ok holds
+-- if the input was read and the whole text was written, what `explore_script` promises after Ok holds (`written`)
 pub explored_written : (limit : ℕ) (result : Result Ended ScriptFault) (ended : Ended) (text given : List ℕ)
     (input rest old new : Option (List ℕ))
     → Consumes input rest given → IsAtEnd rest → IsExploredText given limit ended text
@@ -88,7 +88,8 @@ explored_written limit (Ok e) ended text given input rest old new read end is sa
     (text, subst (λ x. IsExploredText given limit x text) (sym same) is, written)
 explored_written limit (Err fault) ended text given input rest old new read end is same written = tt
 
--- if the input was read, and writing failed after a prefix of the text, what `explore` promises after that fault holds
+-- if the input was read, and writing failed after a prefix of the text, what `explore_script` promises after that fault
+-- holds (`fault`)
 pub explored_faulted : (limit : ℕ) (result : Result Ended ScriptFault) (ended : Ended) (text given : List ℕ)
     (input rest old new : Option (List ℕ))
     → Consumes input rest given → IsAtEnd rest → IsExploredText given limit ended text

@@ -6,7 +6,7 @@
 --                          turns lead, with its least order
 --     IsTurn, IsNextOf     a way is another one with one more turn;  ways are what one more turn leads to, each
 --                          configuration with its least order
---     IsTurnAdded          the way to which a session's turn leads is added, unless one with its configuration is there
+--     IsTurnAdded          the way to which a session's turn leads is added, or one with its configuration is there
 --     AreDifferent         no two ways of a list have come to the same
 --     HasDifferent         a list has so many ways of which no two have come to the same
 --     IsSpread             it has more than allowed of which no two have come to the same
@@ -35,8 +35,8 @@ pub record IsReached (lines : List Told) (base : Config) (count : ℕ) (way : Wa
 abbrev pub HasBy : List Way → Config → List ℕ → Type 0
 HasBy ways config order = Any (λ way. (config_of way ≡ config) × AtMost way.order.items order) ways
 
--- each way has this many turns; wherever so many turns lead, one of the ways has come there by an order that is at
--- most theirs; and the orders of the ways ascend
+-- each way is reached by this many turns; wherever so many turns lead, one of the ways has come there by an order that
+-- is at most theirs; and the orders of the ways ascend
 pub record IsLevel (lines : List Told) (base : Config) (count : ℕ) (ways : List Way) : Type 0 where
   pub each : All (IsReached lines base count) ways
   pub all : (order : List ℕ) (config : Config) → length order ≡ count → LeadsTo lines base order config
@@ -49,8 +49,8 @@ pub record IsTurn (lines : List Told) (session : ℕ) (way new : Way) : Type 0 w
   pub leads : turn lines (config_of way) session ≡ Some (config_of new)
   pub order_is : new.order.items ≡ way.order.items ++ session ∷ []
 
--- the list has each configuration to which the way's turn of a session below the number leads, with an order that is
--- at most the way's and that turn
+-- the list has each configuration to which the way's turn of a session below the number leads (17: of any session),
+-- with an order that is at most the way's and that turn
 abbrev pub Covers : List Told → ℕ → Way → List Way → Type 0
 Covers lines number way list =
     (session : ℕ) (config : Config) → session < number → IsSession session
@@ -73,7 +73,7 @@ abbrev pub AddsUnlessThere : List Way → Way → List Way → Type 0
 AddsUnlessThere old one new = (Any (λ way. config_of way ≡ config_of one) old × (new ≡ old)) ⊎ (new ≡ old ++ one ∷ [])
 
 -- there is no such session, or it has no line left, and the list is as it was; or the way to which its turn leads is
--- added, unless the list has a way with its configuration
+-- added, or the list has a way with its configuration, and is as it was
 abbrev pub IsTurnAdded : List Told → Way → ℕ → List Way → List Way → Type 0
 IsTurnAdded lines way session old new =
     ((IsSession session → turn lines (config_of way) session ≡ None) × (new ≡ old))

@@ -3,7 +3,7 @@
 use Rattle.xa_orders.specs.declared.script.Script.{Script}
 use Rattle.xa_orders.specs.Scripts.{Reading}
 
--- what was read of a script, as definitions see it
+-- what was read of a script, as definitions see it: without the rows that its lines write
 abbrev pub read_kept : Script → Reading
 read_kept script =
     record {

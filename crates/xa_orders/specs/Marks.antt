@@ -9,7 +9,7 @@ use Rattle.xa_server.specs.State.{State, committed_value}
 use Rattle.xa_orders.specs.Orders.{Config}
 
 -- the number with one more word mixed in; 11400714819323198485 is 2^64 divided by the golden ratio, rounded down, and
--- odd
+-- odd; `with` in src/marks.rt says why the 1 and the 29
 unfoldable pub with_word : ℕ → ℕ → ℕ
 with_word number word =
     let product = ((bit_xor number word + 1) % 2 ^ 64 * 11400714819323198485) % 2 ^ 64 in

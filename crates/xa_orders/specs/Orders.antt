@@ -32,7 +32,7 @@ pub record Parts : Type 0 where
   pub beside : List Told
   pub later : List Told
 
--- what is written for lines that are carried out one after another; it is what a script's run writes
+-- what is written for lines that are carried out one after another; a script's run writes the same for such lines
 unfoldable pub told_text : State → List Told → List ℕ
 told_text state [] = []
 told_text state (told ∷ lines) = answer_to state told.session (read_of told.text)
@@ -56,7 +56,7 @@ opening lines state = record { state = state; answers = replicate (length lines)
 abbrev pub is_left : ℕ → Told × List ℕ → Bool
 is_left session pair = (pair.0.session == session) && is_empty_line pair.1
 
--- the place of the session's first line that wasn't carried out; None if all were
+-- the place of the session's first line that wasn't carried out; None if there is none
 abbrev pub next_place : ℕ → List Told → List (List ℕ) → Option ℕ
 next_place session lines answers = position (is_left session) (zip lines answers)
 
@@ -72,7 +72,7 @@ carried_out session text config place =
       answers = slice_set config.answers place (answer_to config.state session (read_of text));
     }
 
--- the session's next line is carried out, if it has one left
+-- the configuration after the session's next line is carried out; None if it has none left
 unfoldable pub turn : List Told → Config → ℕ → Option Config
 turn lines config session = option_map (λ place. carried_out session (text_at lines place) config place)
     (next_place session lines config.answers)

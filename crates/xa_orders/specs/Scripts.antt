@@ -27,7 +27,7 @@ use Rattle.xa_orders.specs.declared.outcome.Outcome.{Outcome}
 use Rattle.xa_orders.specs.Orders.{Told, Parts, base_of, IsExplored}
 use Rattle.xa_orders.specs.Found.{IsWide}
 
--- what was read so far: the lines of each part, and what is written for the faulty ones
+-- what was read so far: the part that is being read, the lines of each, and what is written for the faulty ones
 pub record Reading : Type 0 where
   pub stage : Stage
   pub before : List Told
@@ -35,15 +35,16 @@ pub record Reading : Type 0 where
   pub later : List Told
   pub faults : List ℕ
 
--- what is read before the first line: nothing. Until a line BESIDE comes, lines are taken as side by side
+-- what is read before the first line: nothing. Until a line BESIDE or AFTER comes, lines are taken as side by side
 abbrev pub nothing_read : Reading
 nothing_read = record { stage = First; before = []; beside = []; later = []; faults = [] }
 
--- what is written for a line that can't be read, with the place of the fault in it
+-- what is written for the faulty line of this number; the place is the byte of its statement at which reading fails,
+-- and 0 if the line isn't a session's
 abbrev pub fault_text : ℕ → ℕ → List ℕ
 fault_text number place = codes "LINE " ++ decimal number ++ codes " " ++ syntax_text place ++ codes "\n"
 
--- what was read, with the text of one more faulty line: that of this number, at this place in it
+-- what was read, with the text of one more faulty line: that of this number, at this place (`fault_text`)
 abbrev pub blamed : Reading → ℕ → ℕ → Reading
 blamed read number place = record read { faults = read.faults ++ fault_text number place }
 
@@ -127,14 +128,14 @@ abbrev pub explored_text : List Outcome → List ℕ
 explored_text outcomes = codes "OUTCOMES " ++ decimal (length outcomes) ++ codes "\n" ++ outcomes_text 1 outcomes
 
 -- Done: all outcomes are written. Undecided: UNDECIDED is written, and orders of one length lead to more ways than
--- `limit`. Faulty doesn't come
+-- `limit`, no two of which have come to the same. Faulty doesn't come
 abbrev pub IsPartsText : Parts → ℕ → Ended → List ℕ → Type 0
 IsPartsText parts limit Done text =
     (outcomes : List Outcome) × IsExplored parts outcomes × (text ≡ explored_text outcomes)
 IsPartsText parts limit Undecided text = IsWide parts.beside (base_of parts) limit × (text ≡ codes "UNDECIDED\n")
 IsPartsText parts limit Faulty text = ⊥
 
--- if no line is faulty, the parts are explored; else only the faulty lines are written
+-- if no line is faulty, the parts are explored; else only the faulty lines are written, and the end is Faulty
 abbrev pub IsReadText : List ℕ → Parts → ℕ → Ended → List ℕ → Type 0
 IsReadText [] parts limit ended text = IsPartsText parts limit ended text
 IsReadText (byte ∷ faults) parts limit ended text = (ended ≡ Faulty) × (text ≡ byte ∷ faults)

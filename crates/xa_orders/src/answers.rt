@@ -15,7 +15,7 @@ use xa_xid::{NoMemory, SessionNo};
 /// What each of a number of lines was answered: a text, which is empty if the line wasn't carried out.
 #[derive(Drop)]
 pub struct Answers {
-    /// The text of each line.
+    /// What each line was answered.
     texts: Vec<SharedText>,
     /// A number made of the texts of the lines that were carried out, and of their places.
     mark: u64,
@@ -29,8 +29,8 @@ impl Model for Answers {
     ghost view = { λ answers. answers.texts.items };
 }
 
-/// The place of the session's first line that has no text. None if there is none. `texts` has the text of each line, in
-/// the same order.
+/// The place of the session's first line whose answer is empty. None if there is none. `texts` has the answer to each
+/// line, in the same order.
 fn first_left(lines: &[Line<'_>], texts: &[SharedText], session: SessionNo) -> Option<usize>
     ensures place { result ≡ position (λ pair. (pair.0.session == session) && (length pair.1 == 0))
         (zip lines.now texts.now) }

@@ -12,8 +12,8 @@ use std::alloc::Global;
 use xa_server::Server;
 use xa_xid::{Key, NoMemory};
 
-/// Returns every outcome of the lines `beside` each other, each once with its least order, or None if more
-/// than `limit` ways that have carried out equally many lines are known to differ.
+/// Returns every outcome of the lines `beside` each other, each once with its least order (the smaller session first),
+/// or None if more than `limit` ways that have carried out equally many lines are known to differ.
 ///
 /// The lines `before` are carried out first and the lines `later` last, each list in order, by a server that
 /// holds nothing at first. `written` has the rows that lines write; if a row is missing there, the search may be

@@ -13,7 +13,7 @@ use xa_xid::{Key, NoMemory};
 /// What a search keeps in addition to its ways, so that equal ways are found soon and take little memory.
 #[derive(Drop)]
 pub struct Keeper {
-    /// At which places the ways of the next level are.
+    /// At which places of the next level's list the ways of each fingerprint are.
     pub index: FingerprintIndex,
     /// Answers that ways share.
     pub texts: Texts,

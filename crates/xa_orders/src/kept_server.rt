@@ -78,7 +78,7 @@ impl KeptServer {
         }
     }
 
-    /// Makes the server: a copy of the shared one that carries the statements out.
+    /// Makes the server: a copy of `base` that carries the statements out, if there are any.
     ///
     /// May return `NoMemory`.
     pub fn made(&self) -> Result<Server, NoMemory>

@@ -1,8 +1,9 @@
 //! Explores scripts: lines of several sessions are carried out in every order of the sessions.
 //!
-//! Each outcome is listed once, with the least order that gives it. The search goes level by level. A *way*
-//! is an order of turns and what it has come to; ways that are known to have come to the same are kept as one. Read
-//! docs/COMMANDS.md#explore, then `specs/Orders.antt`, `src/exploring.rt` and `src/ways.rt`.
+//! Each outcome is listed once, with the least order that gives it. The search goes level by level. A *turn* carries
+//! out a session's next line. A *way* is an order of turns and what it has come to; ways that are known to have come
+//! to the same are kept as one. Read docs/COMMANDS.md#explore, then `specs/Orders.antt`, `src/exploring.rt` and
+//! `src/ways.rt`.
 #![tactic(auto)]
 
 mod answers;

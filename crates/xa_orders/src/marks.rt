@@ -7,7 +7,7 @@ use xa_server::Server;
 use xa_xid::{Bytes, Key};
 
 /// The factor for each word: odd, so that no information is lost, with bits as if by chance: 2^64 divided by
-/// the golden ratio.
+/// the golden ratio, rounded down.
 const MULTIPLIER: u64 = 0x9e37_79b9_7f4a_7c15;
 
 /// Adds a word to a mark.
@@ -15,8 +15,8 @@ const MULTIPLIER: u64 = 0x9e37_79b9_7f4a_7c15;
 pub fn with(mark: u64, word: u64) -> u64
     ensures { result ≡ with_word mark word }
 {
-    // One is added since a 0 would stay 0, and the shift lets high bits change low ones. The last step loses nothing,
-    // as the highest 29 bits stay.
+    // With the 1, the word 0 changes the mark 0 too. The shift, by nearly half of the 64 bits, lets high bits change
+    // low ones. The last step loses nothing, as the highest 29 bits stay.
     let product = (mark ^ word).wrapping_add(1).wrapping_mul(MULTIPLIER);
     product ^ (product >> 29)
 }

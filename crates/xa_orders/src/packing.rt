@@ -114,7 +114,7 @@ impl Packing {
     }
 
     /// Adds statements that give each row that a line writes its value in `server`, if that isn't its value in the
-    /// shared server. The session has no branch, so they take effect at once.
+    /// shared server. The session has no branch, so they take effect at once, unless a branch there holds the row.
     fn add_rows(
         &self,
         since: &mut Vec<Done>,
@@ -147,8 +147,8 @@ impl Packing {
         Ok(())
     }
 
-    /// Adds statements that make a branch as it is in `server`. `session` starts it: its owner, or a free session if
-    /// it is prepared.
+    /// Adds statements that are meant to make a branch as it is in `server`. `session` starts it: its owner, or a free
+    /// session if it is prepared.
     fn add_branch(
         &self,
         since: &mut Vec<Done>,

@@ -141,7 +141,8 @@ impl<'a> Script<'a> {
         }
     }
 
-    /// Takes a line that names a session. It is faulty if its statement can't be read.
+    /// Takes a line that names a session. It is faulty if its statement can't be read; else the row that it writes is
+    /// noted.
     fn take_given(
         &mut self,
         number: u64,
@@ -174,8 +175,8 @@ impl<'a> Script<'a> {
         }
     }
 
-    /// Takes the line of this number. A comment changes nothing, BESIDE and AFTER begin a part, any other line is a
-    /// session's, blank or faulty.
+    /// Takes the line of this number. A comment changes nothing, BESIDE and AFTER begin a part or are faulty, any other
+    /// line is a session's, blank or faulty.
     #[tactic(auto, unfolding(crate::specs::Scripts::read_more))]
     fn take(&mut self, alloc: Global, number: u64, line: &'a [u8]) -> Result<(), NoMemory>
         ensures { OnOk result (read_kept self.new ≡ read_more (read_kept self.old) number line.entry.now) }

@@ -20,9 +20,9 @@ fn opening_ways(alloc: Global, lines: &[Line<'_>], server: Server) -> Result<Vec
     Ok(ways)
 }
 
-/// Returns the ways that have carried out all lines: each configuration with the least order that leads there, and
-/// once, unless equal ways weren't known as such. None if more than `limit` ways that have carried out equally many
-/// lines are known to differ.
+/// Returns the ways that have carried out all lines: each configuration (a server and the lines' answers) with the
+/// least order that leads there, and once, unless equal ways weren't known as such. None if more than `limit` ways that
+/// have carried out equally many lines are known to differ.
 ///
 /// `server` is as it is before these lines; `written` has the rows that they write.
 /// May return `NoMemory`.

@@ -39,7 +39,8 @@ impl<'a> Wanted<'a> {
         }
     }
 
-    /// Tells whether the statement does what is wanted: it is of the wanted kind, and has the same key, value or xid.
+    /// Tells whether the statement does what is wanted: it is of the wanted kind, and all that is named here (key,
+    /// value, xid) is the same.
     pub fn is_done_by(&self, statement: &Statement) -> bool {
         match self {
             Wanted::Value(row, text) => {

@@ -1,4 +1,5 @@
-//! Lists of ways, in which each configuration is kept once, as far as equal ones are known as such.
+//! Lists of ways, in which each configuration (a server and the lines' answers) is kept once, as far as equal ones are
+//! known as such.
 ghost use Rattle.std.specs.Prelude.{◌≡◌, ◌++◌, ◌∷◌, [], ◌<◌, List, true, None, length, IfOk, OnOk, IfSome};
 ghost use Rattle.xa_orders.specs.declared.way.Way.{Way as Found};
 ghost use Rattle.xa_orders.specs.Orders.{Any, IsAscending};
@@ -87,7 +88,8 @@ fn add(known: &mut Vec<Way>, keeper: &mut Keeper, one: Way) -> Result<(), NoMemo
     pack_before(known, &keeper.packing)
 }
 
-/// Adds the way to which the session's turn leads, if the session has a line left. `server` is that of `way`.
+/// Adds to `next` the way to which the session's turn leads, if the session has a line left, unless a way of `next` is
+/// known to have come to the same. `server` is that of `way`.
 fn add_turn(
     alloc: Global,
     next: &mut Vec<Way>,
@@ -109,8 +111,8 @@ fn add_turn(
     }
 }
 
-/// Adds the way to which the turn of the session of this number leads, if there is such a session and it has a line
-/// left. `server` is that of `way`.
+/// Adds to `next` the way to which the turn of the session of this number leads, if there is such a session and it has
+/// a line left, unless a way of `next` is known to have come to the same. `server` is that of `way`.
 fn add_number(
     alloc: Global,
     next: &mut Vec<Way>,
@@ -132,7 +134,8 @@ fn add_number(
     }
 }
 
-/// Adds the ways to which one more turn leads from `way`, of each session that has a line left.
+/// Adds to `next` each way to which one more turn leads from `way`, unless a way of `next` is known to have come to the
+/// same. If `next` was what one more turn of ways that precede `way` leads to, it is then that of these and `way`.
 fn add_turns(
     alloc: Global,
     next: &mut Vec<Way>,
@@ -155,8 +158,8 @@ fn add_turns(
     Ok(())
 }
 
-/// Returns the ways to which one more turn leads, each configuration with its least order; or None if more than
-/// `limit` of them are known to differ.
+/// Returns the ways to which one more turn of `ways` leads, each configuration with its least order; or None if more
+/// than `limit` of them are known to differ.
 ///
 /// The orders of `ways` ascend. A configuration is listed once, unless equal ways weren't known as such. So the list
 /// may have more than `limit` ways.

@@ -72,7 +72,8 @@ all_opened gate count lines within each (suc index) is_session =
         (sym (given_none count (suc index) lines within (omega (arith, past))))
         (λ line low. absurd (omega (arith, low)))
 
--- the run is that of session `index + n`: it has its number, the statements that it gives, and has seen `first`
+-- `index` is below `count`, and the run is that of session `index + n`: it has that number, the statements that the
+-- session gives on these lines, and has seen `first` with its own entries there, as `HoldsAll` says
 record IsRunAt (first : List Entry) (n : ℕ) (lines : List Told) (count index : ℕ) (run : LongRun) : Type 0 where
   pub below : index < count
   pub number : (known_in run.session).number ≡ index + n

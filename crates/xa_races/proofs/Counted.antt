@@ -28,7 +28,7 @@ all_last : {A : Type 0} (P : A → Type 0) (xs : List A) (y : A) → All P (xs +
 all_last P [] y all = All-head P y [] all
 all_last P (x ∷ xs) y all = all_last P xs y (All-tail P x (xs ++ y ∷ []) all)
 
--- before the first race no text has come, so all counts are 0
+-- a list in which all counts are 0 has counted no races
 pub counted_none : (parts : Parts) (xs : List CameTally) → All (λ one. one.came ≡ 0) xs → IsCounted parts 0 [] xs xs
 counted_none parts xs none = record {
   raced = record { count = refl; each = All-nil (HasCome parts) };
@@ -62,14 +62,14 @@ counted_next parts runs came old mid new text counted come tallied there ascendi
   only = λ empty. only came (counted.only empty);
 }
 
--- after so many races no count is above a million, so that counting up can't overflow
+-- after at most a million races no count is above a million, so that counting up can't overflow
 pub counted_within : (parts : Parts) (runs : ℕ) (came : List (List ℕ)) (old new : List CameTally) → runs ≤ 1000000
     → IsCounted parts runs came old new → All (λ one. one.came ≤ 1000000) new
 counted_within parts runs came old new few counted =
     counts_within came new 1000000 (omega (arith, counted.raced.count, few)) counted.tallied
 
--- if each tally has how often its text came, the program writes this number of each listed text, and how many of them
--- came
+-- if each tally has how often its text came, the program writes this number for each listed text that came, and how
+-- many of them did
 head_is : (came : List (List ℕ)) (xs : List CameTally) → Tallied came xs
     → counted_head xs ≡ came_texts 1 came (texts_of xs) ++ codes "SEEN " ++ decimal (count_seen came (texts_of xs))
 head_is came xs tallied =
@@ -127,7 +127,7 @@ seen_of_all parts runs came outcomes old new text explored listed counted is = r
   text_is = inl (text_of_all parts runs came outcomes old new text explored listed counted is);
 }
 
--- if not all outcomes can be listed, what is written tells how often each text came
+-- what is written without a total tells how often each text of the list came
 text_of_some : (parts : Parts) (runs : ℕ) (came : List (List ℕ)) (old new : List CameTally) (text : List ℕ)
     → IsCounted parts runs came old new → text ≡ counted_head new ++ codes "\n"
     → text ≡ some_seen_text came (texts_of new)
@@ -153,7 +153,7 @@ seen_some parts runs came old new text wide empty counted is =
       text_is = text_of_some parts runs came old new text counted is;
     }
 
--- if not all outcomes can be listed, what is written is as `IsSeenOf` states it
+-- what is written without a total is as `IsSeenOf` states it
 seen_of_some : (parts : Parts) (runs : ℕ) (came : List (List ℕ)) (old new : List CameTally) (text : List ℕ)
     → IsCounted parts runs came old new → text ≡ counted_head new ++ codes "\n" → IsSeenOf came text
 seen_of_some parts runs came old new text counted is = record {

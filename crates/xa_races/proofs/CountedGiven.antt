@@ -14,7 +14,7 @@ use Rattle.xa_orders.specs.Orders.{Told, IsSession}
 use Rattle.xa_races.specs.CountedRaced.{statement_by, statements_of}
 use Rattle.xa_races.specs.CountedHeld.{list_at, AreWithin, AreRunsOf}
 
--- the loop over lines: one line more gives its session its statement
+-- the loop over lines: one line more adds its statement, if the session gives it
 pub statements_more : (session : ℕ) (lines : List Told) (index : ℕ) (told : Told) (old new : List Statement)
     → index < length lines
     → told ≡ get_or lines index told
@@ -44,7 +44,7 @@ list_push_front [] list index below = absurd (omega arith)
 list_push_front (one ∷ lists) list zero below = refl
 list_push_front (one ∷ lists) list (suc index) below = list_push_front lists list index (omega (arith, below))
 
--- the loop over lines: one more is of a session up to the greatest so far
+-- the loop over lines: those so far and one more are of sessions up to the new greatest one
 pub within_more : (lines : List Told) (index : ℕ) (told : Told) (old new : ℕ) → index < length lines
     → told ≡ get_or lines index told → IsSession told.session
     → old ≤ new

@@ -1,6 +1,6 @@
 -- The order in which the lines of a race that is counted have their turns.
 --     itself            what a line says
---     counted_goes      turns of all lines lead to the end of the history
+--     counted_goes      turns of all lines that are left lead to the end of the history
 use Rattle.std.proofs.Common.{◌≡◌, ℕ, Some, List, [], length, refl, ap, sym, ◌∙◌, arith}
 use Rattle.std.specs.Prelude.{slice_get}
 use Rattle.std.specs.List.{All}
@@ -23,7 +23,7 @@ module _ (told : List Told) (texts : List (List ℕ)) (within : All (λ one. IsS
   abbrev end : State
   end = state_after base history
 
-  -- at the end of the history all lines are done
+  -- at the end of the history, when no session has a line left, this is the end: no more turn is needed
   done : (lines : Lines) (config : Config) → Stands told texts end lines config
       → config.state ≡ state_at base history (length history)
       → ((session : ℕ) → IsSession session → lines session ≡ []) → Goes told texts end config
@@ -39,8 +39,8 @@ module _ (told : List Told) (texts : List (List ℕ)) (within : All (λ one. IsS
         count = sym filled.1;
       }
 
-  -- if the lines that each session has left explain its entries of the whole history, and nothing was carried out yet,
-  -- turns lead from there to the end
+  -- if the lines that each session has left explain its entries of the whole history, the state is that before the
+  -- history, and all entries are of the sessions 1 to 16, turns lead from there to the end
   pub counted_goes : ((at : ℕ) (entry : Entry) → slice_get history at ≡ Some entry → IsSession entry.session)
       → (lines : Lines) (config : Config)
       → ((session : ℕ) → IsSession session → Remains itself base history 0 session (lines session))

@@ -207,11 +207,11 @@ cmp_same (x ∷ xs) (y ∷ ys) equal = by (λ rest. cmp_same xs ys rest) (nat_cm
     by later Greater is =
         absurd (let wrong : Greater ≡ Equal = ap (λ o. ordering_then o (slice_cmp nat_cmp xs ys)) is ∙ equal in cc)
 
--- different texts don't compare as equal
+-- if different texts compared as equal, which they never do, `other` would come before `one`
 pub behind_equal : (one other : List ℕ) → Equal ≡ slice_cmp nat_cmp one other → one ≢ other → ComesBefore other one
 behind_equal one other equal apart = absurd (apart (cmp_same one other (sym equal)))
 
--- a text that compares as greater comes behind the other in the list
+-- if a text compares as greater than another one, that one comes before it
 pub behind_greater : (one other : List ℕ) → Greater ≡ slice_cmp nat_cmp one other → ComesBefore other one
 behind_greater one other greater = nat_list_cmp_total.antisymm other one ∙ ap ordering_reverse (sym greater)
 

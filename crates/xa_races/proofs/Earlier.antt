@@ -48,7 +48,7 @@ take_over (entry ∷ first) second (suc place) low =
     ap (λ rest. entry ∷ rest) (take_over first second place (omega (arith, low))
     ∙ ap (λ n. first ++ take n second) (sym next))
 
--- a place past the first list is a place of the second
+-- a place from the end of the first list on has what the second has there, counted from that end
 get_over : (first second : List Entry) (place : ℕ) → length first ≤ place
     → slice_get second (place - length first) ≡ slice_get (first ++ second) place
 get_over [] second place low = ap (slice_get second) (omega arith)

@@ -57,13 +57,15 @@ all_mapped P f [] all = All-nil P
 all_mapped P f (x ∷ xs) all = All-cons P (f x) (map f xs) (All-head (λ y. P (f y)) x xs all)
     (all_mapped P f xs (All-tail (λ y. P (f y)) x xs all))
 
--- an entry that is listed at its place in the whole history fits into what is left of it from the place `from` on
+-- an entry that is listed at its place in the whole history fits into the rest of it from the place `from` on, if its
+-- place isn't before that
 pub listed_within : (whole : List Entry) (limit from : ℕ) (added : Added) → IsListed whole limit added
     → IsWithin (drop from whole) limit from added
 listed_within whole limit from added is low =
     record { at = get_drop from added.place whole low ∙ is.at; some = is.some; few = is.few }
 
--- entries of the whole history that were added in the race fit at their places counted from the race's beginning
+-- if all noted entries are listed at their places in the whole history, each fits into the rest of it from the place
+-- `from` on, if its place isn't before that
 pub lists_within : (whole : List Entry) (limit from : ℕ) (raced : List Raced)
     → All (λ one. All (IsListed whole limit) one.said.added.items) raced
     → All (λ one. All (IsWithin (drop from whole) limit from) one.said.added.items) raced
@@ -146,12 +148,12 @@ listed_of gate whole limit run one is taken some few =
 pub numbered : (session : EndlessSession) → 1 ≤ (known_in session).number
 numbered session = session.member.pass.state.first
 
--- a bound for the sessions' numbers: all of them together
+-- a bound for the sessions' numbers: their sum
 abbrev total : List LongRun → ℕ
 total [] = 0
 total (run ∷ runs) = (known_in run.session).number + total runs
 
--- no session's number is above the total
+-- no session's number is above a bound of the total
 few_of : (runs : List LongRun) (bound : ℕ) → total runs ≤ bound
     → AllByRecursion (λ run. (known_in run.session).number ≤ bound) runs
 few_of [] bound le = tt
@@ -259,7 +261,7 @@ module _ (gate : ℕ → ℕ → Bool → Type 0) (from : ℕ) (runs : List Long
         (recursion_from_All (λ (one : Raced). one.fault ≡ None) raced none)));
   }
 
--- the fault at which one of the sessions stopped is one that the race is blamed for
+-- the fault with which one of the sessions stopped is one with which the race may fail, as `BlamesLong` says
 pub blames_one : (gate : ℕ → ℕ → Bool → Type 0) (runs : List LongRun) (raced : List Raced) (place : ℕ) (one : Raced)
     (fault : RaceFault)
     → AllZip (λ run one. HasRaced gate run.session run.lines.items one) runs raced → slice_get raced place ≡ Some one

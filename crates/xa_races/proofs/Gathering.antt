@@ -49,7 +49,7 @@ zip_set R through (s ∷ before) (t ∷ now) zero new d below zip step = (throug
 zip_set R through (s ∷ before) (t ∷ now) (suc index) new d below zip step =
     (zip.0, zip_set R through before now index new d (omega (arith, below)) zip.1 step)
 
--- what is true of each changed element was true of each before, if the change keeps it
+-- if `Q` holds of each element after a change, `P` held of each before, where `Q` of one after gives `P` of it before
 pub all_back : {S : Type 0} (R : S → S → Type 0) (P Q : S → Type 0) → ((a b : S) → R a b → Q b → P a)
     → (before now : List S) → AllZip R before now
     → All Q now → All P before

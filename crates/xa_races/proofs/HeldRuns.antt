@@ -1,8 +1,8 @@
 -- Races of a script that are held at a gate, over stores of their own.
 --     ends_beside      why a race of lines fails
---     ends_same, ends_read     the same of another form of the lines
---     of_open          why one line isn't carried out at a gate that is always open
---     left_in          what an opened store leaves
+--     ends_same, ends_read     the same with an equal state and equal lines;  for all that the reader had
+--     of_open          why a race that renews its store fails at a gate that is never shut
+--     left_in          the state of an opened store is as `IsLeftIn` says
 --     held_whole       one race of the parts
 --     held_none, held_next     races that were held, one after another
 --     passed_on        a fault that is passed on
@@ -60,7 +60,7 @@ ends_beside gate capacity renews from lines before runs are few numbers holds fr
 ends_beside gate capacity renews from lines before runs are few numbers holds from_is within read fault.ThreadRefused
     ends = tt
 
--- how a race ended depends on state and lines alone, so equal ones may take their place
+-- if a race fails as `EndsBeside` says, it does so with an equal state and equal lines
 pub ends_same : (gate : ℕ → ℕ → Bool → Type 0) (capacity : ℕ) (renews : Bool) (base new : State)
     (lines others : List Told) (f : ScriptFault) → base ≡ new → lines ≡ others
     → EndsBeside gate capacity renews base lines f → EndsBeside gate capacity renews new others f
@@ -81,7 +81,7 @@ ends_read gate capacity renews result passed cause input rest slice given is tol
     (read_whole (λ t. EndsRuns gate capacity renews t cause) input rest given read end
     (subst (λ (t : List ℕ). EndsRuns gate capacity renews t cause) same ends))
 
--- at a gate that is always open a race can't fail since the gate was shut
+-- at a gate that is never shut a race that renews its store fails only for want of memory or of a thread
 pub of_open : (gate : ℕ → ℕ → Bool → Type 0) (capacity : ℕ) (base : State) (lines : List Told)
     → ((session line : ℕ) → gate session line false → ⊥) → (f : ScriptFault) → IsOfRace true f
     → EndsBeside gate capacity true base lines f → IsOfOpen f

@@ -5,9 +5,9 @@
 --     Remains           the session's lines that are left explain its entries from the place on
 --     Drained           the first line that is left doesn't stand at the place without entering there
 --     skipped, entering, waiting      what is left behind a line that doesn't enter;  behind one that enters;  behind
---                                     another session's entry
+--                                     another session's entry, if the session is drained
 --     enters_there      a line that enters at the place is the entry there
---     Due, due          the session of the next entry has a line left at the place
+--     Due, due          the first line that is left was answered at the place;  so was that of the next entry's session
 --     ended             at the end of the history no line is left
 use Rattle.std.proofs.Common.{◌≡◌, ◌≢◌, ℕ, zero, suc, ◌+◌, ◌-◌, ◌≤◌, Bool, true, false, cond, Some, List, [], ◌∷◌}
 use Rattle.std.proofs.Common.{length, map, drop, refl, ap, sym, ◌∙◌, subst}
@@ -142,7 +142,8 @@ module _ {L : Type 0} (spoken : L → Said) where
   abbrev pub answers_in : List L → List Answer
   answers_in lines = map (λ line. (spoken line).answer) lines
 
-  -- the session's lines that are left are answered from the place on, and are its entries from there on
+  -- the session's lines that are left are answered from the place on, and those of them that are logged are its entries
+  -- from there on
   pub record Remains (base : State) (history : List Entry) (place session : ℕ) (lines : List L) : Type 0 where
     pub answered : Answered base history session place (statements_in lines) (answers_in lines)
     pub mine : entries_of session (drop place history) ≡ entered base history session (statements_in lines)
@@ -216,7 +217,7 @@ module _ {L : Type 0} (spoken : L → Said) where
       sym (ap (slice_get history) at) ∙ left.answered.1.next
       (ap (λ (n : ℕ). enters (state_at base history n) session (spoken line).statement) at ∙ in')
 
-  -- behind an entry of another session, a session has left what it had left before it
+  -- behind an entry of another session, a drained session has left what it had left before that entry
   pub waiting : (base : State) (history : List Entry) (place session : ℕ) (lines : List L) (entry : Entry)
       → Remains base history place session lines
       → Drained base history place session lines → slice_get history place ≡ Some entry
@@ -237,14 +238,14 @@ module _ {L : Type 0} (spoken : L → Said) where
           → suc place ≤ (spoken line).answer.place
       after_place apart order = omega arith
 
-  -- the session of the next entry has a line left, at the place
+  -- the first of these lines was answered at the place
   pub record Due (place : ℕ) (lines : List L) : Type 0 where
     pub line : L
     pub rest : List L
     pub is : lines ≡ line ∷ rest
     pub at : (spoken line).answer.place ≡ place
 
-  -- if the history's entry at a place is the session's, its next line is the one that was answered there
+  -- if the history's entry at a place is the session's, it has a line left, and the first one was answered there
   pub due : (base : State) (history : List Entry) (place session : ℕ) (lines : List L) (entry : Entry)
       → Remains base history place session lines
       → slice_get history place ≡ Some entry → entry.session ≡ session → Due place lines

@@ -1,7 +1,7 @@
 -- What lines were answered in a race, some order of them gives.
 --     Leads            turns lead to these texts
 --     raced_leads      turns lead to what lines that raced were answered
---     one_line         one line that raced is answered as a run answers it
+--     one_line         one line that raced has the answer and the state of the sequential server
 --     came_given       what came of parts is given by an order
 --     came_outcome, came_listed     it is the text of an explored outcome;  it is among their texts
 use Rattle.std.proofs.Common.{◌≡◌, ℕ, suc, ◌+◌, ◌≤◌, ◌==◌, ◌&&◌, Bool, true, false, not, cond, Option, Some, None, List}
@@ -30,7 +30,7 @@ use Rattle.xa_races.proofs.Histories.{Remains, statements_in, answers_in}
 use Rattle.xa_races.proofs.Turns.{Lines, Stands, Goes, said_of, opening_agrees, opening_left, all_empty}
 use Rattle.xa_races.proofs.CountedSchedules.{itself, counted_goes}
 
--- turns lead to these texts, and to this state
+-- from the state `base`, with no line carried out yet, as many turns as lines lead to these texts and the state `new`
 pub record Leads (base : State) (lines : List Told) (texts : List (List ℕ)) (new : State) : Type 0 where
   pub order : List ℕ
   pub config : Config
@@ -50,7 +50,7 @@ answered_long base history session (statement ∷ statements) (answer ∷ answer
     ap suc (answered_long base history session statements answers
     (next_place base history session statement answer) answered.2)
 
--- lines made of statements and answers have these statements
+-- lines made of statements and as many answers have these statements
 said_statements : (statements : List Statement) (answers : List Answer) → length answers ≡ length statements
     → statements_in itself (said_of statements answers) ≡ statements
 said_statements [] answers long = refl
@@ -58,7 +58,7 @@ said_statements (statement ∷ statements) [] long = absurd (omega arith)
 said_statements (statement ∷ statements) (answer ∷ answers) long =
     ap (λ l. statement ∷ l) (said_statements statements answers (omega (arith, long)))
 
--- lines made of statements and answers have these answers
+-- lines made of statements and as many answers have these answers
 said_answers : (statements : List Statement) (answers : List Answer) → length answers ≡ length statements
     → answers_in itself (said_of statements answers) ≡ answers
 said_answers [] [] long = refl
@@ -148,7 +148,7 @@ turn_one base told session mid is = by (told.session == session) refl
     )
     by false other = absurd (none-some mid (sym (ap at other) ∙ is))
 
--- an order of a single line has one turn, which carries that line out
+-- one turn at a single line leads to where that line was carried out
 one_turn : (base : State) (told : Told) (order : List ℕ) (config : Config) → length order ≡ 1
     → LeadsTo (told ∷ []) (opening (told ∷ []) base) order config
     → config ≡ carried_out told.session told.text (opening (told ∷ []) base) 0
@@ -158,7 +158,7 @@ one_turn base told (session ∷ []) config one leads =
     leads.3 ∙ turned.1 ∙ ap (λ n. carried_out n told.text (opening (told ∷ []) base) 0) (sym turned.0)
 one_turn base told (session ∷ other ∷ order) config one leads = absurd (omega (arith, one))
 
--- a race of a single line answers it as the sequential server does
+-- a race of a single line gives the answer and the state that the sequential server gives
 pub one_line : (base : State) (told : Told) (texts : List (List ℕ)) (new : State) → IsRaced base (told ∷ []) texts new
     → (concat texts ≡ answer_to base told.session (read_of told.text))
     × (new ≡ state_then base told.session (read_of told.text))

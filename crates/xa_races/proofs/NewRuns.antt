@@ -101,7 +101,7 @@ answered_new store history n (l ∷ lists) (run ∷ runs) (a ∷ answers) are zi
   answered_new store history (n + 1) lists runs answers are.1 zip.1,
 )
 
--- if the gate lets in the sessions of new runs, it lets in their lists of statements
+-- if the gate can let in each statement of the new runs, it can let in each of their lists of statements
 let_in_new : (gate : ℕ → ℕ → Bool → Type 0) (store : EndlessStore) (n : ℕ) (lists : List (List Statement))
     (runs : List LongRun) → AreNewRuns store n lists runs
     → AllByRecursion (λ run. LetsIn gate (known_in run.session).number (length run.lines.items)) runs
@@ -183,7 +183,7 @@ new_at store n (l ∷ lists) (r ∷ runs) (suc index) run are found =
           (λ (m : ℕ). IsNewRun store m at.statements run) same at.is;
     }
 
--- a fault that blames one of the new runs blames the race of their lists
+-- if a race of new runs fails as `BlamesLong` says, the race of their lists fails as `BlamesRace` says
 pub blames_race : (gate : ℕ → ℕ → Bool → Type 0) (store : EndlessStore) (lists : List (List Statement))
     (runs : List LongRun) (fault : RaceFault)
     → AreNewRuns store 1 lists runs → BlamesLong gate runs fault → BlamesRace gate lists fault

@@ -69,7 +69,7 @@ length_some [] = refl
 length_some (entry ∷ entries) = ap suc (length_some entries)
 
 -- if each place is filled with an entry that fits, and there are as many places as the list has entries, the entries
--- are those of the list
+-- are those of the list, all of sessions from 1 to `limit`
 pub same_entries : (entries list : List Entry) (limit : ℕ) (places : List (Option Entry)) → map Some entries ≡ places
     → length places ≡ length list
     → HasOnly list limit places → (entries ≡ list) × AllOf limit entries

@@ -1,4 +1,4 @@
--- The lines of a race, its runs, and how its outcome is printed.
+-- The lines of a race, how its outcome is printed, and steps of loops over lists.
 use Rattle.std.proofs.Common.{◌≡◌, ℕ, zero, suc, ◌+◌, ◌<◌, ◌≤◌, ◌==◌, max, true, Bool, Option, Some, None, List, []}
 use Rattle.std.proofs.Common.{◌∷◌, ◌++◌, length, map, take, get_or, min, refl}
 use Rattle.std.proofs.Common.{ap, sym, ◌∙◌, arith, append_assoc, append-nil}
@@ -88,7 +88,7 @@ length_front [] i below = absurd (omega arith)
 length_front (x ∷ xs) zero below = refl
 length_front (x ∷ xs) (suc i) below = ap suc (length_front xs i (omega (arith, below)))
 
--- the loop over entries: the text of one more is written
+-- the loop over entries: the text of the first `place + 1` is that of the first `place`, and then that of the next one
 pub entries_text-more : (entries : List Entry) (place : ℕ) (entry : Entry) → place < length entries
     → entry ≡ get_or entries place entry
     → entries_text 0 (take (place + 1) entries) ≡ entries_text 0 (take place entries) ++ entry_text place entry
@@ -99,12 +99,13 @@ entries_text-more entries place entry below is =
     ∙ ap (λ n. entries_text 0 (take place entries) ++ entries_text n (entry ∷ [])) far
     ∙ ap (λ text. entries_text 0 (take place entries) ++ text) (entries_text-one place entry)
 
--- the text of no entries is empty
+-- without entries the text is empty
 pub entries_text-none : (place : ℕ) → entries_text place [] ≡ []
 unfolding entries_text
 entries_text-none place = refl
 
--- the loop over a session's answers: the text of one more is written
+-- the loop over a session's answers: one more adds its text. `statements` says of each statement whether it asks for
+-- hexadecimal
 pub session_text-more : (session : ℕ) (statements : List Bool) (answers : List Answer) (i : ℕ) (statement : Bool)
     (answer : Answer)
     → i < length statements → i < length answers
@@ -137,7 +138,7 @@ session_text-whole session (x ∷ statements) (y ∷ answers) (suc n) enough =
     ap (λ text. placed_text session x y ++ text) (session_text-whole session statements answers n
     (omega (arith, enough)))
 
--- the text of none of a session's answers is empty
+-- without answers the text of a session is empty
 pub session_text-none : (session : ℕ) (statements : List Bool) (answers : List Answer)
     → session_text session (take 0 statements) (take 0 answers) ≡ []
 unfolding session_text
@@ -166,7 +167,7 @@ unfolding answers_text
 answers_text-one session lines answers =
     append-nil (session_text session (map converts (statements_of session lines)) answers)
 
--- the text of no sessions' answers is empty
+-- without sessions the text of the answers is empty
 pub answers_text-none : (session : ℕ) (lines : List (List ℕ)) → answers_text session lines [] ≡ []
 unfolding answers_text
 answers_text-none session lines = refl
@@ -195,7 +196,7 @@ length_map_take f (x ∷ xs) zero below = refl
 length_map_take f (x ∷ xs) (suc i) below = ap suc (length_map_take f xs i (omega (arith, below)))
 
 module _ {S : Type 0} (answers_of : S → List Answer) where
-  -- the loop over sessions: the text of one more session's answers is written
+  -- the loop over sessions: one more adds the text of its answers
   pub answers_text-more : (lines : List (List ℕ)) (all : List S) (i : ℕ) (answers : S) (session : ℕ) → i < length all
       → answers ≡ get_or all i answers
       → session ≡ i + 1

@@ -151,8 +151,7 @@ pub map_same : {A B : Type 0} (pairs : List (A × B)) → map (λ p. (p.0, p.1))
 map_same [] = refl
 map_same (pair ∷ pairs) = ap (λ l. pair ∷ l) (map_same pairs)
 
--- there are as many runs as sessions are named, also if that is none: of the passes, which are at least one, so many
--- are kept
+-- there are `n` runs, also if that is 0: of the passes, which are `n` but at least one, the first `n` are kept
 pub runs_count : (n : ℕ) (passes taken : List Pass) (runs : List Run) → length passes ≡ max n 1 → taken ≡ take n passes
     → map (λ run. run.pass) runs ≡ taken
     → length runs ≡ n

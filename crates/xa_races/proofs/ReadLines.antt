@@ -51,7 +51,7 @@ gains_at items (one ∷ lists) (suc place) list d x below is (suc index) =
     let same : (suc place == suc index) ≡ (place == index) = grind (arith, nat_tests) in
     rw same (gains_at items lists place list d x (omega (arith, below)) is index)
 
--- sessions are counted from 1 and their lists from 0
+-- a session's list is at `index` if its number is `index + 1`: sessions are counted from 1 and their lists from 0
 same_place : (session index : ℕ) → 1 ≤ session → (session - 1 == index) ≡ (session == index + 1)
 same_place session index some = grind (arith, nat_tests)
 

@@ -201,7 +201,7 @@ module _ {L C : Type 0} (spoken : L → Said) (state_of : C → State) (Stands G
       (λ session is. ended spoken base history place session (lines session) (ready.remain session is)
       (drained session is) end)
 
-  -- the turns of the lines that are left at a place lead to the end
+  -- the turns of the lines that are left at a place lead to the end; from there on the history has `left` entries
   pub goes : (left place : ℕ) → place + left ≡ length history
       → ((at : ℕ) (entry : Entry) → slice_get history at ≡ Some entry → IsSession entry.session)
       → (lines : ℕ → List L) (config : C) → Ready place lines config → Goes lines config

@@ -40,7 +40,7 @@ pub same_log : (old new : EndlessSession) → new.store.value ≡ old.store.valu
     → log_of new.member.pass ≡ log_of old.member.pass
 same_log old new same = new.belongs ∙ ap (λ (store : EndlessStore). identity_of store.log) same ∙ sym old.belongs
 
--- what a session has seen has its own entries
+-- the entries of a session's number in what it has seen are those that it knows as its own
 pub own_part : (session : EndlessSession) → entries_of (known_in session).number (known_in session).seen
     ≡ (known_in session).mine
 own_part session = session.member.pass.state.part

@@ -38,7 +38,8 @@ use Rattle.xa_races.proofs.Tests.{position_is, lines_own, lines_other}
 use Rattle.xa_races.proofs.Histories.{Said}
 use Rattle.xa_races.specs.LinesLeft.{with_lines}
 
--- each line has no answer yet, or that of the end
+-- each line has no answer yet (an empty text), or that of the end: what the lines have so far comes first, what they
+-- have in the end behind it. Both have as many texts as there are lines
 abbrev pub Agrees : List Told → List (List ℕ) → List (List ℕ) → Type 0
 Agrees [] [] [] = Unit {0}
 Agrees (told ∷ lines) (answer ∷ answers) (text ∷ texts) = ((answer ≡ []) ⊎ (answer ≡ text)) × Agrees lines answers texts
@@ -60,8 +61,8 @@ abbrev pub empties : List (List ℕ) → ℕ
 empties [] = 0
 empties (answer ∷ answers) = cond (is_empty_line answer) (suc (empties answers)) (empties answers)
 
--- what is so after the first line of the session that has no answer yet got this text: `rest` is what the session has
--- left then, and the other sessions have left what they had
+-- what is so after the session's first line without an answer, which says `read`, got this text: `rest` is what the
+-- session has left then, and the other sessions have left what they had
 pub record Next (session : ℕ) (lines : List Told) (answers texts : List (List ℕ)) (read : Result Statement ℕ)
     (text : List ℕ) (rest : List Owed) : Type 0 where
   pub place : ℕ
@@ -103,7 +104,7 @@ and_second : (a b : Bool) → (a && b) ≡ true → b ≡ true
 and_second true b both = both
 and_second false b both = absurd cc
 
--- both don't hold if the second doesn't
+-- two tests don't both hold if the second doesn't
 and_false : (a : Bool) → (a && false) ≡ false
 and_false true = refl
 and_false false = refl
@@ -222,6 +223,7 @@ said_filled session said = ends (decimal session) (reply_text (converts said.sta
     ends [] text = refl
     ends (byte ∷ who) text = refl
 
+-- lines, what they are to be answered, and the state in the end
 module _ (told : List Told) (texts : List (List ℕ)) (end : State) where
   -- what each session has left to say is what its lines that weren't carried out are to be answered
   pub record Stands (lines : Lines) (config : Config) : Type 0 where
@@ -229,7 +231,7 @@ module _ (told : List Told) (texts : List (List ℕ)) (end : State) where
     pub left_is : (session : ℕ) → IsSession session → left session told config.answers texts
         ≡ owed_by session (lines session)
 
-  -- turns lead from there to the end, one for each line that is left
+  -- turns lead from the configuration to these texts and to the state `end`, one for each line that has no answer yet
   pub record Goes (config : Config) : Type 0 where
     pub order : List ℕ
     pub new : Config
@@ -404,7 +406,7 @@ given_other session told lines other =
     ap (λ (o : Option Statement). cons_option o (statements_of session lines))
     (ap (λ b. cond b (statement_in (read_of told.text)) None) other)
 
--- no lines give a session no statement
+-- without lines a session gives no statement
 given_none : (session : ℕ) → statements_of session [] ≡ []
 unfolding statements_of
 given_none session = refl
@@ -417,16 +419,16 @@ pub laid_one : (front : List Told) (answers : ℕ → List Answer) (told : Told)
 unfolding laid_texts
 laid_one front answers told lines = refl
 
--- along no lines no answer is laid
+-- without lines no answer is laid out
 pub laid_none : (front : List Told) (answers : ℕ → List Answer) → laid_texts front answers [] ≡ []
 unfolding laid_texts
 laid_none front answers = refl
 
--- what is left of a session at a line and behind it
+-- what a session has left of a line and those behind it, before any of them has an answer
 abbrev left_with : ℕ → Told → List Told → List (List ℕ) → List Owed
 left_with session told lines texts = left session (told ∷ lines) (replicate (length (told ∷ lines)) []) texts
 
--- at the beginning a session has its own line left, with its answer
+-- at the beginning a session has its own line left, with its answer, and then what it has left behind that line
 left_own : (session : ℕ) (told : Told) (lines : List Told) (text : List ℕ) (texts : List (List ℕ))
     → (told.session == session) ≡ true
     → left_with session told lines (text ∷ texts) ≡ (read_of told.text, text) ∷ left session lines
@@ -436,7 +438,7 @@ left_own session told lines text texts its =
     (left session lines (replicate (length lines) []) texts))
     its
 
--- at the beginning a session has no line of another session left
+-- at the beginning a session has nothing left of another session's line, only of those behind it
 left_other : (session : ℕ) (told : Told) (lines : List Told) (text : List ℕ) (texts : List (List ℕ))
     → (told.session == session) ≡ false
     → left_with session told lines (text ∷ texts) ≡ left session lines (replicate (length lines) []) texts

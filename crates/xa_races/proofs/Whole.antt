@@ -64,7 +64,7 @@ pub all_of_one : {A : Type 0} (P : A → Type 0) (xs one : List A) (index : ℕ)
 all_of_one P xs one index x below at is all =
     subst (All P) (sym is) (All-cons P x [] (subst P at (All-get_or P xs index x below all)) (All-nil P))
 
--- a race of one line answered it as the sequential server does
+-- a race of one line gave the answer and the state that the sequential server gives
 pub one_raced : (base new : State) (one : List Told) (told : Told) (text : List ℕ) → one ≡ told ∷ []
     → GivesRaced base one text new
     → (text ≡ answer_to base told.session (read_of told.text))

@@ -1,13 +1,13 @@
 -- What is written for several races of a script.
 -- Every rule here is the project's own: docs/COMMANDS.md#race-statistics.
 --     IsRunCount         how many races there may be
---     ways_limit         how many ways exploring may keep
+--     ways_limit         how many ways may differ when all outcomes are explored
 --     times              how often a text came
 --     came_text          what is written for an outcome that came so often
 --     came_texts         what is written for the outcomes of a list that came
 --     count_seen         how many texts of a list came
 --     seen_text, some_seen_text     what is written for a list, with how many outcomes there are;  without that
---     HaveCome           races gave these texts
+--     HaveCome           these are so many texts that races gave
 --     IsSeenOfAll, IsSeenOfSome     a text is what is written for races, if all outcomes are known;  if they
 --                                   aren't
 --     IsPartsCome        one of the two
@@ -40,7 +40,7 @@ use Rattle.xa_races.specs.CountedRaced.{HasCome}
 abbrev pub IsRunCount : ℕ → Type 0
 IsRunCount runs = (1 ≤ runs) × (runs ≤ 1000000)
 
--- how many ways exploring may keep for the list of all outcomes
+-- the limit for exploring the list of all outcomes: how many ways of one length may differ (`WAYS` in src/runs.rt)
 abbrev pub ways_limit : ℕ
 ways_limit = 100000
 
@@ -54,7 +54,8 @@ came_text number zero text = []
 came_text number (suc more) text =
     codes "OUTCOME " ++ decimal number ++ codes " CAME " ++ decimal (suc more) ++ codes "\n" ++ text
 
--- the outcomes of the list that came, each with its number and how often it came
+-- the outcomes of the list that came, each with its number and how often it came; the first of the list, also if it
+-- didn't come, has this number
 unfoldable pub came_texts : ℕ → List (List ℕ) → List (List ℕ) → List ℕ
 came_texts number came [] = []
 came_texts number came (text ∷ listed) = came_text number (times text came) text ++ came_texts (number + 1) came listed
@@ -77,7 +78,7 @@ some_seen_text came listed = came_texts 1 came listed ++ codes "SEEN " ++ decima
 abbrev pub ComesBefore : List ℕ → List ℕ → Type 0
 ComesBefore one other = bytes_cmp one other ≡ Less
 
--- this many races of the parts gave these texts, one text each
+-- there are this many texts, and each is what a race of the parts gave; two of them may be of one race
 pub record HaveCome (parts : Parts) (runs : ℕ) (came : List (List ℕ)) : Type 0 where
   pub count : length came ≡ runs
   pub each : All (HasCome parts) came
@@ -93,7 +94,7 @@ pub record IsSeenOfAll (parts : Parts) (runs : ℕ) (text : List ℕ) : Type 0 w
   pub text_is : text ≡ seen_text came (map (λ one. one.text.items) outcomes)
 
 -- the text is `some_seen_text` of what came in so many races and of a list of just that, each text once, ascending;
--- there are too many ways (`ways_limit`) to know all outcomes
+-- orders of one length lead to more ways than `ways_limit`, so not all outcomes are known
 pub record IsSeenOfSome (parts : Parts) (runs : ℕ) (text : List ℕ) : Type 0 where
   pub listed : List (List ℕ)
   pub came : List (List ℕ)

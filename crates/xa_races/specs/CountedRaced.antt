@@ -35,7 +35,7 @@ statement_by session told = cond (told.session == session) (statement_in (read_o
 unfoldable pub statements_of : ℕ → List Told → List Statement
 statements_of session lines = filter_map (statement_by session) lines
 
--- the statement that was read asks for identifiers in hexadecimal
+-- whether the statement that was read asks for identifiers in hexadecimal; false if none was read
 abbrev pub converts_in : Result Statement ℕ → Bool
 converts_in (Ok statement) = converts statement
 converts_in (Err place) = false

@@ -6,7 +6,7 @@
 --     GivesRacedBy     the same as one text
 --     IsLeftIn         a state is that after all that the last of some sessions has seen; their store has so many rows
 --     IsHeldOnce       a text is what all lines were answered in one race of the parts
---     AreHeld          so many races gave these texts, one text each
+--     AreHeld          there are so many texts, each of which a race gave
 --     IsSeenOf         what is written for the texts that came
 --     AppendsHeldRuns  the writer got what is written for races that were held
 --     IsShutBeside     the gate can stop a session at one of its lines
@@ -77,7 +77,8 @@ pub record IsHeldOnce (gate : ℕ → ℕ → Bool → Type 0) (capacity : ℕ) 
   pub left : IsLeftIn capacity state
   pub text_is : text ≡ told_text no_state parts.before ++ concat texts ++ told_text state parts.later
 
--- so many races of the parts were held, and gave these texts, one text each
+-- there are so many texts, and each is what a race of the parts gave, held as `IsHeldOnce` says; two of them may be of
+-- one race
 pub record AreHeld (gate : ℕ → ℕ → Bool → Type 0) (capacity : ℕ) (renews : Bool) (runs : ℕ) (parts : Parts)
     (came : List (List ℕ)) : Type 0 where
   pub count : length came ≡ runs
@@ -103,7 +104,8 @@ pub record IsShutBeside (gate : ℕ → ℕ → Bool → Type 0) (base : State) 
   pub is_session : IsSession session
   pub shut : IsShutAt gate base (newcomer session) (statements_of session lines) session line
 
--- all lines were answered, and added more entries than there is room for; the race doesn't renew its store
+-- all lines can be let in and answered, and then add more entries than there is room for; the race doesn't renew its
+-- store
 pub record IsOverfull (gate : ℕ → ℕ → Bool → Type 0) (capacity : ℕ) (renews : Bool) (base : State)
     (lines : List Told) : Type 0 where
   pub texts : List (List ℕ)

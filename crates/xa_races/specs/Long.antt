@@ -1,11 +1,11 @@
 -- A race over a store without an end.
 --     known_in        what a session knows
 --     IsAddedBy       an entry that a session added, at its place
---     WantsMemory     a session has no memory for a statement, and was let in
+--     WantsMemory     a session was let in, and its statement failed with NoMemory
 --     HaltsAt         why a session's statement isn't answered
 --     EndsOne         the statement is answered, or the run stops at it
 --     SaysOne         what is noted of a statement that was answered
---     RunsOut         a session has no memory for one of its statements
+--     RunsOut         NoMemory has its cause at one of a session's statements
 --     StopsAt         why a run stops, and that the session has done nothing after that
 --     EndsAt          all statements were answered, or the run stopped
 --     HasRaced        a session before its run, and what its thread returns
@@ -52,16 +52,16 @@ pub record IsAddedBy (history : List Entry) (session : ℕ) (added : Added) : Ty
   pub at : slice_get history added.place ≡ Some added.entry
   pub own : added.entry.session ≡ session
 
--- the gate can have let the session go on, and the session has failed for want of memory. `place` is the line, counted
--- from 0 in the session's own statements
+-- the gate can have let the session go on, and its statement has failed with NoMemory, as `HasFailed` says. `place` is
+-- the line, counted from 0 in the session's own statements
 pub record WantsMemory (gate : ℕ → ℕ → Bool → Type 0) (place : ℕ) (statement : Statement)
     (old new : EndlessSession) : Type 0 where
   pub opened : gate (known_in old).number place true
   pub failed : HasFailed old.store.value.log statement NoMoreMemory new.member.replica old.member.pass new.member.pass
 
--- at GateShut the gate can have stopped the run, and the fault names the session and the statement that isn't answered;
--- at NoMemory there is no memory. No history is full, and no statement needs a thread. `place` is the line, counted
--- from 0 in the session's own statements
+-- at GateShut the gate can have stopped the run, the session has done nothing, and the fault names it and the statement
+-- that isn't answered; at NoMemory the statement has failed as `WantsMemory` says. No history is full, and no statement
+-- needs a thread. `place` is the line, counted from 0 in the session's own statements
 abbrev pub HaltsAt : (ℕ → ℕ → Bool → Type 0) → ℕ → Statement → RaceFault → EndlessSession → EndlessSession → Type 0
 HaltsAt gate place statement (GateShut session line) old new =
     (session ≡ (known_in old).number) × (line ≡ place) × IsTurnedAway gate session line (known_in old) (known_in new)
@@ -90,8 +90,8 @@ pub record SaysOne (gate : ℕ → ℕ → Bool → Type 0) (place : ℕ) (state
   pub few : length added ≤ 1
   pub own : All (IsAddedBy (known_in new).seen (known_in old).number) added
 
--- the statements before one were answered, the gate can have let the session go on there, and it has no memory for that
--- statement
+-- the statements before one were answered, the gate can have let the session go on there, and for that statement
+-- NoMemory has its cause, as `IsCaused` says
 pub record RunsOut (gate : ℕ → ℕ → Bool → Type 0) (before : Known) (statements : List Statement)
     (session : EndlessSession) : Type 0 where
   pub line : ℕ
@@ -153,7 +153,8 @@ abbrev pub seen_by_last : List EndlessSession → List Entry
 seen_by_last sessions = (last_known (map known_in sessions)).seen
 
 -- after their threads have ended, the sessions have met, and the answers are those that were noted. If each entry that
--- was noted is at its place in what the last session has seen, the outcome's history is that from the place `from` on
+-- was noted is at its place in what the last session has seen, and of a session up to `limit`, the outcome's history is
+-- that from the place `from` on, and all its entries are of such sessions
 pub record Settles (from : ℕ) (raced : List Raced) (outcome : LongOutcome) : Type 0 where
   pub taken : All (λ one. IsTakenIn (seen_by_last outcome.sessions.items) (known_in one.session)) raced
   pub keeps : AllZip (λ one session. Keeps one.session session) raced outcome.sessions.items

@@ -20,7 +20,7 @@ use Rattle.xa_races.specs.Long.{known_in}
 use Rattle.xa_races.specs.declared.long_run.LongRun.{LongRun}
 use Rattle.xa_races.specs.declared.long_outcome.LongOutcome.{LongOutcome}
 
--- the session of this number has seen nothing and has added nothing
+-- the run has these statements, and is that of the store's session of this number, which has seen and added nothing
 pub record IsNewRun (store : EndlessStore) (number : ℕ) (statements : List Statement) (run : LongRun) : Type 0 where
   pub store_is : run.session.store.value ≡ store
   pub number_is : (known_in run.session).number ≡ number

@@ -56,7 +56,8 @@ abbrev pub placed_text : ℕ → Bool → Answer → List ℕ
 placed_text session convert answer =
     decimal session ++ codes " " ++ decimal answer.place ++ codes " " ++ reply_text convert answer.reply ++ codes "\n"
 
--- a session's answers, each with whether its statement asks for hexadecimal, as far as both lists go
+-- the lines of a session's answers, as far as both lists go; the first list says of the statement of each whether it
+-- asks for hexadecimal
 unfoldable pub session_text : ℕ → List Bool → List Answer → List ℕ
 session_text session (convert ∷ asked) (answer ∷ answers) =
     placed_text session convert answer ++ session_text session asked answers

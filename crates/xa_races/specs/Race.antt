@@ -24,13 +24,13 @@ abbrev pub place_of_fault : Result Statement ℕ → Option ℕ
 place_of_fault (Ok statement) = None
 place_of_fault (Err place) = Some place
 
--- where a line is faulty; a line of no known form is faulty at its first byte (own rule)
+-- where a line is faulty: at this byte of its statement, from 0; a line of no known form at 0 (own rule)
 abbrev pub fault_place : Line → Option ℕ
 fault_place Blank = None
 fault_place Bad = Some 0
 fault_place (Given session text) = place_of_fault (read_of text)
 
--- what is written for the line of this number (own rule)
+-- what is written for the line of this number, which is faulty at this place; nothing if it isn't faulty (own rule)
 abbrev pub fault_text : ℕ → Option ℕ → List ℕ
 fault_text number None = []
 fault_text number (Some place) = codes "LINE " ++ decimal number ++ codes " " ++ syntax_text place ++ codes "\n"
@@ -74,7 +74,7 @@ part_at [] index = []
 part_at (list ∷ lists) zero = list
 part_at (list ∷ lists) (suc index) = part_at lists index
 
--- each session's list, session 1 first, gets what that session gives
+-- each session's list, session 1 first, gets at its end the statement that this session gives, if there is one
 abbrev pub Gains : (ℕ → Option Statement) → List (List Statement) → List (List Statement) → Type 0
 Gains given old new = (index : ℕ) → part_at new index ≡ part_at old index ++ option_to_list (given (index + 1))
 

@@ -35,8 +35,8 @@ pub record Tallied (came : List (List ℕ)) (tallies : List CameTally) : Type 0 
   pub counts : All (λ one. one.came ≡ times one.text.items came) tallies
   pub listed : All (Contains (texts_of tallies)) came
 
--- the list before the first race: all outcomes of the parts, if they are known; else it is empty, since there are too
--- many ways to know them
+-- the list before the first race: all outcomes of the parts, if they are known; else it is empty, and orders of one
+-- length lead to more ways than `ways_limit`
 abbrev pub AreFirst : Parts → (known : Bool) → List CameTally → Type 0
 AreFirst parts true tallies =
     (outcomes : List Outcome) × IsExplored parts outcomes × (texts_of tallies ≡ map (λ one. one.text.items) outcomes)
@@ -52,12 +52,12 @@ pub record IsCounted (parts : Parts) (runs : ℕ) (came : List (List ℕ)) (old 
   pub ascending : Pairwise ComesBefore (texts_of old) → Pairwise ComesBefore (texts_of new)
   pub only : texts_of old ≡ [] → All (Contains came) (texts_of new)
 
--- the outcomes of a list that came, the first of which has this number
+-- the outcomes of a list that came; the first of the list, also if it didn't come, has this number
 unfoldable pub tallies_text : ℕ → List CameTally → List ℕ
 tallies_text number [] = []
 tallies_text number (one ∷ tallies) = came_text number one.came one.text.items ++ tallies_text (number + 1) tallies
 
--- the outcomes of a list that came, and how many of the list did
+-- the outcomes of a list that came, and how many of the list did; the last line isn't ended yet
 abbrev pub counted_head : List CameTally → List ℕ
 counted_head tallies =
     tallies_text 1 tallies ++ codes "SEEN " ++ decimal (count_by (λ one. nat_lt 0 one.came) tallies)

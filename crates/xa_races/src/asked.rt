@@ -1,4 +1,4 @@
-//! Whether statements ask for identifiers in digits.
+//! Whether statements ask for identifiers in hexadecimal digits.
 ghost use Rattle.std.specs.Prelude.{◌≡◌, IfOk, map};
 ghost use Rattle.xa_lines.specs.Printed.{converts as converts_of};
 
@@ -6,8 +6,8 @@ use std::alloc::Global;
 use xa_lines::converts;
 use xa_xid::{NoMemory, Statement};
 
-/// For each of these statements, in order, whether it asks for identifiers in digits: `XA RECOVER CONVERT XID` alone
-/// does.
+/// For each of these statements, in order, whether it asks for identifiers in hexadecimal digits: `XA RECOVER CONVERT
+/// XID` alone does.
 fn asked_by(alloc: Global, statements: &[Statement]) -> Result<Vec<bool>, NoMemory>
     ensures { IfOk result (λ asked. asked.items ≡ map converts_of statements.now) }
 {
@@ -18,7 +18,7 @@ fn asked_by(alloc: Global, statements: &[Statement]) -> Result<Vec<bool>, NoMemo
     Ok(asked)
 }
 
-/// Tells of each statement of each list, in order, whether it asks for identifiers in digits.
+/// Tells of each statement of each list, in order, whether it asks for identifiers in hexadecimal digits.
 ///
 /// May return `NoMemory`. Doesn't wait.
 pub fn asked_of(alloc: Global, lists: &[Vec<Statement>]) -> Result<Vec<Vec<bool>>, NoMemory>

@@ -35,7 +35,7 @@ fn list_of(answers: &[Vec<Answer>], index: usize) -> &[Answer]
     }
 }
 
-/// Whether the statement of this text asks for identifiers in digits; false if the text isn't read as a statement.
+/// Whether the statement of this text asks for identifiers in hexadecimal digits; false if the text isn't read as one.
 fn converts_in(text: &[u8]) -> bool
     ensures { result ≡ converts_of (read_of text.now) }
 {

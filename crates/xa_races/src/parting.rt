@@ -1,4 +1,4 @@
-//! What the threads of a long race returned, as lists.
+//! What the threads of a race over a store without an end returned, as lists.
 ghost use Rattle.std.specs.Prelude.{◌≡◌, Some, None, map, slice_get, IfOk, IfSome};
 ghost use Rattle.std.specs.List.{All};
 ghost use Rattle.xa_races.specs.declared.racer.Raced.{Raced as RacedValue};
@@ -23,7 +23,7 @@ pub(crate) struct Parts {
     pub(crate) added: Vec<Vec<Added>>,
 }
 
-/// Splits what the threads returned into three lists in the same order. Faults are left out: the caller has seen by
+/// Splits what the threads returned into three lists in the same order. Faults are left out: `race_on` has seen by
 /// `first_fault` that there are none.
 pub(crate) fn part(alloc: Global, raced: Vec<Raced>) -> Result<Parts, NoMemory>
     ensures sessions { IfOk result (λ parts. parts.sessions.items ≡ map (λ one. one.session) raced.items) }

@@ -44,8 +44,8 @@ fn push_history(alloc: Global, text: &mut Vec<u8>, history: &[Entry]) -> Result<
     push_entries(alloc, text, history)
 }
 
-/// Appends the line of an answer: its session, its place and the reply, with recovered identifiers in digits if
-/// `convert` is true.
+/// Appends the line of an answer: its session, its place and the reply, with recovered identifiers in hexadecimal
+/// digits if `convert` is true.
 fn push_answer(
     alloc: Global,
     text: &mut Vec<u8>,
@@ -64,7 +64,7 @@ fn push_answer(
 }
 
 /// Appends the lines of a session's answers. `asked` has, for each, whether its statement asks for
-/// identifiers in digits.
+/// identifiers in hexadecimal digits.
 fn push_session(
     alloc: Global,
     text: &mut Vec<u8>,
@@ -119,7 +119,7 @@ fn push_answers(
 
 /// Prints the outcome of a race of a script's runs: the history, then each session's answers.
 ///
-/// `asked` has, for each statement of each session, whether it asks for identifiers in digits.
+/// `asked` has, for each statement of each session, whether it asks for identifiers in hexadecimal digits.
 /// May return `NoMemory`. Doesn't wait.
 /// Own rule: docs/COMMANDS.md#race.
 pub fn print_outcome(

@@ -1,4 +1,4 @@
-//! A session of a long race, on its thread.
+//! A session of a race over a store without an end, on its thread.
 ghost use Rattle.std.specs.Prelude.{◌≡◌, ◌≤◌, [], length, vec_capacity};
 ghost use Rattle.chain_log.specs.RingPass.{known_of};
 ghost use Rattle.xa_store.specs.Gathered.{AddsNothing};
@@ -39,11 +39,12 @@ pub struct Raced {
     pub(crate) fault: Option<RaceFault>,
 }
 
-/// How often a session calls `leave_checkpoint` before it gives up. Most sessions have a checkpoint for a few steps
+/// How often a session calls `leave_checkpoint` before it gives up. Most sessions use a checkpoint for a few steps
 /// only, so mostly one can be had long before that.
 const TURNS: u64 = 1_000_000;
 
-/// Leaves a checkpoint that has replayed at least as much as the session; gives up after `TURNS` calls.
+/// Leaves a checkpoint that has replayed at least as much as the session, unless the store has none; gives up after
+/// `TURNS` calls.
 ///
 /// A session tends checkpoints only after its answers. Without this last one, a session that is behind might find none
 /// to go on from.

@@ -38,9 +38,9 @@ fn write_came<O: PieceWriter>(writer: &mut O, came: &Came) -> Result<Ended, Scri
 ///
 /// The script is one for `xa_orders::explore_script`, and is read whole. `runs` is in `[1, 1000000]`. Each
 /// race has a store of its own. The lines before are carried out one after another, then the lines side by
-/// side race, each session on its own thread, then the later lines are carried out one after another. The log
-/// has room for `capacity` entries, in `[1, 1024]`, of the lines side by side; if `renews` is true, the log
-/// has no end, and its ring has as many rows. All races ask the same `gate`, before the lines side by side alone. If
+/// side race, each session on its own thread, then the later lines are carried out one after another. The
+/// store's ring has `capacity` rows, in `[1, 1024]`. If `renews` is false, the lines side by side have room for
+/// as many entries, else for any number. All races ask the same `gate`, before the lines side by side alone. If
 /// more than 100,000 ways that have carried out equally many lines are known to differ, not all outcomes are known:
 /// those that came are then numbered in ascending order, and only how many came is written. Nothing is written before
 /// all races have ended. The writer isn't flushed.

@@ -40,9 +40,9 @@ pub struct Came {
     pub text: Vec<u8>,
 }
 
-/// Races the script `runs` times, and counts each outcome in `tallies` as it comes. `course`, empty at first, notes
-/// the same races. `capacity`, `renews` and `gate` are those of `runs_script`. Stops at the first race with a fault,
-/// which is returned.
+/// Races the script `runs` times, and counts each outcome in `tallies`, whose counts are 0 at first, as it comes.
+/// `course`, empty at first, notes the same races. `capacity`, `renews` and `gate` are those of `runs_script`. Stops at
+/// the first race with a fault, which is returned.
 fn count_runs<G: Gate + Sync, R: Threads + Wait + Sync>(
     rt: &R,
     alloc: Global,
@@ -92,7 +92,7 @@ fn outcomes_of(alloc: Global, script: &Script<'_>) -> Result<Option<Vec<Outcome>
         (λ found. found ≡ None
         → IsWide script.now.beside.items (base_of (parts_of (read_kept script.now))) ways_limit) }
 {
-    // `explore` takes the rows, and the script is still needed for the races.
+    // `explore` takes the list of keys, and the script is still needed for the races.
     let written = copy_keys(alloc, script.written.as_slice())?;
     explore(
         alloc,

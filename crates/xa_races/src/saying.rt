@@ -1,4 +1,4 @@
-//! One session of a long race executes its statements, one after another.
+//! One session of a race over a store without an end executes its statements, one after another.
 ghost use Rattle.std.specs.Prelude.{◌≡◌, ◌≤◌, ◌+◌, [], Err, length, vec_capacity, OnOk, OnErr, IfErr};
 ghost use Rattle.std.specs.List.{All};
 ghost use Rattle.xa_server.specs.State.{no_state};
@@ -42,8 +42,8 @@ fn answer_one<G: Gate, R: Wait>(
     }
 }
 
-/// Has the session say its statement at `line`, as `answer_one` does, and notes in `said` its answer and, if it was
-/// logged, its entry.
+/// Has the session say its statement at `line`, as `answer_one` does, and notes in `said`, which has room for both, its
+/// answer and, if it was logged, its entry.
 ///
 /// Errors: those of `answer_one`; nothing is noted then.
 fn say_one<G: Gate, R: Wait>(

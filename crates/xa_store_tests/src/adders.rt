@@ -23,7 +23,7 @@ fn delete(session: SessionNo, letter: u8) -> Option<Entry>
     Entry::of(session, &Statement::Del(Key::of(name)?))
 }
 
-/// Adds an entry, trying again if others were faster or have the turn.
+/// Whether an entry is added. It is tried again if others were faster or have the turn, but not in a full log.
 fn add<L: DecisionLog>(log: &L, pass: &mut L::Pass, entry: &Entry) -> bool
     requires belongs { L.belongs_to pass.old ≡ L.identity log.now }
     requires own { entry.now.session ≡ (L.known pass.old).number }
@@ -40,7 +40,8 @@ fn add<L: DecisionLog>(log: &L, pass: &mut L::Pass, entry: &Entry) -> bool
     false
 }
 
-/// Adds `EACH` entries, each of its own step.
+/// Adds `EACH` entries, each of which deletes the row of its step's number. Returns the pass, and whether all were
+/// added.
 fn add_each<L: DecisionLog>(log: &L, mut pass: L::Pass) -> (L::Pass, bool)
     requires { L.belongs_to pass ≡ L.identity log.now }
     ensures { L.belongs_to result.0 ≡ L.identity log.now }
@@ -78,8 +79,8 @@ fn has_each<L: DecisionLog>(log: &L, pass: &mut L::Pass, session: SessionNo) -> 
     step == EACH
 }
 
-/// Two threads, each its own, add `EACH` entries each to a log with room for them; then the passes meet, and
-/// the second has seen each one's in its order.
+/// Two threads, each with its own pass, add `EACH` entries each to a log with room for them. Returns whether all were
+/// added, and the second pass, once the first has met it, has seen each one's in its order, and nothing else.
 ///
 /// Takes what starting threads takes. Waits for its threads.
 pub fn two_threads_add<L: DecisionLog + Sync, R: Threads>(

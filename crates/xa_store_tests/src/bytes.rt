@@ -35,7 +35,7 @@ fn key_of(text: &[u8]) -> Option<Key> {
     Key::of(read_literal(text, 0).ok()?.0)
 }
 
-/// Whether an identifier stands before another one, and each is the same as itself alone.
+/// Whether an identifier stands before another one, and the other is the same as itself and not as the first.
 fn xid_stands_before(before: &Xid, xid: &Xid) -> bool {
     order_of_xids(before, xid) == Ordering::Less
         && order_of_xids(xid, before) == Ordering::Greater
@@ -206,7 +206,8 @@ fn line_feeds_are_blanks_and_places_count_bytes(rt: HostRuntime) {
     assert!(rt; literal_ends_at(b"k '\x00\xff'", 2, 6));
 }
 
-/// Whether a byte is read as the key between the quotes of a `GET`. A quote and a backslash can't be.
+/// Whether a byte is read as the key between the quotes of a `GET`. A quote and a backslash can't be: then the literal,
+/// which begins at byte 3, has to be wrong.
 fn is_read_in_quotes(byte: u8) -> bool {
     let text = [b'G', b'E', b'T', b'"', byte, b'"'];
     if byte == b'"' || byte == b'\\' {

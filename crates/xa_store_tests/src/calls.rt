@@ -50,7 +50,7 @@ pub(crate) fn told<S: Speak, T: Speak, R: Abort + Wait>(
     text
 }
 
-/// Whether a manager answers a call so, in which `|` stands for a line feed before another one.
+/// Whether a manager answers a call so: without the last line feed, and with `|` for each other one.
 pub(crate) fn is_told<S: Speak, T: Speak, R: Abort + Wait>(
     rt: &R,
     alloc: Global,

@@ -1,7 +1,7 @@
 //! Lines that hold their expected answers.
 
-/// Returns what a line gives, and the expected answer, which is the text after `= `. It is empty if the line
-/// has no `=`.
+/// Returns what a line gives, which is the text before its first `=`, and the expected answer, which is the text after
+/// `= `. If no space follows the `=`, the answer begins with it. It is empty if the line has no `=`.
 ///
 /// Takes no memory. Doesn't wait.
 pub fn split_case(line: &[u8]) -> (&[u8], &[u8]) {
@@ -16,7 +16,7 @@ pub fn split_case(line: &[u8]) -> (&[u8], &[u8]) {
     }
 }
 
-/// Returns whether a text is this answer, in which `|` stands for each line feed.
+/// Returns whether a text is this answer, in which `|` may stand for a line feed.
 ///
 /// Takes no memory. Doesn't wait.
 pub fn is_answer(text: &[u8], wanted: &[u8]) -> bool {

@@ -82,7 +82,7 @@ pub(crate) fn works<S: Speak, R: Abort + Wait>(
     transaction
 }
 
-/// The vote of Ready of transaction 1, which puts a row in both stores.
+/// The vote of Ready of a transaction that puts a row in both stores, and is then decided if `decides`.
 fn voted<S: Speak, R: Abort + Wait>(
     rt: &R,
     coordinator: &mut Coordinator<S>,
@@ -105,7 +105,7 @@ fn voted<S: Speak, R: Abort + Wait>(
     prepared
 }
 
-/// Whether a recovery counts so many commits and rollbacks.
+/// A recovery of two stores counts so many commits and rollbacks, and nothing as missing.
 pub(crate) fn recovers<S: Speak, R: Abort + Wait>(
     rt: &R,
     alloc: Global,
@@ -405,7 +405,7 @@ fn transaction_ends_as_decided_on_renewed_stores(rt: HostRuntime) {
     }
 }
 
-/// A coordinator begins as many transactions as there are numbers, and no more.
+/// A coordinator begins as many transactions as there are numbers, 1 to 1,000,000, and no more.
 fn spends<S: Speak, R: Abort + Wait>(rt: &R, alloc: Global, coordinator: &Coordinator<S>) {
     let mut decisions = Decisions::new(alloc);
     for _ in 0..1_000_000 {

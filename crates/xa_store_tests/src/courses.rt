@@ -29,7 +29,8 @@ enum Course {
     Abandons,
 }
 
-/// Has a manager answer the calls of a script. One that a session had no memory for is made again.
+/// Has a manager answer the calls of a script. One that isn't answered as wanted is made again, since a session may
+/// have had no memory for it.
 fn survives<S: Speak, T: Speak, R: Abort + Wait>(
     rt: &R,
     alloc: Global,
@@ -62,7 +63,7 @@ fn is_carried_out<S: Speak, T: Speak, R: Abort + Wait>(
     is_so
 }
 
-/// A transaction that works in one store or in both.
+/// Transaction 1 works in store 0, and in store 1 unless it `is_alone`.
 fn works<S: Speak, T: Speak, R: Abort + Wait>(
     rt: &R,
     alloc: Global,
@@ -76,7 +77,7 @@ fn works<S: Speak, T: Speak, R: Abort + Wait>(
     }
 }
 
-/// Whether its vote is returned.
+/// Whether the vote of transaction 1 is returned: ONE PHASE if it works in one store, else READY.
 fn is_ready<S: Speak, T: Speak, R: Abort + Wait>(
     rt: &R,
     alloc: Global,
@@ -91,7 +92,7 @@ fn is_ready<S: Speak, T: Speak, R: Abort + Wait>(
     is_carried_out(rt, alloc, manager, b"PREPARE 1", vote)
 }
 
-/// Whether its end is returned.
+/// Whether the end of transaction 1 is returned: COMMITTED if it `commits`, else ROLLED BACK.
 fn has_ended<S: Speak, T: Speak, R: Abort + Wait>(
     rt: &R,
     alloc: Global,
@@ -106,7 +107,7 @@ fn has_ended<S: Speak, T: Speak, R: Abort + Wait>(
     is_carried_out(rt, alloc, manager, b"FINISH 1", end)
 }
 
-/// What a coordinator's course leaves in the two stores once it is recovered: whether the row is there.
+/// Has a coordinator take a course. Returns for each of the two stores whether the row is there after a recovery.
 fn takes<S: Speak, T: Speak, R: Abort + Wait>(
     rt: &R,
     alloc: Global,
@@ -158,7 +159,8 @@ fn is_recovered<S: Speak, T: Speak, R: Abort + Wait>(
     is_so
 }
 
-/// A second coordinator of the name ends what the first left. If there was no memory, it recovers again.
+/// A coordinator takes a course and is stopped, and a second one of the name ends what it left. If there was no memory,
+/// it recovers again. Then each store has the row if `takes` says so.
 fn recovers<S: Speak, T: Speak, R: Abort + Wait>(
     rt: &R,
     alloc: Global,

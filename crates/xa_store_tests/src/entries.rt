@@ -136,7 +136,7 @@ fn text(size: usize) -> Bytes {
     text
 }
 
-/// The identifier of texts of these sizes.
+/// The identifier of texts of these sizes, with the greatest formatID.
 fn xid(first: usize, second: usize) -> Xid {
     Xid {
         format_id: u64::MAX,
@@ -145,7 +145,7 @@ fn xid(first: usize, second: usize) -> Xid {
     }
 }
 
-/// The statement of a kind with texts of these sizes.
+/// The statement of a kind, by its number in an entry, with texts of these sizes; `None` if its key would be empty.
 fn of_kind(kind: u64, first: usize, second: usize) -> Option<Statement> {
     match kind {
         1 => Some(Statement::Start(xid(first, second))),
@@ -163,7 +163,7 @@ fn of_kind(kind: u64, first: usize, second: usize) -> Option<Statement> {
     }
 }
 
-/// Whether an entry of session 16 is words of this kind and back, and is a statement and its own copy.
+/// Whether an entry is words of this kind and back, has this statement, equals its copy, and is of session 16.
 fn is_kept(kind: u64, statement: &Statement, entry: &Entry) -> bool {
     let words = encode(entry);
     words[1] == kind
@@ -207,6 +207,7 @@ fn kept_of(kind: u64) -> u64 {
 fn every_kind_and_size_is_there_and_back(rt: HostRuntime) {
     for kind in 1..11 {
         let kept = kept_of(kind);
+        // Of 49 pairs of sizes, kinds 7 to 9 don't have the 7 whose first text is empty, since it is a key.
         let wanted = if 7 <= kind && kind <= 9 { 42 } else { 49 };
         assert!(rt; kept == wanted, "{kept} of kind {kind}");
     }

@@ -5,7 +5,7 @@ use std::thread::yield_now;
 use xa_store::Gate;
 use xa_xid::SessionNo;
 
-/// A gate that lets two sessions pass only when both have come to it.
+/// A gate that lets sessions 1 and 2 pass once both have come to it, and stops one that has waited too long.
 #[derive(Drop)]
 pub(crate) struct Rendezvous {
     pub(crate) first: AtomicU64,
@@ -29,7 +29,7 @@ impl Gate for Rendezvous {
     }
 }
 
-/// A gate that shuts session 1 before its second statement, and each other session before statement `others`.
+/// A gate that stops session 1 before its second statement, and each other session before statement `others`, from 0.
 #[derive(Drop)]
 pub(crate) struct ShutsFirst {
     pub(crate) others: u64,
@@ -63,8 +63,8 @@ impl Gate for CountsQuestions {
 }
 
 /// A gate that keeps an account of what it is told and asked by sessions 1 and 2, and stops both from one
-/// line on. A question is odd if it isn't the session's next one, if it follows a refusal, or if it comes
-/// before all was announced.
+/// line on. A question is odd if it isn't the session's next one, if it follows a refusal, or if runs weren't
+/// announced exactly once before it.
 #[derive(Drop)]
 pub(crate) struct KeepsAccount {
     /// How often runs were announced.

@@ -14,7 +14,7 @@ use xa_session::Session;
 use xa_store::{Log, Pass, Store};
 use xa_words::Entry;
 
-/// Asks for the history of a store, with which its sessions stay.
+/// The history of a store, asked of its sessions, which stay; `None` if there was no memory.
 fn asked(alloc: Global, store: &Store, sessions: &mut Vec<Session<'_, Log>>) -> Option<Vec<Entry>>
     requires { All (λ session. log_of session.pass ≡ identity_of store.now.log) sessions.old.items }
     ensures { All (λ session. log_of session.pass ≡ identity_of store.now.log) sessions.new.items }
@@ -83,7 +83,7 @@ fn added<'s, R: Abort + Wait>(
     sessions
 }
 
-/// Whether each session has seen the whole history.
+/// Whether each session has seen four entries before it looks, and these are `HISTORY`.
 fn have_seen_all(sessions: &mut Vec<Session<'_, Log>>) -> bool {
     for session in sessions.iter_mut() {
         if session.seen() != 4 || !has_history(session, HISTORY) {

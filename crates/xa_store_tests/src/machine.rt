@@ -1,6 +1,6 @@
 //! A coordinator that is stopped, fails or is met by another client at each of its calls, recovers, and is
-//! held to an account that the test keeps: the transaction is committed in all its stores or in none, and in
-//! all if it was decided.
+//! held to an account that the test keeps: a store has the row if, and only if, the transaction was decided,
+//! unless another client has committed or rolled back the branch there. A recovery may fail only in a full log.
 ghost use Rattle.std.specs.Prelude.{◌≡◌};
 ghost use Rattle.std.specs.List.{All};
 ghost use Rattle.xa_store.specs.Passes.{identity_of, log_of};
@@ -45,6 +45,7 @@ fn share(calls: u8, store: u8) -> u64 {
 
 /// What happens in a store under a plan.
 fn way_in(plan: Plan, store: u8) -> Way {
+    // All sessions stop together, and a recovery lists in all stores. All else is at one call, so in one store.
     let is_everywhere = matches!(plan.way, Way::Stop | Way::Forestall | Way::Outrun);
     if is_everywhere || CALLS.get(plan.call as usize).copied() == Some(store) {
         plan.way
@@ -56,7 +57,7 @@ fn way_in(plan: Plan, store: u8) -> Way {
 /// The coordinator's sessions, and the other clients'.
 type ThreeSeats<'a> = Seats<Meddled<'a, Session<'a, Log>>, Session<'a, Log>>;
 
-/// Seats the coordinator's session of a store of three, and another client's.
+/// Seats two sessions of a store that has three: the coordinator's, which the other client meddles with, and a reader.
 fn seat<'a>(
     rt: &impl Abort,
     seats: &mut ThreeSeats<'a>,
@@ -83,7 +84,7 @@ fn seat<'a>(
     seats.seat(rt, meddled, reader);
 }
 
-/// Three accounts.
+/// The accounts of three stores, each as `Meddled` keeps it.
 type Accounts = [AtomicU64; 3];
 
 /// Whether transaction 1 works in all three stores.
@@ -127,7 +128,8 @@ fn count_of(accounts: &[u64; 3], number: u64) -> u64 {
     count
 }
 
-/// Whether the other client of a store finds what its account says.
+/// Whether the reader of a store finds by `get` what its account says: the row, if the other client has committed it,
+/// or if it was decided and the other client hasn't rolled it back.
 fn agrees_at<S: Speak, T: Speak, R: Abort + Wait>(
     rt: &R,
     alloc: Global,
@@ -145,7 +147,7 @@ fn agrees_at<S: Speak, T: Speak, R: Abort + Wait>(
     is_told(rt, alloc, manager, get, wanted)
 }
 
-/// Whether the other client of each store finds what the account says.
+/// Whether the reader of each store finds what its account says.
 fn agrees<S: Speak, T: Speak, R: Abort + Wait>(
     rt: &R,
     alloc: Global,
@@ -277,7 +279,7 @@ fn stops<S: Speak, T: Speak, R: Abort + Wait>(
         && manager.decisions().is_decided(1) == is_decided
 }
 
-/// Runs one combination.
+/// Runs one combination. Only if all three stores had prepared may the transaction be decided.
 fn combination<S: Speak, T: Speak, R: Abort + Wait>(
     rt: &R,
     alloc: Global,
@@ -348,7 +350,7 @@ fn run<R: Abort + Wait>(rt: &R, alloc: Global, plan: Plan, script: &[u8]) {
     drop(three);
 }
 
-/// 7 ways at 16 calls, decided and not: 224 combinations.
+/// 7 ways at each of 15 calls and behind the last, decided and not: 224 combinations.
 #[test]
 fn transaction_ends_alike_in_all_stores_whatever_happens_at_whichever_call(rt: HostRuntime) {
     let ways = [

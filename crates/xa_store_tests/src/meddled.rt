@@ -29,7 +29,7 @@ pub(crate) enum Way {
     Prepare,
     /// After each list another client rolls the first listed branch back.
     Forestall,
-    /// Before every second list another client prepares a branch of this coordinator's naming.
+    /// Before each list but the first another client prepares a branch of this coordinator's naming.
     Outrun,
 }
 
@@ -99,7 +99,8 @@ fn rolls_back<S: Speak>(rt: &impl Wait, other_client: &mut S, xid: &Xid) -> bool
         && does(rt, other_client, &Statement::Rollback(xid.copy()))
 }
 
-/// Has another client add to the history until there is no room.
+/// Has another client add to the history until there is no room: 64 branches, of three entries each, are more than its
+/// store holds.
 fn fill<S: Speak>(rt: &impl Wait, other_client: &mut S, store: u8) {
     for number in 0..64 {
         let xid = xid_of_branch(&name(b'f'), number, store);
@@ -181,7 +182,7 @@ impl<'a, S: Speak> Meddled<'a, S> {
         }
     }
 
-    /// Whether a call fails.
+    /// Has the other client do what it does before a call, and returns whether the call fails.
     fn fails(&mut self, rt: &impl Wait, statement: &Statement) -> bool
         ensures { self.new.inner ≡ self.old.inner }
     {
@@ -204,7 +205,7 @@ impl<'a, S: Speak> Meddled<'a, S> {
         fails
     }
 
-    /// Notes what an answer tells of the branch.
+    /// Notes what an answer tells of the branch, and which branch is listed first, if it is to be rolled back.
     fn note(&mut self, statement: &Statement, answered: &Result<Answer, Fault>)
         ensures { self.new.inner ≡ self.old.inner }
     {

@@ -13,7 +13,7 @@ use xa_words::Entry;
 use xa_xid::Statement;
 
 /// Has a session answer a statement: one of an odd number attempts it, the others execute it. If there was no
-/// memory and nothing was added to the history, it is given once more.
+/// memory and nothing was added to the history, it is attempted once more.
 fn given<L: DecisionLog, R: Wait>(
     rt: &R,
     session: &mut Session<'_, L>,
@@ -33,7 +33,8 @@ fn given<L: DecisionLog, R: Wait>(
     }
 }
 
-/// Returns whether a session answers a statement as wanted, and its replica lacks at most one entry.
+/// Returns whether a session answers a statement as wanted, and then its replica lacks at most one entry; or finds the
+/// log full, if `FULL` is wanted.
 fn answers<L: DecisionLog, R: Wait>(
     rt: &R,
     alloc: Global,

@@ -12,7 +12,7 @@ use xa_server::{Reply, Server};
 use xa_session::{Answer, Fault, Session};
 use xa_xid::{Bytes, Statement, Xid};
 
-/// The identifier of this gtrid, with an empty bqual and formatID 1.
+/// The identifier whose gtrid is this letter, with an empty bqual and formatID 1.
 fn xid(letter: u8) -> Xid {
     let mut gtrid = Bytes::new();
     gtrid.push(letter);
@@ -23,7 +23,7 @@ fn xid(letter: u8) -> Xid {
     }
 }
 
-/// Whether a statement was carried out, wherever.
+/// Whether a statement was carried out, at whichever place.
 fn is_ok(answer: &Result<Answer, Fault>) -> bool {
     match answer {
         Ok(
@@ -75,8 +75,8 @@ fn lists_both<L: DecisionLog>(session: &mut Session<'_, L>) -> bool {
     }
 }
 
-/// Two sessions in threads of their own prepare a branch each, in a log with room for six entries. After they
-/// have met, the second has seen all six, and lists both branches.
+/// Two sessions in threads of their own prepare a branch each, in a log with room for six entries. Returns whether,
+/// after they have met, the second has seen as many entries as the first, or more, and lists both branches at place 6.
 ///
 /// May take memory, and what starting threads takes. Waits for its threads.
 pub fn two_threads_prepare<'a, L: DecisionLog + Sync, R: Abort + Threads + Wait + Sync>(

@@ -17,7 +17,7 @@ use xa_store::{
 };
 use xa_xid::{SessionNo, Statement};
 
-/// Whether a session was answered that the branch is another's, at place 1.
+/// Whether a session was answered XAER_DUPID, that the branch exists, at place 1.
 fn is_dupid(answer: &Answer) -> bool {
     answer.place == 1 && matches!(answer.reply, Reply::Refused(XaError::Dupid))
 }
@@ -29,7 +29,7 @@ pub(crate) fn are_done_in_order(answers: &[Answer]) -> bool {
     })
 }
 
-/// Whether one of two sessions has started the branch, and the other was answered so.
+/// Whether one of two sessions has started the branch, and the other was answered XAER_DUPID.
 fn is_started_once(outcome: &Outcome) -> bool {
     let ([first, second], [entry]) = (outcome.answers.as_slice(), outcome.history.as_slice()) else {
         return false;
@@ -191,7 +191,7 @@ fn gate_stops_one_run_and_no_other(rt: HostRuntime) {
 /// Two sessions, the first with two statements.
 const SHUT: &[u8] = b"1 XA START 'a'\n1 XA END 'a'\n2 XA START 'b'\n";
 
-/// The fault of a race of these, the second first.
+/// The fault of a race of the sessions of `SHUT`, the second first.
 fn fault_of_the_second_first<R: Abort + Threads + Wait + Sync>(
     rt: &R,
     alloc: Global,
@@ -215,8 +215,8 @@ fn fault_of_the_lowest_session_is_told(rt: HostRuntime) {
 const SPEAKERS: &[u8] =
     b"1 XA START 'a'\n1 XA END 'a'\n1 XA RECOVER\n1 XA PREPARE 'a'\n2 XA RECOVER\n2 PUT 'k','v'\n2 GET 'k'\n";
 
-/// A race of these sessions, whose gate is told once that there are two runs. Each session asks it once
-/// before each of its lines, in order.
+/// A race of these sessions, whose gate stops each of them at line `shut_from`, and is told once that two runs have
+/// statements. Sessions 1 and 2 ask it so often: once before each line that they come to, in order.
 fn is_asked_in_order<R: Abort + Threads + Wait + Sync>(
     rt: &R,
     alloc: Global,
@@ -280,7 +280,7 @@ fn is_written(outcome: &Outcome) -> bool {
     outcome.history.len() == 16 && outcome.answers.len() == 2
 }
 
-/// Each write is carried out, at a place of its own.
+/// A race of these writes, through a gate: each is carried out, and 16 are in the history.
 fn write_all<G: Gate + Sync, R: Abort + Threads + Wait + Sync>(rt: &R, alloc: Global, gate: &G) {
     let outcome = outcome_of(rt, raced(rt, alloc, 16, 2, WRITES, gate));
     let is_written = is_written(&outcome);
@@ -330,7 +330,8 @@ fn is_raced<R: Abort + Threads + Wait + Sync>(
     }
 }
 
-/// Whether a third session finds the branch that two have raced for started exactly if the history has it.
+/// Whether a third session sees one entry after two have raced to start a branch; or at most one, if the race lacked
+/// memory or a thread.
 fn is_found<R: Abort + Threads + Wait + Sync>(
     rt: &R,
     alloc: Global,
@@ -348,8 +349,8 @@ fn is_found<R: Abort + Threads + Wait + Sync>(
     count <= 1 && (!is_raced || count == 1)
 }
 
-/// Two sessions start one branch at once, in a store of three. A third then finds it started exactly if the
-/// history has it.
+/// Two sessions start one branch at once, in a store of three. A third then sees one entry, or at most one if the
+/// race lacked memory or a thread.
 #[test]
 fn race_survives(rt: HostRuntime) {
     let (store, first, second, third) = three_passes(&rt, rt.alloc(), 1024);

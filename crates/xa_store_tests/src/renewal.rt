@@ -96,7 +96,7 @@ pub(crate) fn play<R: Abort + Wait>(
     assert!(rt; found.is_none(), "{found:?}");
 }
 
-/// Sessions 1 and 2 of a store play a script. Session 1 may be dropped then; the others are given in order.
+/// Sessions 1 and 2 of a store play a script. With `Way::Drop` session 1 is dropped then. Returns the rest in order.
 fn played<'s, R: Abort + Wait>(
     rt: &R,
     alloc: Global,
@@ -122,7 +122,7 @@ fn played<'s, R: Abort + Wait>(
     sessions
 }
 
-/// Sessions 1 and 2 play a script and leave. Session 1 may be dropped before session 2 leaves.
+/// Sessions 1 and 2 play a script and leave. With `Way::Drop` session 1 is dropped before session 2 leaves.
 fn generation<R: Abort + Wait>(
     rt: &R,
     alloc: Global,
@@ -139,8 +139,8 @@ fn generation<R: Abort + Wait>(
     left(rt, alloc, store, sessions)
 }
 
-/// The store as it goes on, and its new passes. If that was refused at first, the store plays the script that
-/// it plays when full.
+/// The store as it goes on, and its new passes. If there was no memory for that at first, the store plays `still`
+/// in the history that it has, and is then asked again.
 pub(crate) fn gone_on<R: Abort + Wait>(
     rt: &R,
     alloc: Global,
@@ -182,8 +182,8 @@ fn next_history<R: Abort + Wait>(
     gone_on(rt, alloc, way, store, passes, still)
 }
 
-/// A store with so much room plays each script in a history of its own, and goes on between them. If it
-/// can't at first for lack of memory, it plays `still` in the history that it has.
+/// A store with so much room plays each script in a history of its own, and goes on between them. If it can't go on
+/// from the first for lack of memory, it plays `still` there before it tries again.
 fn goes_on<R: Abort + Wait>(
     rt: &R,
     alloc: Global,

@@ -6,7 +6,7 @@ use xa_lines::{converts, push_number, push_reply};
 use xa_server::Reply;
 use xa_xid::{NoMemory, Statement};
 
-/// A place, if there is one, and a reply as a run prints it.
+/// A place, if there is one, and a reply as a run prints it, with the identifiers of a list in digits if `convert`.
 fn text_of(
     alloc: Global,
     place: Option<u64>,

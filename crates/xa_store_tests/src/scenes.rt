@@ -30,7 +30,7 @@ pub(crate) enum Scene {
     Prepares,
 }
 
-/// An add that is overtaken then stands, until the log is full.
+/// An add that was overtaken succeeds when it is tried again, and then the log is full.
 const IN_TURN: &[u8] = b"1 LOOK = 0
 1 XA START 'a' = OK 1
 2 XA START 'b' = OVERTAKEN 1
@@ -65,7 +65,7 @@ const OUTDATED: &[u8] = b"1 PUT 'k','v' = OK 1
 2 LOOK = 3
 ";
 
-/// A branch reads a row twice, of which only the first is logged. Then it writes the row that it shares.
+/// A branch reads a row twice, and only the first read is logged. Then it writes the row that it shares.
 const SHARED: Scene = Scene::Plays(
     b"1 XA START 'a' = 0 OK
 1 GET 'k' = 1 NONE
@@ -112,7 +112,7 @@ pub(crate) const SCENES: [(u64, Scene); 10] = [
     (8, Scene::Prepares),
 ];
 
-/// The last pass of a list.
+/// Takes the last pass out of a list of passes of a log. Only the contract names the log.
 fn last_pass<L: DecisionLog>(rt: &impl Abort, log: &L, passes: &mut Vec<L::Pass>) -> L::Pass
     requires { All (λ pass. L.belongs_to pass ≡ L.identity log.now) passes.old.items }
     ensures own { L.belongs_to result ≡ L.identity log.now }
@@ -126,7 +126,7 @@ fn last_pass<L: DecisionLog>(rt: &impl Abort, log: &L, passes: &mut Vec<L::Pass>
 }
 
 impl Scene {
-    /// Shows the scene by the first two passes of a log.
+    /// Shows the scene by the last two passes of a list.
     pub(crate) fn show<L: DecisionLog + Sync, R: Abort + Threads + Wait + Sync>(
         self,
         rt: &R,

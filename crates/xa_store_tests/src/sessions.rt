@@ -116,8 +116,8 @@ where
     drop(base);
 }
 
-/// Whether a session has replayed its four entries, and another one all of them once it has looked; asked again, it
-/// answers the same with nothing to replay.
+/// Whether a session has replayed its four entries, and another one too, which finds no more by a look; asked again,
+/// that one answers at place 4 with nothing to replay.
 fn have_kept<L: DecisionLog>(
     rt: &impl Abort,
     first: &Session<'_, L>,

@@ -86,7 +86,7 @@ const XIDS: &str = r#"'a' , 0x4 => 9 0x61,0x04,1
  => fault 1 at 0
 "#;
 
-/// A statement, and its canonical text, or the place of its fault.
+/// A statement, and its canonical text, or `unsupported`, or the place of its fault.
 const STATEMENTS: &str = r#"xa begin'a'; => XA START 0x61,X'',1
 Xa bEgIn 'a' , 'b' , 7 => XA START 0x61,0x62,7
 XA START '',X'',0xFFFFFFFFFFFFFFFF => XA START X'',X'',18446744073709551615
@@ -121,7 +121,7 @@ fn numbered(alloc: Global, before: &[u8], number: u64, after: &[u8]) -> Option<V
     Some(text)
 }
 
-/// Two numbers after two texts.
+/// Two numbers, each after a text.
 fn numbered_twice(
     alloc: Global,
     before: &[u8],

@@ -159,7 +159,7 @@ fn stops<S: Speak, R: Abort + Wait>(rt: &R, alloc: Global, coordinator: &mut Coo
     recovers(rt, alloc, coordinator, &mut decisions, 0, 0);
 }
 
-/// A store of two sessions, and the pass of the first. The other session is given up.
+/// A store of two sessions, and the pass of the first. The other pass is given up.
 fn first_pass(rt: &impl Abort, alloc: Global, capacity: u64) -> (Store, Pass)
     ensures { log_of result.1 ≡ identity_of result.0.log }
 {

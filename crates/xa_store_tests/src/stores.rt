@@ -56,7 +56,7 @@ pub(crate) fn joined<'a>(rt: &impl Abort, store: &'a Store, pass: Pass) -> Sessi
     }
 }
 
-/// The last pass of a list.
+/// Takes the last pass out of a list of passes of a store. Only the contract names the store.
 pub(crate) fn last_pass(rt: &impl Abort, store: &Store, passes: &mut Vec<Pass>) -> Pass
     requires { All (λ pass. log_of pass ≡ identity_of store.now.log) passes.old.items }
     ensures own { log_of result ≡ identity_of store.now.log }
@@ -69,7 +69,7 @@ pub(crate) fn last_pass(rt: &impl Abort, store: &Store, passes: &mut Vec<Pass>) 
     pass
 }
 
-/// A session of the last pass of a list.
+/// A session of the last pass of a list, which is taken out.
 pub(crate) fn next_session<'a>(
     rt: &impl Abort,
     store: &'a Store,
@@ -83,7 +83,7 @@ pub(crate) fn next_session<'a>(
     joined(rt, store, pass)
 }
 
-/// Sessions of the last two passes of a store, in order.
+/// Sessions of the last two passes of a list, in order. They are taken out.
 pub(crate) fn both<'a>(
     rt: &impl Abort,
     store: &'a Store,

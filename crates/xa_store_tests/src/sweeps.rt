@@ -97,7 +97,8 @@ fn lagging_session_over_a_chain_survives(rt: HostRuntime) {
     over_a_chain(&rt, rt.alloc(), 6, LAGS);
 }
 
-/// Whether a failed allocation may keep a statement from being carried out: it takes a record, or a list.
+/// Whether a failed allocation may keep a statement from being carried out: it keeps a branch, a row or a lock, or
+/// makes a list.
 fn may_want_memory(statement: &Statement) -> bool {
     matches!(
         statement,
@@ -109,7 +110,7 @@ fn may_want_memory(statement: &Statement) -> bool {
     )
 }
 
-/// What the server says that it would reply. Asked again if there was no memory, as only `XA RECOVER` may be.
+/// What the server says that it would reply. It is asked again if there was no memory, which only `XA RECOVER` wants.
 fn told(rt: &impl Abort, server: &Server, session: SessionNo, statement: &Statement) -> Reply {
     if let Ok((reply, _)) = server.reply(session, statement) {
         return reply;

@@ -27,7 +27,7 @@ fn said_by<'a>(rt: &impl Abort, line: &'a [u8]) -> (SessionNo, &'a [u8]) {
     }
 }
 
-/// What an add returns to a pass.
+/// What a pass is answered when it tries to add this statement: a word, and how many entries it has seen then.
 fn added<L: DecisionLog>(
     rt: &impl Abort,
     log: &L,
@@ -48,7 +48,8 @@ fn added<L: DecisionLog>(
     }
 }
 
-/// What the own pass returns if the text is a word, or else of an add.
+/// What the own pass is answered: of LOOK and LENGTH, how many entries it has seen, of MEET, how many the other one has
+/// seen then, and else what `added` says of the statement.
 fn told<L: DecisionLog>(
     rt: &impl Abort,
     log: &L,
@@ -132,7 +133,7 @@ fn is_answered<L: DecisionLog>(
     is_told(alloc, found, wanted)
 }
 
-/// Whether a line is so.
+/// Whether a line of a script holds, in either form that `tries` has. The low four bits of a digit are its number.
 fn is_so<L: DecisionLog>(
     rt: &impl Abort,
     alloc: Global,
@@ -171,10 +172,9 @@ where
 }
 
 /// Plays a script of the first two passes of a log. A line has a pass's number, and after `= ` what it is
-/// answered: of a statement, which it tries to add, `OK` with how many entries it has seen then, `OVERTAKEN`
-/// with the new front, or `FULL`; of `LOOK` and `LENGTH`, how many it has seen; of `MEET`, how many the other
-/// one has seen then. `1@0 2 GET 'k'` asks for the entry that the first pass has seen at place 0; a place has
-/// one digit.
+/// answered: of a statement, which it tries to add, `OK`, `OVERTAKEN`, `FULL` or `BUSY`, each with how many
+/// entries it has seen then; of `LOOK` and `LENGTH`, how many it has seen; of `MEET`, how many the other one has
+/// seen then. `1@0 2 GET 'k'` says which entry the first pass has seen at place 0; a place has one digit.
 ///
 /// May take memory. Doesn't wait.
 pub fn tries<L: DecisionLog>(
