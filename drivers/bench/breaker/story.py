@@ -6,7 +6,7 @@ from __future__ import annotations
 
 import re
 from collections import Counter
-from collections.abc import Iterator, Sequence
+from collections.abc import Iterable, Iterator, Sequence
 from dataclasses import dataclass
 from pathlib import Path
 from typing import TYPE_CHECKING
@@ -83,7 +83,20 @@ def steps_of(record: str) -> list[Step]:
         elif (found := RETURN.fullmatch(line)) and found[1] in calls:
             calls[found[1]].reply = found[2]
     refused = {(it.text, f"ERROR {it.number}") for it in steps if it.what == "error"}
-    return [it for it in steps if it.what or (it.text, it.reply.partition(" (")[0]) not in refused]
+    return with_early_ends(it for it in steps if it.what or (it.text, it.reply.partition(" (")[0]) not in refused)
+
+
+def with_early_ends(steps: Iterable[Step]) -> list[Step]:
+    """The same steps, with the end of a connection before what other connections asked meanwhile. The server may see
+    late that a client has gone. A story has one client for each store, so it can't tell both at once."""
+    told: list[Step] = []
+    for step in steps:
+        place = len(told)
+        if step.text == "DISCONNECT":
+            while place and not told[place - 1].is_disturbing() and told[place - 1].session != step.session:
+                place -= 1
+        told.insert(place, step)
+    return told
 
 
 def is_late(record: str) -> bool:
