@@ -55,8 +55,8 @@ impl EndlessStore {
         answered
     }
 
-    /// Answers a statement as `answer` does. After an answer, but not after a fault, the session tends a checkpoint, if
-    /// it is time (`tend_in_time`).
+    /// Answers a statement as `answer` does. After an answer, but not after a fault, the session leaves a checkpoint or
+    /// stands on a newer one, if it is time (`tend_in_time`).
     fn attempt(&self, member: &mut Member, statement: &Statement) -> Result<Answer, EndlessFault>
         requires { log_of member.old.pass ≡ identity_of self.now.log }
         ensures belongs { log_of member.new.pass ≡ log_of member.old.pass }
@@ -66,7 +66,8 @@ impl EndlessStore {
         ensures once { TriesOnce result (known_of member.old.pass) (known_of member.new.pass) }
     {
         let answer = self.answer(member, statement)?;
-        // The session has just replayed what it saw. It may be the last one that adds, so it tends a checkpoint now.
+        // The session has just replayed what it saw. It may be the last one that adds, so it sees to the checkpoints
+        // now.
         self.tend_in_time(member);
         Ok(answer)
     }
@@ -83,8 +84,9 @@ impl EndlessSession {
     /// 2^59; `Overtaken` if another session appended after this attempt looked. After an error the history has nothing
     /// of the statement, and the session may have seen and replayed more. `NoMemory` is never returned after an append.
     ///
-    /// After an answer the session may bring a checkpoint up to date, for which it may copy its replica with all rows
-    /// of the store. Doesn't wait, and yields no processor.
+    /// After an answer the session may leave a checkpoint, for which it copies the rows that were written lately, and
+    /// at
+    /// times merges them with more rows of the store. Doesn't wait, and yields no processor.
     /// Own rule: docs/RATTLE.md#a-store-without-an-end.
     pub fn attempt(&mut self, statement: &Statement) -> Result<Answer, EndlessFault>
         // Proved (endless, stays): A session stays with its store, how many entries it has replayed never falls, and
@@ -100,7 +102,7 @@ impl EndlessSession {
         //   longer history, after the session had replayed all that it had seen before, and to entries that it hasn't
         //   replayed. `NoMemory` only for a list, for a replica that hasn't replayed all that is seen, or after more
         //   than 2^59 entries. Such a replica's next entry is one that may take memory, or the replica needs a copy
-        //   of all rows: as many entries as the ring has rows are left to replay.
+        //   of a checkpoint: as many entries as the ring has rows are left to replay.
         ensures finds { Finds self.old.store.value.log statement.now result self.new.member.replica
             self.old.member.pass self.new.member.pass }
         // Proved (endless, one-try): An attempt looks, and makes at most one exchange of the word that sessions
@@ -131,13 +133,13 @@ impl EndlessSession {
             (LooksLast (known_of self.old.member.pass) (known_of self.new.member.pass)) }
     {
         for _ in rt.forever() {
-            let tended = self.member.tended;
+            let based = self.member.based;
             match self.attempt(statement) {
                 Ok(answer) => {
-                    // `tended` changes only after a pace of entries, or when the session goes on from a checkpoint:
-                    // much of the ring may be used up. Threads that wait for a processor can look before it has gone
-                    // round, and find a checkpoint if they need one.
-                    if self.member.tended != tended {
+                    // `based` changes only after a pace of entries, or when the session goes on from a checkpoint: much
+                    // of the ring may be used up. Threads that wait for a processor can look before it has gone round,
+                    // and find a checkpoint if they need one.
+                    if self.member.based != based {
                         thread::yield_now();
                     }
                     return Ok(answer);

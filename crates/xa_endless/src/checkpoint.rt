@@ -9,21 +9,20 @@ ghost use Rattle.xa_server.specs.Coding.{coded_state};
 ghost use Rattle.xa_server.specs.State.{no_state};
 ghost use Rattle.xa_session.specs.Replay.{state_at};
 
-use crate::upkeep::Upkeep;
-use crate::{EndlessFault, Member, Replica};
+use crate::{Member, Replica};
 use chain_log::{RingLog, RingSpare};
 use std::mem;
 use std::sync::Arc;
 
 /// A replica that no session owns, and a spare, which remembers the history that the replica stands for.
 ///
-/// The sessions bring it up to date from time to time, so that a session that is behind can go on from there. Such a
-/// session shares the replica while it copies it. A replica that is shared can't change.
+/// The sessions leave a newer one in its place from time to time. A session that is behind goes on from a copy of the
+/// replica, and others share its rows. The replica never changes.
 #[derive(Drop)]
 pub(crate) struct Checkpoint {
     /// The spare, which has seen at least what the replica has replayed.
     pub(crate) spare: RingSpare,
-    /// The replica, which sessions share while they copy it.
+    /// The replica, which sessions share while they copy it, and whose rows their copies share.
     pub(crate) replica: Arc<Replica>,
     // The replica is no farther than what the spare has seen,
     ghost within: { replica.value.replayed ≤ length (spare_known_of spare).seen },
@@ -77,64 +76,25 @@ impl Checkpoint {
         Some(shared)
     }
 
-    /// Exchanges the replica with that of a session, if the session can go on from the checkpoint's (`offers`), and no
-    /// other session shares that. Returns whether they are exchanged. If not, nothing has changed.
-    pub(crate) fn exchange(&mut self, log: &RingLog, member: &mut Member) -> bool
-        requires mine { spare_log_of self.old.spare ≡ identity_of log.now }
-        requires belongs { log_of member.old.pass ≡ identity_of log.now }
-        ensures mine { spare_log_of self.new.spare ≡ identity_of log.now }
-        ensures belongs { log_of member.new.pass ≡ log_of member.old.pass }
-        ensures keeps { Keeps member.old member.new }
-        ensures no { result ≡ false → member.new ≡ member.old }
-    {
-        if self.offers(log, member).is_none() {
-            return false;
-        }
-        // A replica that another session shares can't change.
-        let Some(replica) = Arc::get_mut(&mut self.replica) else {
-            return false;
-        };
-        // The session has then seen what the checkpoint's replica stands for. Its own replica has replayed less, so the
-        // spare has already seen what that stands for.
-        let spare = &mut self.spare;
-        log.hear(spare, &mut member.pass);
-        mem::swap(replica, &mut member.replica);
-        true
-    }
-
-    /// Replays on the checkpoint's replica what the session has seen, unless the replica is shared.
-    ///
-    /// A shared replica stays as it is: `Old` if it misses at least half as many entries as the ring has rows (rounded
-    /// down), else `NotNow`, even if it misses none. Otherwise returns `Done` if the replica has then replayed all that
-    /// the session has seen, or had replayed more; `Old` if its next entry may be lost, or `NotNow` if memory runs out.
-    /// In these two cases less is replayed.
-    pub(crate) fn follow(&mut self, log: &RingLog, member: &mut Member) -> Upkeep
+    /// Shares the replica with a session whose own has replayed as much or more, so that it can share the rows of this
+    /// one, and replay the rest. None if the session has seen less than this replica has replayed, or if the replica
+    /// can't be shared once more.
+    pub(crate) fn lend(&mut self, log: &RingLog, member: &mut Member) -> Option<Arc<Replica>>
         requires mine { spare_log_of self.old.spare ≡ identity_of log.now }
         requires belongs { log_of member.old.pass ≡ identity_of log.now }
         ensures mine { spare_log_of self.new.spare ≡ identity_of log.now }
         ensures belongs { log_of member.new.pass ≡ log_of member.old.pass }
         ensures tends { Tends member.old member.new }
+        ensures stands { IfSome result (λ shared. Stands (known_of member.new.pass).seen shared.value) }
     {
-        // The spare has then seen all that the replica may replay here.
+        let shared = Arc::try_clone(&self.replica).ok()?;
+        // The spare has then seen what the session has, so what the replica has replayed, if that is no more, begins
+        // what the session has seen.
         log.tell(&mut member.pass, &mut self.spare);
-        let count = log.length(&member.pass);
-        // Whether the replica misses at least half a ring, so that its next entry may be lost before those who copy it
-        // are done. The sum saturates as in `offers`.
-        let is_old = self.replica.replayed.saturating_add(log.rows() / 2) <= count;
-        let Some(replica) = Arc::get_mut(&mut self.replica) else {
-            return if is_old { Upkeep::Old } else { Upkeep::NotNow };
-        };
-        // Another session has come further, and was here before.
-        if replica.replayed > count {
-            return Upkeep::Done;
+        if shared.replayed > log.length(&member.pass) {
+            return None;
         }
-        match replica.catch_up(log, &mut member.pass, count) {
-            Ok(()) => Upkeep::Done,
-            // The replica's next entry may be lost.
-            Err(EndlessFault::Behind) => Upkeep::Old,
-            // Memory has run out.
-            Err(_) => Upkeep::NotNow,
-        }
+        Some(shared)
     }
 
     /// Puts a copy of a session's replica in the place of the checkpoint's, if the copy has replayed more. Returns the

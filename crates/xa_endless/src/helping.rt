@@ -9,7 +9,7 @@ use xa_xid::NoMemory;
 /// How many entries ahead of a session a checkpoint must at least be for a jump. To find the best one, the session
 /// takes each checkpoint out of its place for a moment, so that others can't have it. So a jump has to save some
 /// replays.
-const LEAST_JUMP: u64 = 512;
+const LEAST_JUMP: u64 = 128;
 
 impl EndlessStore {
     /// How many entries the replica of the checkpoint at `index` has replayed, or 0 if the session can't go on from
@@ -63,39 +63,7 @@ impl EndlessStore {
         let Some(index) = self.best(member) else {
             return Ok(false);
         };
-        // If the store has many rows, a copy may take so long that the ring goes round meanwhile. So the session takes
-        // the replica itself, and the sessions that go on make the next checkpoint.
-        if self.swap(index, member) {
-            return Ok(true);
-        }
-        // With few rows, or if somebody copies the replica just now, the session copies it.
         self.copy(index, member)
-    }
-
-    /// Exchanges a session's replica for that of the checkpoint at `index`, if the checkpoint's has many rows, the
-    /// session can go on from it, and nobody else has the checkpoint or copies its replica. Returns whether they are
-    /// exchanged; if not, nothing has changed.
-    fn swap(&self, index: usize, member: &mut Member) -> bool
-        requires index { index < length self.now.checkpoints.items }
-        requires belongs { log_of member.old.pass ≡ identity_of self.now.log }
-        ensures belongs { log_of member.new.pass ≡ log_of member.old.pass }
-        ensures keeps { Keeps member.old member.new }
-        ensures no { result ≡ false → member.new ≡ member.old }
-    {
-        let Some(mut checkpoint) = self.take_checkpoint(index) else {
-            return false;
-        };
-        // With few rows `copy` is quick, and leaves the checkpoint as it is.
-        let swaps = !self.copies_fast(&checkpoint.replica)
-            && checkpoint.exchange(&self.log, member);
-        self.put_checkpoint(index, checkpoint);
-        if swaps {
-            // The checkpoint has the session's old replica now, which has replayed less.
-            self.progress.forget_checkpoint();
-            // So at its next answer the session sees whether a checkpoint is wanted, as if it had never tended one.
-            member.tended = 0;
-        }
-        swaps
     }
 
     /// Has a session go on from a copy of the replica of the checkpoint at `index`. Returns false, with nothing
@@ -119,29 +87,25 @@ impl EndlessStore {
         let Some(shared) = shared else {
             return Ok(false);
         };
-        // The copy takes time for all rows. Meanwhile the checkpoint is in its place, and others can share it, too.
+        // The copy takes time for the rows that were written lately. Meanwhile the checkpoint is in its place, and
+        // others can share it, too.
         member.replica = shared.copy()?;
-        // The session is as far as the checkpoint, so it sees to the checkpoints only after a pace more.
-        member.tended = member.replica.replayed;
-        self.progress
-            .tell(self.log.number(&member.pass).get(), member.tended);
+        member.based = member.replica.replayed;
         Ok(true)
     }
 
     /// Has a session go on from a checkpoint, if that should take less time than to replay the entries up to there: if
-    /// the newest one is ahead by at least `LEAST_JUMP` entries, and by at least as many as the session's replica has
-    /// rows. The session stays as it is if no checkpoint can be had; without memory for a copy it may have seen more.
+    /// the newest one is ahead by at least `LEAST_JUMP` entries. The session stays as it is if no checkpoint can be
+    /// had; without memory for a copy it may have seen more.
     pub(crate) fn jump(&self, member: &mut Member)
         requires { log_of member.old.pass ≡ identity_of self.now.log }
         ensures belongs { log_of member.new.pass ≡ log_of member.old.pass }
         ensures keeps { Keeps member.old member.new }
     {
-        let checkpoint = self.progress.checkpoint();
+        let newest = self.progress.newest();
         // How many entries the newest checkpoint is ahead: 0 if the session has replayed as many or more.
-        let ahead = checkpoint - member.replica.replayed.min(checkpoint);
-        // A copy takes time for each row, so it has to save the replay of as many entries. The session's own rows are
-        // counted, since the checkpoint isn't at hand.
-        if ahead < LEAST_JUMP || ahead < member.replica.row_count() {
+        let ahead = newest - member.replica.replayed.min(newest);
+        if ahead < LEAST_JUMP {
             return;
         }
         // If no checkpoint can be had, or there is no memory for the copy, the session replays the entries itself.

@@ -4,12 +4,11 @@ ghost use Rattle.xa_endless.specs.Seen.{HasOnlySeen};
 ghost use Rattle.xa_endless.specs.Stays.{Stays};
 
 use crate::EndlessSession;
-use crate::tending::MOST_LOOKS;
 
 impl EndlessSession {
     /// Leaves a checkpoint that has replayed at least what the session has. Others that are behind can go on from it.
     ///
-    /// A session that ends and has added the last entry should do so, since nobody else will: sessions look after
+    /// A session that ends and has added the last entry should do so, since nobody else will: sessions leave
     /// checkpoints after they have answered. Returns true if a checkpoint has then replayed as much as this session
     /// has, or if the store has none, as one for a single session. Returns false if others use the checkpoints just
     /// now, or if memory runs out: try again. Doesn't wait.
@@ -24,7 +23,7 @@ impl EndlessSession {
         if self.store.checkpoints.is_empty() {
             return true;
         }
-        // Any checkpoint will do, so the search begins with the first. It takes as many steps as one for a copy does.
-        self.store.tend(&mut self.member, 0, MOST_LOOKS)
+        // Any checkpoint will do, so the search begins with the first.
+        self.store.leave_copy(&mut self.member, 0)
     }
 }

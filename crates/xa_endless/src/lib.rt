@@ -30,7 +30,6 @@ mod tests;
 #[cfg(test)]
 mod transacting;
 mod trying;
-mod upkeep;
 
 pub use fault::EndlessFault;
 pub use following::Next;

@@ -9,8 +9,8 @@ ghost use Rattle.xa_session.specs.Replay.{state_at};
 use crate::Replica;
 use chain_log::RingPass;
 
-/// What a session keeps between its calls: its pass, its replica, how far it has handed out the history, and when it
-/// sees to the checkpoints again.
+/// What a session keeps between its calls: its pass, its replica, how far it has handed out the history, and which
+/// checkpoint its replica stands on.
 #[derive(Drop)]
 pub struct Member {
     /// Its handle on the ring.
@@ -19,9 +19,9 @@ pub struct Member {
     pub(crate) replica: Replica,
     /// How many entries `next_entry` has handed out, lost ones included.
     pub(crate) told: u64,
-    /// A number of replayed entries: once its replica has replayed a pace (`src/tending.rt`) more, the session sees
-    /// whether a checkpoint is to be tended.
-    pub(crate) tended: u64,
+    /// How many entries the checkpoint had replayed whose rows its replica shares; 0 if it shares none. Once the
+    /// replica has replayed a pace (`src/tending.rt`) more, the session shares those of a newer one, or leaves one.
+    pub(crate) based: u64,
     // The replica is no farther than what the pass has seen.
     ghost within: { replica.replayed ≤ length (known_of pass).seen },
     // Proved (endless, replica-is-a-prefix): At every moment the replica of a session is the server after a prefix of

@@ -20,7 +20,7 @@ fn count_checkpoints(sessions: u64) -> u64
     ensures value { result ≡ checkpoints_of sessions }
     ensures most { result ≤ 4 }
 {
-    // With one session nobody can be behind. More than four would take memory, each for all rows of the store.
+    // With one session nobody can be behind. Each takes a column of the ring, and four are enough.
     if sessions <= 1 { 0 } else { sessions.min(4) }
 }
 
@@ -40,7 +40,7 @@ fn place_all(
             pass,
             replica: Replica::new(alloc),
             told: 0,
-            tended: 0,
+            based: 0,
         };
         places.push(Slot::new(member.rest(), log))?;
     }
@@ -73,9 +73,9 @@ impl EndlessStore {
     /// Opens a store with no branch and no row, for 1 to 16 sessions. Its ring has `rows` rows, in `[1, 65536]`.
     ///
     /// A session may sleep while fewer entries than `rows` are added, and then replays them. After as many or more it
-    /// goes on from a checkpoint, a replica that no session owns: from a copy of it, or if the store's table has many
-    /// rows, from that replica itself. A row of the ring takes 184 bytes for each session and each checkpoint; there
-    /// are up to 4 checkpoints. Errors, in the order of test: `RowsOutOfRange`, `SessionsOutOfRange`, `NoMemory`.
+    /// goes on from a copy of a checkpoint, a replica that no session owns. A row of the ring takes 184 bytes for each
+    /// session and each checkpoint; there are up to 4 checkpoints. Errors, in the order of test: `RowsOutOfRange`,
+    /// `SessionsOutOfRange`, `NoMemory`.
     /// Doesn't wait.
     /// Own rule: docs/RATTLE.md#a-store-without-an-end.
     pub fn open(alloc: Global, rows: u64, sessions: u64) -> Result<Arc<EndlessStore>, RingFault>
@@ -94,13 +94,12 @@ impl EndlessStore {
         )?;
         let places = place_all(alloc, &log, passes)?;
         let checkpoints = place_checkpoints(alloc, &log, spares)?;
-        let progress = Progress::new(alloc, sessions)?;
         let store = EndlessStore {
             alloc,
             log,
             checkpoints,
             places,
-            progress,
+            progress: Progress::new(),
         };
         match Arc::new(alloc, store) {
             Ok(shared) => Ok(shared),

@@ -32,7 +32,7 @@ impl Replica {
         }
     }
 
-    /// Makes a replica that has replayed the same.
+    /// Makes a replica that has replayed the same. It shares the rows of this one that weren't written lately.
     ///
     /// May return `NoMemory`.
     pub(crate) fn copy(&self) -> Result<Replica, NoMemory>
@@ -42,11 +42,6 @@ impl Replica {
             server: self.server.copy()?,
             replayed: self.replayed,
         })
-    }
-
-    /// How many rows a copy has to take with it.
-    pub(crate) fn row_count(&self) -> u64 {
-        self.server.row_count() as u64
     }
 
     /// Replays the next entry.

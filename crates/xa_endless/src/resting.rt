@@ -22,9 +22,8 @@ pub struct RestingMember {
     pub(crate) replica: Replica,
     /// As in `Member`: how many entries `next_entry` has handed out.
     pub(crate) told: u64,
-    /// As in `Member`: once its replica has replayed a pace more than that, the session sees whether a checkpoint is to
-    /// be tended.
-    pub(crate) tended: u64,
+    /// As in `Member`: what the checkpoint had replayed on whose rows its replica stands.
+    pub(crate) based: u64,
     // The replica is no farther than what the pass has seen,
     ghost within: { replica.replayed ≤ length (resting_known_of pass).seen },
     // and is the server after the entries that it has replayed.

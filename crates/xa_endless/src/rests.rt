@@ -15,13 +15,13 @@ impl Member {
             pass,
             replica,
             told,
-            tended,
+            based,
         } = self;
         RestingMember {
             pass: pass.rest(),
             replica,
             told,
-            tended,
+            based,
         }
     }
 }
@@ -35,14 +35,14 @@ impl RestingMember {
             pass,
             replica,
             told,
-            tended,
+            based,
         } = self;
         let pass = pass.wake()?;
         Some(Member {
             pass,
             replica,
             told,
-            tended,
+            based,
         })
     }
 }

@@ -1,10 +1,13 @@
 //! A session of an endless store.
-ghost use Rattle.std.specs.Prelude.{◌≡◌, ◌≤◌, length};
+ghost use Rattle.std.specs.Prelude.{◌≡◌, ◌≤◌, ◌+◌, length, IfSome};
 ghost use Rattle.decision_log.specs.Calls.{MeetsFirst, MeetsSecond};
 ghost use Rattle.chain_log.specs.RingPass.{identity_of, log_of, known_of};
+ghost use Rattle.chain_log.specs.Resting.{resting_log_of};
 ghost use Rattle.xa_session.specs.Replay.{state_at};
 ghost use Rattle.xa_server.specs.State.{no_state};
+ghost use Rattle.xa_endless.specs.Resting.{IsAtRest};
 
+use crate::resting::RestingMember;
 use crate::{EndlessStore, Member};
 use std::sync::Arc;
 use xa_xid::SessionNo;
@@ -94,9 +97,35 @@ impl EndlessSession {
     /// Nothing is logged: an open branch stays open, with its locks. Takes no memory. Doesn't wait.
     /// Own rule: docs/RATTLE.md#a-store-without-an-end.
     pub fn leave(self) {
+        let (store, place, resting) = self.rest();
+        store.put_back(place, resting);
+    }
+
+    /// Lets the session rest. Returns its store, its place there, and what rests of it.
+    fn rest(self) -> (Arc<EndlessStore>, usize, RestingMember)
+        ensures store { result.0.value ≡ self.store.value }
+        // Session 1 has place 0.
+        ensures place { result.1 + 1 ≡ (known_of self.member.pass).number }
+        // Proved (endless, leave): What rests of a session that leaves is of its store, has its number and its replica,
+        //   and has seen, added and handed out what the session has. So has the session that wakes from it. That a
+        //   place gives back what was put there isn't said.
+        ensures rests { IsAtRest self.member result.2 }
+        ensures fits { resting_log_of result.2.pass ≡ identity_of result.0.value.log }
+    {
         let EndlessSession { store, member } = self;
-        // Session 1 has place 0. Numbers are at least 1, so the difference isn't below 0.
+        // Numbers are at least 1, so the difference isn't below 0.
         let place = store.log.number(&member.pass).get() - 1;
-        store.put_member(place as usize, member);
+        (store, place as usize, member.rest())
+    }
+
+    /// Wakes the session that rests in a store. None if its pass isn't there, which can't be.
+    pub(crate) fn woken(store: Arc<EndlessStore>, resting: RestingMember) -> Option<EndlessSession>
+        requires { resting_log_of resting.pass ≡ identity_of store.value.log }
+        ensures store { IfSome result (λ session. session.store.value ≡ store.value) }
+        // Proved (endless, leave)
+        ensures wakes { IfSome result (λ session. IsAtRest session.member resting) }
+    {
+        let member = resting.wake()?;
+        Some(EndlessSession { store, member })
     }
 }

@@ -9,7 +9,7 @@ use xa_xid::Statement;
 // Proved (coordinator, endless-session): A session of an endless store keeps the promises of `Speak` over the store's
 //   one history. Its answers have all that those of its own `attempt` and `execute` have. It never returns `Full` or
 //   `Busy`. It returns `NoMemory` only for the list of an `XA RECOVER`, for a replica that hasn't replayed all that
-//   it has seen and whose next entry may take memory or that needs a copy of all rows, or after more than 2^59
+//   it has seen and whose next entry may take memory or that needs a copy of a checkpoint, or after more than 2^59
 //   entries. `attempt` returns it also if entries that the replica needs may be overwritten, and only if it hasn't
 //   tried; `execute` only after more looks than tries. Neither hands out an entry of the history.
 impl Speak for EndlessSession {

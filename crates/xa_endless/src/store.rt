@@ -14,8 +14,8 @@ use std::alloc::Global;
 /// A store whose history has no end: the ring that its sessions share, the sessions that nobody has, and checkpoints,
 /// from which a session goes on that is behind.
 ///
-/// No call on it waits or takes a lock. Its memory doesn't grow with the history: there are at most three replicas for
-/// each session (its own, one that it copies, and the copy), and one for each checkpoint.
+/// No call on it waits or takes a lock. Its memory doesn't grow with the history. Replicas share the rows that weren't
+/// written lately.
 #[derive(Drop)]
 pub struct EndlessStore {
     /// Where memory for copies of replicas is taken from.
@@ -26,7 +26,7 @@ pub struct EndlessStore {
     pub(crate) checkpoints: Vec<Slot<RestingCheckpoint>>,
     /// The sessions that nobody has, each at the place of its number.
     pub(crate) places: Vec<Slot<RestingMember>>,
-    /// How far each session and the newest checkpoint have come.
+    /// How far the newest checkpoint has come.
     pub(crate) progress: Progress,
     // Each checkpoint's spare is one of this store's log,
     ghost kept: { All (λ slot. identity_of slot.value ≡ identity_of log) checkpoints.items },

@@ -1,9 +1,11 @@
 //! Taking a session of a store.
-ghost use Rattle.std.specs.Prelude.{◌≡◌, ◌<◌, ◌≤◌, length, IfOk, IfErr, IfSome};
-ghost use Rattle.chain_log.specs.RingPass.{identity_of, log_of, known_of};
+ghost use Rattle.std.specs.Prelude.{◌≡◌, IfOk, IfErr};
+ghost use Rattle.chain_log.specs.RingPass.{identity_of, known_of};
+ghost use Rattle.chain_log.specs.Resting.{resting_log_of};
 ghost use Rattle.xa_endless.specs.Takes.{IsRefused};
 
-use crate::{EndlessSession, EndlessStore, Member};
+use crate::resting::RestingMember;
+use crate::{EndlessSession, EndlessStore};
 use std::sync::Arc;
 use thiserror::Error;
 
@@ -22,24 +24,15 @@ pub enum TakeFault {
 }
 
 impl EndlessStore {
-    /// Puts a session back into the place at `index`, from which it was taken.
-    pub(crate) fn put_member(&self, index: usize, member: Member)
-        requires { log_of member.pass ≡ identity_of self.now.log }
+    /// Puts what rests of a session back into the place at `index`, from which it was taken.
+    pub(crate) fn put_back(&self, index: usize, resting: RestingMember)
+        requires { resting_log_of resting.pass ≡ identity_of self.now.log }
     {
         // Each session of the store has a place. That isn't known here; a session without one would be dropped.
         if index < self.places.len() {
             // Nobody else fills a place whose session this call has, so it is free.
-            let _put = self.places[index].put(member.rest());
+            let _put = self.places[index].put(resting);
         }
-    }
-
-    /// Takes the session at `index` out of its place. None if somebody has it, or is at the place just now, as when it
-    /// is given back.
-    fn take_member(&self, index: usize) -> Option<Member>
-        requires { index < length self.now.places.items }
-        ensures { IfSome result (λ member. log_of member.pass ≡ identity_of self.now.log) }
-    {
-        self.places[index].take()?.wake()
     }
 
     /// Returns how many sessions the store has, in `[1, 16]`.
@@ -76,17 +69,18 @@ impl EndlessStore {
         };
         // Session 1 has place 0.
         let index = (number - 1) as usize;
-        let Some(member) = owned.take_member(index) else {
+        // None if somebody has it, or is at the place just now, as when it is given back.
+        let Some(resting) = owned.places[index].take() else {
             return Err(TakeFault::Taken);
         };
-        // Each place has the session of its number. That isn't known here; another session would be put back.
-        if owned.log.number(&member.pass).get() != number {
-            owned.put_member(index, member);
+        let Some(session) = EndlessSession::woken(owned, resting) else {
+            return Err(TakeFault::Taken);
+        };
+        // Each place has the session of its number. That isn't known here; another session would leave again.
+        if session.number().get() != number {
+            session.leave();
             return Err(TakeFault::Taken);
         }
-        Ok(EndlessSession {
-            store: owned,
-            member,
-        })
+        Ok(session)
     }
 }

@@ -575,8 +575,8 @@ impl Pair {
     }
 }
 
-/// Neither checkpoint can replay what was added meanwhile. So each becomes a copy of the replica of a session that
-/// looks after it.
+/// A checkpoint whose next entry is lost is of no use any more. A session that leaves one puts a copy of its replica in
+/// its place.
 #[test]
 fn a_lost_checkpoint_becomes_a_copy_survives(rt: HostRuntime) {
     let Some(mut pair) = new_pair(rt.alloc(), 8) else {
@@ -609,8 +609,7 @@ impl Pair {
     }
 }
 
-/// Both checkpoints are shared with somebody who stopped while copying them. They can't change, and others take their
-/// places.
+/// Both checkpoints are shared with somebody who stopped while copying them. Others take their places all the same.
 #[test]
 fn others_get_a_checkpoint_while_some_are_copied_survives(rt: HostRuntime) {
     let Some(mut pair) = new_pair(rt.alloc(), 8) else {

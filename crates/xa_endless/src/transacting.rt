@@ -609,8 +609,8 @@ fn eight_are_answered<R: Threads + Wait + Sync>(rt: &R, store: &Arc<EndlessStore
     answered
 }
 
-/// A copy of the rows takes longer than 64 entries of eight threads, so most sessions are behind most of the time. Each
-/// statement is answered all the same: 3,000 rows and 3,200 entries, or 96 laps.
+/// In so small a ring most sessions of eight threads are behind most of the time, and go on from checkpoints whose rows
+/// are in runs. Each statement is answered all the same: 3,000 rows and 3,200 entries, or 96 laps.
 #[test]
 fn eight_threads_are_answered_in_a_small_ring_with_many_rows(rt: HostRuntime) {
     let answered = match opened(rt.alloc(), 64, 9) {

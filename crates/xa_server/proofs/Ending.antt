@@ -11,7 +11,7 @@ use Rattle.xa_xid.specs.declared.xid.Xid.{Xid}
 use Rattle.xa_xid.specs.Xid.{Text, bytes_cmp, same_xid}
 use Rattle.xa_xid.proofs.Orders.{xids_total, exact_xids, bytes_total, exact_texts}
 use Rattle.xa_server.specs.declared.branch.BranchRecord.{BranchRecord}
-use Rattle.xa_server.specs.declared.row.RowRecord.{RowRecord}
+use Rattle.xa_server.specs.Recorded.{RowRecord}
 use Rattle.xa_server.specs.declared.association.Association.TheVariants.{Free}
 use Rattle.xa_server.specs.State.{Write, Branch}
 use Rattle.xa_server.specs.Step.{without_branch, with_write, with_writes, committed}

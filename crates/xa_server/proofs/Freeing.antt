@@ -17,19 +17,18 @@ use Rattle.xa_xid.proofs.Orders.{xids_total, exact_xids, bytes_total, exact_text
 use Rattle.xa_server.specs.declared.lock.Change.{Change}
 use Rattle.xa_server.specs.declared.lock.Lock.{Lock}
 use Rattle.xa_server.specs.declared.lock.Lock.TheVariants.{Exclusive as HeldBy, Shared as SharedBy}
-use Rattle.xa_server.specs.declared.row.RowRecord.{RowRecord}
+use Rattle.xa_server.specs.Recorded.{RowRecord}
 use Rattle.xa_server.specs.Rows.{RowMap, Sharing, write_of, write_in, held_row, with_sharer, shared_row, freed_lock}
 use Rattle.xa_server.specs.Rows.{freed_row, is_needed, kept, freed, Frees}
 use Rattle.xa_server.proofs.Maps.{get_view, same_or_apart, same_itself, get_inserted, get_inserted_apart, get_removed}
 use Rattle.xa_server.proofs.Maps.{get_removed_apart}
-use Rattle.xa_server.proofs.RowRecords.{rows_in, row_set, row_gone}
 use Rattle.xa_server.proofs.Index.{same_value, not_none}
 use Rattle.xa_server.proofs.Holders.{none_of, itself}
 use mathlib.Core.Bool.{true≢false}
 use Rattle.std.proofs.lemmas.List.Folds.{list_any-append}
 
 -- taking a branch that doesn't share the row out of its sharers changes nothing
-not_there : (sharers : Sharing) (xid : Xid) → set.contains sharers xid ≡ false → set.remove sharers xid ≡ sharers
+pub not_there : (sharers : Sharing) (xid : Xid) → set.contains sharers xid ≡ false → set.remove sharers xid ≡ sharers
 not_there sharers xid none =
     same_set xids_total exact_xids _ _ (λ other. contains-remove xids_total sharers xid other
     ∙ (elim (same_or_apart xids_total exact_xids other xid) [
@@ -114,66 +113,6 @@ frees_one commits xid key old new at apart other = elim (same_or_apart bytes_tot
       ∙ ap (λ b. cond b (freed commits xid (map.get old other)) (map.get old other)) is)
 ]
 
--- what `free_in` leaves: the record changed in place
-abbrev pub Changes : Bool → Xid → List ℕ → BTreeMap (List ℕ) RowRecord → BTreeMap (List ℕ) RowRecord → Type 0
-Changes commits xid key old new = MatchOption (tree.get bytes_cmp old key) (new ≡ old)
-    (λ row. Updates bytes_cmp old new key (Some (freed_row commits xid row)))
-
--- `needed` says whether the row's record is still needed once the branch is freed; true if there is no record
-abbrev pub Tells : Bool → Xid → List ℕ → BTreeMap (List ℕ) RowRecord → Bool → Type 0
-Tells commits xid key old needed =
-    MatchOption (tree.get bytes_cmp old key) (needed ≡ true) (λ row. needed ≡ is_needed (freed_row commits xid row))
-
--- if a row's record, where there is one, is changed in place to one without the branch, and is still needed, the row
--- is freed of the branch
-pub frees_kept : (commits : Bool) (xid : Xid) (key : List ℕ) (old new : BTreeMap (List ℕ) RowRecord) (needed : Bool) →
-    Changes commits xid key old new → Tells commits xid key old needed → needed ≡ true
-    → Frees commits xid (key ∷ []) (rows_in old) (rows_in new)
-frees_kept commits xid key old new needed changes tells is = by (tree.get bytes_cmp old key) refl changes tells
-  where
-    by : (found : Option RowRecord) → tree.get bytes_cmp old key ≡ found →
-        MatchOption found (new ≡ old) (λ row. Updates bytes_cmp old new key (Some (freed_row commits xid row))) →
-        MatchOption found (needed ≡ true) (λ row. needed ≡ is_needed (freed_row commits xid row)) →
-        Frees commits xid (key ∷ []) (rows_in old) (rows_in new)
-    by None e same told =
-        let none : map.get (rows_in old) key ≡ None = get_view bytes_total exact_texts old key ∙ e in
-        rw same (frees_one commits xid key (rows_in old) (rows_in old) (none ∙ sym (ap (freed commits xid) none))
-        (λ other apart. refl))
-    by (Some row) e updates told =
-        let found : map.get (rows_in old) key ≡ Some row = get_view bytes_total exact_texts old key ∙ e in
-        let stays : is_needed (freed_row commits xid row) ≡ true = sym told ∙ is in
-        rw (row_set old new key (freed_row commits xid row) updates)
-        (frees_one commits xid key (rows_in old) (map.insert (rows_in old) key (freed_row commits xid row))
-        (get_inserted bytes_total exact_texts (rows_in old) key _
-        ∙ sym (ap (freed commits xid) found ∙ ap (λ b. cond b (Some (freed_row commits xid row)) None) stays))
-        (λ other apart. get_inserted_apart bytes_total exact_texts (rows_in old) key _ other apart))
-
--- if a row's record is changed in place to one without the branch, isn't needed any more, and is removed, the row is
--- freed of the branch
-pub frees_dropped : (commits : Bool) (xid : Xid) (key : List ℕ) (old mid new : BTreeMap (List ℕ) RowRecord)
-    (needed : Bool) →
-    Changes commits xid key old mid → Tells commits xid key old needed → needed ≡ false
-    → Updates bytes_cmp mid new key None
-    → Frees commits xid (key ∷ []) (rows_in old) (rows_in new)
-frees_dropped commits xid key old mid new needed changes tells is gone =
-    by (tree.get bytes_cmp old key) refl changes tells
-  where
-    by : (found : Option RowRecord) → tree.get bytes_cmp old key ≡ found →
-        MatchOption found (mid ≡ old) (λ row. Updates bytes_cmp old mid key (Some (freed_row commits xid row))) →
-        MatchOption found (needed ≡ true) (λ row. needed ≡ is_needed (freed_row commits xid row)) →
-        Frees commits xid (key ∷ []) (rows_in old) (rows_in new)
-    by None e same told = absurd (true≢false (sym told ∙ is))
-    by (Some row) e updates told =
-        let found : map.get (rows_in old) key ≡ Some row = get_view bytes_total exact_texts old key ∙ e in
-        let goes : is_needed (freed_row commits xid row) ≡ false = sym told ∙ is in
-        rw (row_gone mid new key gone, row_set old mid key (freed_row commits xid row) updates)
-        (frees_one commits xid key (rows_in old) (map.remove
-        (map.insert (rows_in old) key (freed_row commits xid row)) key)
-        (get_removed bytes_total exact_texts _ key ∙ sym (ap (freed commits xid) found
-        ∙ ap (λ b. cond b (Some (freed_row commits xid row)) None) goes))
-        (λ other apart. get_removed_apart bytes_total exact_texts _ key other apart
-        ∙ get_inserted_apart bytes_total exact_texts (rows_in old) key _ other apart))
-
 -- what the loop over the keys keeps: freeing the rows of the keys that are left, from the records as they are now,
 -- gives what freeing all of the keys gives from the old records
 pub record IsFreed (commits : Bool) (xid : Xid) (all rest : List (List ℕ)) (old now : RowMap) : Type 0 where
@@ -205,115 +144,3 @@ freed_one_more commits xid all rest key old now next is frees = record {
       (list_any-append (eq_by_cmp bytes_cmp other) rest (key ∷ [])))
       ∙ is.left other;
 }
-
--- a row that has a record, with an exclusive lock set in it, is in the map a row that the branch holds with this change
-pub holds_known : (key : List ℕ) (xid : Xid) (change : Change) (old new : BTreeMap (List ℕ) RowRecord)
-    (back : Option Lock) →
-    MatchOption (tree.get bytes_cmp old key) (new ≡ old) (λ row. Updates bytes_cmp old new key
-    (Some (record row { lock = HeldBy xid change }))) →
-    MatchOption (tree.get bytes_cmp old key) (back ≡ Some (HeldBy xid change)) (λ row. back ≡ None) →
-    back ≡ None → rows_in new ≡ map.insert (rows_in old) key (held_row xid change (map.get (rows_in old) key))
-holds_known key xid change old new back changes told is = by (tree.get bytes_cmp old key) refl changes told
-  where
-    by : (found : Option RowRecord) → tree.get bytes_cmp old key ≡ found →
-        MatchOption found (new ≡ old) (λ row. Updates bytes_cmp old new key
-        (Some (record row { lock = HeldBy xid change }))) →
-        MatchOption found (back ≡ Some (HeldBy xid change)) (λ row. back ≡ None) →
-        rows_in new ≡ map.insert (rows_in old) key (held_row xid change (map.get (rows_in old) key))
-    by None e same given = not_none (HeldBy xid change) (sym is ∙ given)
-    by (Some row) e updates given =
-        row_set old new key _ updates
-        ∙ ap (λ found. map.insert (rows_in old) key (held_row xid change found))
-        (sym (get_view bytes_total exact_texts old key ∙ e))
-
--- a row that had no record, with one made of the exclusive lock, is in the map a row that the branch holds with this
--- change
-pub holds_new : (key : List ℕ) (xid : Xid) (change : Change) (old mid new : BTreeMap (List ℕ) RowRecord)
-    (back : Option Lock) (lock : Lock) →
-    MatchOption (tree.get bytes_cmp old key) (mid ≡ old) (λ row. Updates bytes_cmp old mid key
-    (Some (record row { lock = HeldBy xid change }))) →
-    MatchOption (tree.get bytes_cmp old key) (back ≡ Some (HeldBy xid change)) (λ row. back ≡ None) →
-    back ≡ Some lock → Updates bytes_cmp mid new key (Some (record { committed = None; lock = lock })) →
-    rows_in new ≡ map.insert (rows_in old) key (held_row xid change (map.get (rows_in old) key))
-holds_new key xid change old mid new back lock changes told is updates =
-    by (tree.get bytes_cmp old key) refl changes told
-  where
-    by : (found : Option RowRecord) → tree.get bytes_cmp old key ≡ found →
-        MatchOption found (mid ≡ old) (λ row. Updates bytes_cmp old mid key
-        (Some (record row { lock = HeldBy xid change }))) →
-        MatchOption found (back ≡ Some (HeldBy xid change)) (λ row. back ≡ None) →
-        rows_in new ≡ map.insert (rows_in old) key (held_row xid change (map.get (rows_in old) key))
-    by None e same given =
-        let lock_is : lock ≡ HeldBy xid change = same_value _ _ (sym is ∙ given) in
-        row_set mid new key _ updates
-        ∙ ap (λ table. map.insert (rows_in table) key (record { committed = None; lock = lock })) same
-        ∙ ap (λ l. map.insert (rows_in old) key (record { committed = None; lock = l })) lock_is
-        ∙ ap (λ found. map.insert (rows_in old) key (held_row xid change found))
-        (sym (get_view bytes_total exact_texts old key ∙ e))
-    by (Some row) e updated given = not_none lock (sym given ∙ is)
-
--- a row's record that is put back as it was changes nothing
-pub put_back : (key : List ℕ) (old new : BTreeMap (List ℕ) RowRecord)
-    → MatchOption (tree.get bytes_cmp old key) (new ≡ old) (λ row. Updates bytes_cmp old new key (Some row))
-    → rows_in new ≡ rows_in old
-put_back key old new = by (tree.get bytes_cmp old key) refl
-  where
-    by : (found : Option RowRecord) → tree.get bytes_cmp old key ≡ found
-        → MatchOption found (new ≡ old) (λ row. Updates bytes_cmp old new key (Some row))
-        → rows_in new ≡ rows_in old
-    by None e same = ap rows_in same
-    by (Some row) e updates =
-        row_set old new key row updates ∙ same_map bytes_total exact_texts _ _
-        (λ other. elim (same_or_apart bytes_total exact_texts other key) [
-          | inl is ↦ rw is (get_inserted bytes_total exact_texts (rows_in old) key row
-              ∙ sym (get_view bytes_total exact_texts old key ∙ e))
-          | inr apart ↦ get_inserted_apart bytes_total exact_texts (rows_in old) key row other apart
-        ])
-
--- what `share_in` leaves: the record changed in place
-abbrev pub Shares : Xid → List ℕ → BTreeMap (List ℕ) RowRecord → BTreeMap (List ℕ) RowRecord → Type 0
-Shares xid key old new =
-    MatchOption (tree.get bytes_cmp old key) (new ≡ old) (λ row. Updates bytes_cmp old new key
-    (Some (record row { lock = with_sharer xid row.lock })))
-
--- sharing a row that has no record changes no record
-pub nothing_shared : (xid : Xid) (key : List ℕ) (old new : BTreeMap (List ℕ) RowRecord) → Shares xid key old new
-    → is_some (tree.get bytes_cmp old key) ≡ false
-    → new ≡ old
-nothing_shared xid key old new shares none = by (tree.get bytes_cmp old key) none shares
-  where
-    by : (found : Option RowRecord) → is_some found ≡ false
-        → MatchOption found (new ≡ old) (λ row. Updates bytes_cmp old new key
-        (Some (record row { lock = with_sharer xid row.lock }))) → new ≡ old
-    by None e same = same
-    by (Some row) e updates = absurd (true≢false e)
-
--- a row that has a record, with one sharer more in it, is in the map a row that the branch shares
-pub shares_known : (xid : Xid) (key : List ℕ) (old new : BTreeMap (List ℕ) RowRecord) → Shares xid key old new
-    → is_some (tree.get bytes_cmp old key) ≡ true →
-    rows_in new ≡ map.insert (rows_in old) key (shared_row xid (map.get (rows_in old) key))
-shares_known xid key old new shares there = by (tree.get bytes_cmp old key) refl there shares
-  where
-    by : (found : Option RowRecord) → tree.get bytes_cmp old key ≡ found → is_some found ≡ true →
-        MatchOption found (new ≡ old) (λ row. Updates bytes_cmp old new key
-        (Some (record row { lock = with_sharer xid row.lock }))) →
-        rows_in new ≡ map.insert (rows_in old) key (shared_row xid (map.get (rows_in old) key))
-    by None e there same = absurd (true≢false (sym there))
-    by (Some row) e there updates =
-        row_set old new key _ updates ∙ ap (λ found. map.insert (rows_in old) key (shared_row xid found))
-        (sym (get_view bytes_total exact_texts old key ∙ e))
-
--- a row that had no record, with one made of this sharer, is in the map a row that the branch shares
-pub shares_new : (xid : Xid) (key : List ℕ) (old mid new : BTreeMap (List ℕ) RowRecord) (lock : Lock)
-    → Shares xid key old mid
-    → is_some (tree.get bytes_cmp old key) ≡ false →
-    lock ≡ with_sharer xid (SharedBy set.empty) → Updates bytes_cmp mid new key
-    (Some (record { committed = None; lock = lock })) →
-    rows_in new ≡ map.insert (rows_in old) key (shared_row xid (map.get (rows_in old) key))
-shares_new xid key old mid new lock shares none lock_is updates =
-    row_set mid new key _ updates
-    ∙ ap (λ table. map.insert (rows_in table) key (record { committed = None; lock = lock }))
-    (nothing_shared xid key old mid shares none)
-    ∙ ap (λ l. map.insert (rows_in old) key (record { committed = None; lock = l })) lock_is
-    ∙ ap (λ found. map.insert (rows_in old) key (shared_row xid found))
-    (sym (get_view bytes_total exact_texts old key ∙ none_of (tree.get bytes_cmp old key) none))

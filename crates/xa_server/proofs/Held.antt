@@ -15,7 +15,7 @@ use Rattle.xa_server.specs.declared.hold.HeldRow.{HeldRow}
 use Rattle.xa_server.specs.declared.hold.Hold.TheVariants.{Shared as Shares}
 use Rattle.xa_server.specs.declared.lock.Lock.{Lock}
 use Rattle.xa_server.specs.declared.lock.Lock.TheVariants.{Exclusive as HeldBy, Shared as SharedBy}
-use Rattle.xa_server.specs.declared.row.RowRecord.{RowRecord}
+use Rattle.xa_server.specs.Recorded.{RowRecord}
 use Rattle.xa_server.specs.Held.{recorded_entry, recorded_entries, hold_in, with_held, held_among}
 use Rattle.xa_server.specs.Overview.{entry_of, branches_of, hold_of, held_row, rows_held, rows_of}
 use Rattle.xa_server.specs.Rows.{RowMap, write_by, write_in, lock_by, mode_in, write_of}
@@ -23,7 +23,8 @@ use Rattle.xa_server.specs.State.{State, Branch, LockMode, Exclusive, Shared, Wr
 use Rattle.xa_server.specs.Tables.{BranchMap}
 use Rattle.xa_server.specs.View.{gather, map_values, branch_seen, state_of}
 use Rattle.xa_server.proofs.Gathered.{entries-mapped}
-use Rattle.xa_server.proofs.Kept.{with_kept, kept, entries-gather, found_entries}
+use Rattle.xa_server.specs.Layers.{with_found as with_kept, gathered as kept}
+use Rattle.xa_server.proofs.Kept.{entries-gather, found_entries}
 use Rattle.xa_server.proofs.Seen.{get-branches, writes-seen, known_record}
 
 -- ---- branches

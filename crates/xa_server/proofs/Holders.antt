@@ -11,7 +11,7 @@ use Rattle.xa_xid.specs.Xid.{xid_cmp, same_xid}
 use Rattle.xa_xid.proofs.Orders.{xids_total, exact_xids}
 use Rattle.xa_server.specs.declared.lock.Lock.{Lock}
 use Rattle.xa_server.specs.declared.lock.Lock.TheVariants.{Exclusive as HeldBy, Shared as SharedBy}
-use Rattle.xa_server.specs.declared.row.RowRecord.{RowRecord}
+use Rattle.xa_server.specs.Recorded.{RowRecord}
 use Rattle.xa_server.specs.declared.association.Association.{Association}
 use Rattle.xa_server.specs.declared.association.Association.TheVariants.{Active}
 use Rattle.xa_server.specs.State.{Write, LockMode, Shared, Exclusive}
@@ -117,7 +117,7 @@ same_any p xs ys same = same_truth (list_any p xs) (list_any p ys)
     (λ e. let found = any_witness p ys e in any_some p xs found.0 (same found.0 ∙ found.1) found.2)
 
 -- a set with no members passes no test
-none_passes : (p : Xid → Bool) → list_any p (set.items (set.empty {R = xid_cmp})) ≡ false
+pub none_passes : (p : Xid → Bool) → list_any p (set.items (set.empty {R = xid_cmp})) ≡ false
 none_passes p = same_any p (set.items (set.empty {R = xid_cmp})) []
     (λ x. sym (contains-items (set.empty {R = xid_cmp}) x) ∙ contains-empty xid_cmp x)
 

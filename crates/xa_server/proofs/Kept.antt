@@ -17,25 +17,26 @@ use Rattle.std.specs.FinMap.Entries.{below_all}
 use Rattle.std.proofs.lemmas.Map.Lookups.{CmpEqualImpliesEq}
 use lib.Dec.{T}
 use Rattle.xa_server.specs.View.{gather}
+use Rattle.xa_server.specs.Layers.{with_found as with_kept, gathered as kept}
 use Rattle.xa_server.proofs.Gathered.{get-gather}
 use Rattle.xa_server.proofs.Maps.{same_or_apart, same_itself}
 
 -- if both of two tests hold, the first does
-first : (a b : Bool) → (a && b) ≡ true → a ≡ true
+pub first : (a b : Bool) → (a && b) ≡ true → a ≡ true
 first true b e = refl
 first false b e = absurd (true≢false (sym e))
 
 -- if both of two tests hold, the second does
-second : (a b : Bool) → (a && b) ≡ true → b ≡ true
+pub second : (a b : Bool) → (a && b) ≡ true → b ≡ true
 second true b e = e
 second false b e = absurd (true≢false (sym e))
 
 -- two tests that hold, hold together
-both : (a b : Bool) → a ≡ true → b ≡ true → (a && b) ≡ true
+pub both : (a b : Bool) → a ≡ true → b ≡ true → (a && b) ≡ true
 both a b e f = ap (λ c. c && b) e ∙ f
 
 -- a test that holds, as an equation
-is_true : (b : Bool) → T b → b ≡ true
+pub is_true : (b : Bool) → T b → b ≡ true
 is_true true t = refl
 is_true false t = absurd t
 
@@ -44,18 +45,6 @@ apart_below : (r : Ordering) → is_lt r ≡ true → is_eq r ≡ false
 apart_below Less e = refl
 apart_below Equal e = absurd (true≢false (sym e))
 apart_below Greater e = refl
-
-module _ {K W : Type 0} where
-  -- a value that was found, before others
-  abbrev pub with_kept : K → Option W → List (K × W) → List (K × W)
-  with_kept k None found = found
-  with_kept k (Some w) found = (k, w) ∷ found
-
-module _ {K V W : Type 0} where
-  -- what is found in each record, in order
-  abbrev pub kept : (V → Option W) → List (K × V) → List (K × W)
-  kept found [] = []
-  kept found (e ∷ es) = with_kept e.0 (found e.1) (kept found es)
 
 module _ {K W : Type 0} where
   -- a value in front of others, if there is one, makes them longer by one at most
@@ -88,7 +77,7 @@ module _ {K W : Type 0} (R : K → K → Ordering) where
   sorted_with k (Some w) rest e f = both (below_all R k rest) (is_sorted R rest) e f
 
   -- a key below all isn't found
-  find_none : (q : K) (es : List (K × W)) → below_all R q es ≡ true → find R q es ≡ None
+  pub find_none : (q : K) (es : List (K × W)) → below_all R q es ≡ true → find R q es ≡ None
   find_none q [] h = refl
   find_none q (e ∷ es) h =
       ap (λ b. cond b (Some e.1) (find R q es)) (apart_below (R q e.0) (first (is_lt (R q e.0)) (below_all R q es) h))
@@ -104,7 +93,8 @@ module _ {K V W : Type 0} (R : K → K → Ordering) where
       (below_kept found k es (second (is_lt (R k e.0)) (below_all R k es) h))
 
   -- what is found in sorted records is sorted
-  sorted_kept : (found : V → Option W) (es : List (K × V)) → is_sorted R es ≡ true → is_sorted R (kept found es) ≡ true
+  pub sorted_kept : (found : V → Option W) (es : List (K × V)) → is_sorted R es ≡ true → is_sorted R
+      (kept found es) ≡ true
   sorted_kept found [] h = refl
   sorted_kept found (e ∷ es) h =
       sorted_with R e.0 (found e.1) (kept found es) (below_kept found e.0 es
@@ -139,7 +129,7 @@ module _ {K V W : Type 0} {R : K → K → Ordering} (total : IsTotalOrder R) (e
       ∙ sym (ap (λ b. option_and_then found (cond b (Some e.1) (find R q es))) apart)
 
   -- a look-up among what is found in sorted records finds what is found in the key's record
-  find_kept : (found : V → Option W) (es : List (K × V)) (q : K) → is_sorted R es ≡ true
+  pub find_kept : (found : V → Option W) (es : List (K × V)) (q : K) → is_sorted R es ≡ true
       → find R q (kept found es) ≡ option_and_then found (find R q es)
   find_kept found [] q h = refl
   find_kept found (e ∷ es) q h = elim (same_or_apart total exact q e.0) [
@@ -216,7 +206,7 @@ module _ {K V : Type 0} {R : K → K → Ordering} (total : IsTotalOrder R) (exa
   below-strict k (e ∷ es) h = ap (λ r. is_lt r && below_all R k es) h.0 ∙ below-strict k es h.1
 
   -- strictly ascending entries are sorted by the map's test
-  sorted-strict : (es : List (K × V)) → IsStrictlySortedBy R (map (λ (e : K × V). e.0) es) → is_sorted R es ≡ true
+  pub sorted-strict : (es : List (K × V)) → IsStrictlySortedBy R (map (λ (e : K × V). e.0) es) → is_sorted R es ≡ true
   unfolding IsStrictlySortedBy
   sorted-strict [] h = refl
   sorted-strict (e ∷ es) h = ap (λ b. b && is_sorted R es) (below-strict e.0 es h.0) ∙ sorted-strict es h.1

@@ -2,7 +2,6 @@ pub mod Maps
 pub mod Index
 pub mod Records
 pub mod Outcomes
-pub mod RowRecords
 pub mod Freeing
 pub mod Gathered
 pub mod Holders
@@ -23,4 +22,7 @@ pub mod Listing
 pub mod Taking
 pub mod Keeping
 pub mod Kept
+pub mod Merging
+pub mod Underlying
+pub mod Layers
 pub mod Held

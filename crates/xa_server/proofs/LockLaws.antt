@@ -6,7 +6,7 @@ use Rattle.std.specs.FinMap as map
 use mathlib.Core.Bool.{true≢false}
 use Rattle.xa_xid.specs.declared.xid.Xid.{Xid}
 use Rattle.xa_server.specs.declared.branch.BranchRecord.{BranchRecord}
-use Rattle.xa_server.specs.declared.row.RowRecord.{RowRecord}
+use Rattle.xa_server.specs.Recorded.{RowRecord}
 use Rattle.xa_server.specs.State.{is_known, is_prepared, is_prepared_phase, owner_at}
 use Rattle.xa_server.specs.Locks.{LockLaw, is_exclusive}
 use Rattle.xa_server.specs.Tables.{BranchMap}

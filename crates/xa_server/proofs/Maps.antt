@@ -35,7 +35,7 @@ module _ {K : Type 0} {R : K → K → Ordering} (total : IsTotalOrder R) (exact
 
 module _ {K X : Type 0} {R : K → K → Ordering} (total : IsTotalOrder R) (exact : CmpEqualImpliesEq R) where
   -- a look-up in entries as maps make it is one as trees make it
-  find_lookup : (es : List (K × X)) (q : K) → find R q es ≡ lookup (is_at (R q)) es
+  pub find_lookup : (es : List (K × X)) (q : K) → find R q es ≡ lookup (is_at (R q)) es
   find_lookup [] q = refl
   find_lookup (e ∷ es) q = ap (cond (is_at (R q) e.0) (Some e.1)) (find_lookup es q)
 

@@ -14,7 +14,7 @@ use Rattle.xa_server.specs.declared.branch.Phase.TheVariants.{Active as PhaseAct
 use Rattle.xa_server.specs.declared.branch.BranchRecord.{BranchRecord}
 use Rattle.xa_server.specs.declared.lock.Change.{Change}
 use Rattle.xa_server.specs.declared.lock.Lock.TheVariants.{Shared as SharedBy}
-use Rattle.xa_server.specs.declared.row.RowRecord.{RowRecord}
+use Rattle.xa_server.specs.Recorded.{RowRecord}
 use Rattle.xa_server.specs.declared.association.Association.TheVariants.{Active}
 use Rattle.xa_server.specs.State.{LockMode, Shared, Exclusive, Branch, State, no_state}
 use Rattle.xa_server.specs.Locks.{is_exclusive}

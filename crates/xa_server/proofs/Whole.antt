@@ -12,7 +12,7 @@ use Rattle.xa_xid.specs.declared.xid.Xid.{Xid}
 use Rattle.xa_xid.specs.Xid.{bytes_cmp, xid_cmp, same_xid}
 use Rattle.xa_xid.proofs.Orders.{xids_total, exact_xids, bytes_total, exact_texts}
 use Rattle.xa_server.specs.declared.branch.BranchRecord.{BranchRecord}
-use Rattle.xa_server.specs.declared.row.RowRecord.{RowRecord}
+use Rattle.xa_server.specs.Recorded.{RowRecord}
 use Rattle.xa_server.specs.State.{is_prepared_phase}
 use Rattle.xa_server.specs.Tables.{BranchMap, owner_of, with_record}
 use Rattle.xa_server.specs.Rows.{RowMap, lock_by, Frees}

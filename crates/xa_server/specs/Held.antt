@@ -3,6 +3,7 @@
 --     hold_in            how this branch holds a row, if it does, by the row's lock
 --     with_held          a list of held rows with one more in front, if that one is held
 --     held_among         the rows that this branch holds, of those in a list of records
+--     held_recently      the same, of those in a list of the records of recent rows
 --     recorded_entries   every branch, by its record
 use Rattle.std.specs.Prelude.{ℕ, cond, Option, Some, None, List, [], ◌∷◌, map}
 use Rattle.std.specs.Option.{option_map_or}
@@ -17,7 +18,8 @@ use Rattle.xa_server.specs.declared.hold.HeldRow.{HeldRow}
 use Rattle.xa_server.specs.declared.lock.Lock.{Lock}
 use Rattle.xa_server.specs.declared.lock.Lock.TheVariants.{Exclusive as HeldBy, Shared as SharedBy}
 use Rattle.xa_server.specs.declared.overview.BranchEntry.{BranchEntry}
-use Rattle.xa_server.specs.declared.row.RowRecord.{RowRecord}
+use Rattle.xa_server.specs.declared.row.RecentRow.{RecentRow}
+use Rattle.xa_server.specs.Recorded.{RowRecord}
 use Rattle.xa_server.specs.Overview.{hold_of}
 use Rattle.xa_server.specs.Rows.{write_of}
 use Rattle.xa_server.specs.Tables.{BranchMap}
@@ -44,3 +46,8 @@ with_held key held rows = option_map_or (λ hold. record { key = key; hold = hol
 abbrev pub held_among : Xid → List (List ℕ × RowRecord) → List HeldRow
 held_among xid [] = []
 held_among xid (row ∷ rows) = with_held row.0 (hold_in xid row.1.lock) (held_among xid rows)
+
+-- the rows that this branch holds, of those in a list of keys with the records of recent rows, in its order
+abbrev pub held_recently : Xid → List (List ℕ × RecentRow) → List HeldRow
+held_recently xid [] = []
+held_recently xid (row ∷ rows) = with_held row.0 (hold_in xid row.1.lock) (held_recently xid rows)

@@ -6,8 +6,11 @@ pub mod Finish
 pub mod Laws
 pub mod Coding
 pub mod Tables
+pub mod Recorded
 pub mod Rows
 pub mod View
+pub mod Layers
+pub mod Merging
 pub mod Errors
 pub mod Overview
 pub mod Held

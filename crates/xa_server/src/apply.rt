@@ -66,10 +66,7 @@ impl Server {
         ensures err { OnErr result (self.new ≡ self.old) }
     {
         match self.association(session) {
-            Association::Free => {
-                self.delete_row(key);
-                Ok(())
-            }
+            Association::Free => self.delete_row(key),
             Association::Active(own) => {
                 // The server lends `own`, and `hold` changes the server.
                 let own = own.try_clone()?;

@@ -2,11 +2,11 @@
 ghost use Rattle.std.specs.Prelude.{◌≡◌, ◌≢◌, [], IfOk, OnErr};
 ghost use Rattle.std.specs.BTreeMap as tree;
 ghost use Rattle.xa_xid.specs.Xid.{bytes_cmp};
-ghost use Rattle.xa_server.specs.Held.{hold_in as hold_in_lock, held_among};
+ghost use Rattle.xa_server.specs.Held.{hold_in as hold_in_lock, held_recently};
 
 use crate::association::is_same;
 use crate::lock::{Change, Lock};
-use crate::row::RowRecord;
+use crate::row::RecentRow;
 use std::alloc::Global;
 use std::collections::BTreeMap;
 use xa_xid::{Bytes, Key, NoMemory, Xid, copy_of};
@@ -57,19 +57,19 @@ fn hold_in(xid: &Xid, lock: &Lock) -> Option<Hold>
     }
 }
 
-/// Lists the rows that this branch holds, ascending by key. `by_key` has the records of all rows. Returns `NoMemory`
-/// only if the branch holds a row.
+/// Lists the rows that this branch holds, ascending by key. `recent` has the records of all rows that branches hold.
+/// Returns `NoMemory` only if the branch holds a row.
 pub fn held_in(
     alloc: Global,
-    by_key: &BTreeMap<Key, RowRecord>,
+    recent: &BTreeMap<Key, RecentRow>,
     xid: &Xid,
 ) -> Result<Vec<HeldRow>, NoMemory>
-    ensures listed { IfOk result (λ rows. rows.items ≡ held_among xid.now by_key.now.entries) }
-    ensures memory { OnErr result (held_among xid.now by_key.now.entries ≢ []) }
-    ensures ordered { tree.IsOrdered bytes_cmp by_key.now }
+    ensures listed { IfOk result (λ rows. rows.items ≡ held_recently xid.now recent.now.entries) }
+    ensures memory { OnErr result (held_recently xid.now recent.now.entries ≢ []) }
+    ensures ordered { tree.IsOrdered bytes_cmp recent.now }
 {
     let mut rows = Vec::new(alloc);
-    for (key, row) in by_key {
+    for (key, row) in recent {
         if let Some(hold) = hold_in(xid, &row.lock) {
             rows.push(HeldRow {
                 key: key.copy(),

@@ -19,6 +19,8 @@ mod overview;
 mod reply;
 mod row;
 mod row_table;
+mod run;
+mod runs;
 mod server;
 mod several_sharers;
 mod shared_text;

@@ -1,8 +1,9 @@
-//! The record of a row.
+//! The records of the rows that were touched lately.
 ghost use Rattle.std.specs.Prelude.{◌≡◌, true, is_some, IfOk};
-ghost use Rattle.std.specs.Option.{option_copied, option_and_then};
-ghost use Rattle.xa_server.specs.Rows.{committed_of, held_against, locked_against, value_seen, lock_by, freed_row};
-ghost use Rattle.xa_server.specs.Rows.{is_needed};
+ghost use Rattle.std.specs.Option.{option_copied};
+ghost use Rattle.xa_server.specs.Rows.{held_beside, locked_beside, mode_in, write_in};
+ghost use Rattle.xa_server.specs.Layers.{recent_lock, change_of, change_at, value_of, hides_below, freed_recent};
+ghost use Rattle.xa_server.specs.Layers.{is_needed_over, held_as_below};
 
 use crate::association::{Association, is_same};
 use crate::lock::{Change, Lock, is_same_text};
@@ -10,83 +11,123 @@ use crate::shared_text::SharedText;
 use std::alloc::{AllocError, Global};
 use xa_xid::{Bytes, NoMemory, Xid, copy_of};
 
-/// The server's record of a row. A row has no record if it has no value and no branch holds it.
+/// The committed value of a row that has a record.
 #[derive(Drop)]
-pub struct RowRecord {
+pub enum RecentValue {
+    /// What the runs below the record have: a value, or none.
+    AsBelow,
+    /// This value, whatever the runs have.
+    Value(SharedText),
+    /// No value, whatever the runs have.
+    Gone,
+}
+
+/// The record of a row that was written or held lately. Each row that a branch holds has one.
+#[derive(Drop)]
+pub struct RecentRow {
     /// The value that all sessions see.
-    pub committed: Option<SharedText>,
+    pub value: RecentValue,
     /// The branches that hold the row.
     pub lock: Lock,
 }
 
-impl Clone for RowRecord {
+impl RecentValue {
+    /// Copies the value.
+    fn copy(&self) -> Result<RecentValue, NoMemory>
+        ensures { IfOk result (λ copy. copy ≡ self.now) }
+    {
+        match self {
+            RecentValue::AsBelow => Ok(RecentValue::AsBelow),
+            RecentValue::Value(text) => Ok(RecentValue::Value(text.try_clone()?)),
+            RecentValue::Gone => Ok(RecentValue::Gone),
+        }
+    }
+
+    /// Returns true only if both say the same of the value below.
+    fn is_same(&self, other: &RecentValue) -> bool
+        ensures { result ≡ true → self.now ≡ other.now }
+    {
+        match self {
+            RecentValue::AsBelow => matches!(other, RecentValue::AsBelow),
+            RecentValue::Value(text) => match other {
+                RecentValue::Value(another) => is_same_text(text.text(), another.text()),
+                _ => false,
+            },
+            RecentValue::Gone => matches!(other, RecentValue::Gone),
+        }
+    }
+
+    /// Makes the value of a row that has this one, or none, whatever the runs have.
+    pub fn of(value: Option<SharedText>) -> RecentValue
+        ensures { result ≡ value_of value }
+    {
+        match value {
+            Some(text) => RecentValue::Value(text),
+            None => RecentValue::Gone,
+        }
+    }
+
+    /// Returns whether it says more than no record would. A deletion does only if there are runs below: not if the
+    /// record `is_alone`.
+    fn hides(&self, is_alone: bool) -> bool
+        ensures { result ≡ hides_below is_alone self.now }
+    {
+        match self {
+            RecentValue::AsBelow => false,
+            RecentValue::Value(_) => true,
+            RecentValue::Gone => !is_alone,
+        }
+    }
+
+    /// Returns what the record makes of the value below it: a value, or none. `None` if it leaves that as it is.
+    pub fn change(&self) -> Result<Option<Option<SharedText>>, NoMemory>
+        ensures { IfOk result (λ change. change ≡ change_of self.now) }
+    {
+        match self {
+            RecentValue::AsBelow => Ok(None),
+            RecentValue::Value(text) => Ok(Some(Some(text.try_clone()?))),
+            RecentValue::Gone => Ok(Some(None)),
+        }
+    }
+}
+
+impl Clone for RecentRow {
     ghost is_clone = { λ row copy. copy ≡ row };
 
-    fn clone(&self) -> Result<RowRecord, AllocError> {
-        Ok(RowRecord {
-            committed: share_of_value(&self.committed)?,
+    fn clone(&self) -> Result<RecentRow, AllocError> {
+        Ok(RecentRow {
+            value: self.value.copy()?,
             lock: self.lock.copy()?,
         })
     }
 }
 
-/// Returns true only if two values are the same, or both are missing.
-fn is_same_value(left: &Option<SharedText>, right: &Option<SharedText>) -> bool
-    ensures { result ≡ true → left.now ≡ right.now }
-{
-    match left {
-        None => right.is_none(),
-        Some(value) => match right {
-            None => false,
-            Some(other) => is_same_text(value.text(), other.text()),
-        },
-    }
-}
-
-impl RowRecord {
+impl RecentRow {
     /// Returns true only if both records are the same.
-    pub fn is_same(&self, other: &RowRecord) -> bool
+    pub fn is_same(&self, other: &RecentRow) -> bool
         ensures { result ≡ true → self.now ≡ other.now }
     {
-        is_same_value(&self.committed, &other.committed) && self.lock.is_same(&other.lock)
+        self.value.is_same(&other.value) && self.lock.is_same(&other.lock)
     }
-}
 
-/// Returns a further owner of a value; None if there is no value.
-fn share_of_value(value: &Option<SharedText>) -> Result<Option<SharedText>, NoMemory>
-    ensures { IfOk result (λ share. share ≡ value.now) }
-{
-    match value {
-        None => Ok(None),
-        Some(text) => Ok(Some(text.try_clone()?)),
-    }
-}
-
-/// Copies a value, if there is one.
-fn copy_of_value(value: &Option<SharedText>) -> Option<Bytes>
-    ensures { result ≡ value.now }
-{
-    match value {
-        None => None,
-        Some(shared) => Some(copy_of(shared.text())),
-    }
-}
-
-/// Returns the value that all sessions see, or None if the row has none. `row` is the row's record; a row without one
-/// has no value.
-pub fn committed_value(row: Option<&RowRecord>) -> Option<Bytes>
-    ensures { result ≡ committed_of (option_copied row.entry) }
-{
-    match row {
-        None => None,
-        Some(record) => copy_of_value(&record.committed),
+    /// Copies the record of a row that a branch holds, over runs that have its value. `None` if no branch holds it.
+    pub fn held(&self) -> Result<Option<RecentRow>, NoMemory>
+        ensures { IfOk result (λ row. row ≡ held_as_below self.now) }
+    {
+        if !self.lock.is_held_beside(&Association::Free) {
+            return Ok(None);
+        }
+        Ok(Some(RecentRow {
+            value: RecentValue::AsBelow,
+            lock: self.lock.copy()?,
+        }))
     }
 }
 
 /// Returns whether a branch holds the row, in share or exclusively, that isn't the one that the session has open, its
-/// `association`. `row` is the row's record; a row without one is held by nobody.
-pub fn is_held_against(association: &Association, row: Option<&RowRecord>) -> bool
-    ensures { result ≡ held_against association.now (option_copied row.entry) }
+/// `association`. A row without a record is held by nobody.
+pub fn is_held_against(association: &Association, row: Option<&RecentRow>) -> bool
+    ensures { result ≡ held_beside association.now (recent_lock (option_copied row.entry)) }
 {
     match row {
         None => false,
@@ -95,9 +136,9 @@ pub fn is_held_against(association: &Association, row: Option<&RowRecord>) -> bo
 }
 
 /// Returns whether a branch holds the row exclusively that isn't the one that the session has open, its `association`.
-/// `row` is the row's record; a row without one is held by nobody.
-pub fn is_locked_against(association: &Association, row: Option<&RowRecord>) -> bool
-    ensures { result ≡ locked_against association.now (option_copied row.entry) }
+/// A row without a record is held by nobody.
+pub fn is_locked_against(association: &Association, row: Option<&RecentRow>) -> bool
+    ensures { result ≡ locked_beside association.now (recent_lock (option_copied row.entry)) }
 {
     match row {
         None => false,
@@ -105,12 +146,53 @@ pub fn is_locked_against(association: &Association, row: Option<&RowRecord>) -> 
     }
 }
 
+/// Returns whether this branch holds the row, in share or exclusively. A row without a record is held by nobody.
+pub fn is_held_by(own: &Xid, row: Option<&RecentRow>) -> bool
+    ensures { result ≡ is_some (mode_in own.now (recent_lock (option_copied row.entry))) }
+{
+    match row {
+        None => false,
+        Some(record) => record.lock.is_held_by(own),
+    }
+}
+
+/// Returns what this branch wrote to the row last, a value or a deletion, if it holds the row exclusively. A row
+/// without a record is held by nobody.
+pub fn written_by(own: &Xid, row: Option<&RecentRow>) -> Option<Option<Bytes>>
+    ensures { result ≡ write_in own.now (recent_lock (option_copied row.entry)) }
+{
+    // A branch writes a row only while it holds it exclusively.
+    let Lock::Exclusive { holder, change } = &row?.lock else {
+        return None;
+    };
+    // What another branch wrote isn't seen before its commit.
+    if !is_same(holder.xid(), own) {
+        return None;
+    }
+    match change {
+        Change::Put(value) => Some(Some(copy_of(value.text()))),
+        Change::Delete => Some(None),
+    }
+}
+
+/// Returns what the row's record makes of the value below it: a value, or none. `None` if it leaves that as it is, or
+/// if there is no record.
+pub fn changed_value(row: Option<&RecentRow>) -> Option<Option<Bytes>>
+    ensures { result ≡ change_at (option_copied row.entry) }
+{
+    match &row?.value {
+        RecentValue::AsBelow => None,
+        RecentValue::Value(text) => Some(Some(copy_of(text.text()))),
+        RecentValue::Gone => Some(None),
+    }
+}
+
 /// Ends the branch's hold of a row, if the branch holds it. If the branch `commits`, and held the row exclusively, its
-/// change becomes the row's value. Returns whether the record is still needed: the row has a value, or a branch holds
-/// it.
-pub fn free(row: &mut RowRecord, alloc: Global, xid: &Xid, commits: bool) -> bool
-    ensures row { row.new ≡ freed_row commits xid.now row.old }
-    ensures needed { result ≡ is_needed row.new }
+/// change becomes the row's value. Returns whether the record is still needed: a branch holds the row, or the record
+/// says more than no record would. `is_alone` says that there are no runs below.
+pub fn free(row: &mut RecentRow, alloc: Global, xid: &Xid, commits: bool, is_alone: bool) -> bool
+    ensures row { row.new ≡ freed_recent commits xid.now row.old }
+    ensures needed { result ≡ is_needed_over is_alone row.new }
 {
     // `without` takes the lock itself, so an empty one stands in for it meanwhile.
     let held = std::mem::replace(&mut row.lock, Lock::nobodys(alloc));
@@ -119,41 +201,9 @@ pub fn free(row: &mut RowRecord, alloc: Global, xid: &Xid, commits: bool) -> boo
     if let Some(change) = change {
         // A branch that is rolled back leaves the value as it was.
         if commits {
-            row.committed = change.into_value();
+            row.value = RecentValue::of(change.into_value());
         }
     }
     // A free session has no branch, so any branch that holds the row holds it beside such a session.
-    row.committed.is_some() || row.lock.is_held_beside(&Association::Free)
-}
-
-/// Returns whether this branch holds the row, in share or exclusively. `row` is the row's record; a row without one is
-/// held by nobody.
-pub fn is_held_by(own: &Xid, row: Option<&RowRecord>) -> bool
-    ensures { result ≡ is_some (option_and_then (lock_by own.now) (option_copied row.entry)) }
-{
-    match row {
-        None => false,
-        Some(record) => record.lock.is_held_by(own),
-    }
-}
-
-/// Returns the value that this branch sees: by its own newest write of the row, and else the committed one. None if the
-/// row has no value for the branch.
-pub fn value_within(own: &Xid, row: Option<&RowRecord>) -> Option<Bytes>
-    ensures { result ≡ value_seen own.now (option_copied row.entry) }
-{
-    // A row without a record has no value.
-    let record = row?;
-    // A branch writes a row only while it holds it exclusively.
-    let Lock::Exclusive { holder, change } = &record.lock else {
-        return copy_of_value(&record.committed);
-    };
-    // What another branch wrote isn't seen before its commit.
-    if !is_same(holder.xid(), own) {
-        return copy_of_value(&record.committed);
-    }
-    match change {
-        Change::Put(value) => Some(copy_of(value.text())),
-        Change::Delete => None,
-    }
+    row.lock.is_held_beside(&Association::Free) || row.value.hides(is_alone)
 }

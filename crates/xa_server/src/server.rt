@@ -4,6 +4,7 @@ ghost use Rattle.std.specs.FinMap as map;
 ghost use Rattle.xa_server.specs.Tables.{with_record, without_last};
 
 use crate::association::Association;
+use crate::branch;
 use crate::branch_table::BranchTable;
 use crate::hold::HeldRow;
 use crate::lock::Change;
@@ -11,7 +12,6 @@ use crate::overview::BranchEntry;
 use crate::reply::XidList;
 use crate::row_table::RowTable;
 use crate::shared_xid::SharedXid;
-use crate::{branch, row};
 use std::alloc::Global;
 use std::marker::Model;
 use xa_xid::{Bytes, Key, NoMemory, SessionNo, Xid};
@@ -104,16 +104,6 @@ impl Server {
         })
     }
 
-    /// Returns how many rows the server has a record of: all that have a value, and those that a branch holds.
-    ///
-    /// A copy takes time and memory for each. Takes no memory. Doesn't wait.
-    pub fn row_count(&self) -> usize
-        // Proved (server, row-count): A server counts at least the rows that have a value.
-        ensures { map.len self.now.rows ≤ result }
-    {
-        self.rows.count()
-    }
-
     /// Returns whether both servers are known to have the same branches and rows.
     ///
     /// `true` means that they have. `false` is also returned for two servers that have the same, if a
@@ -171,7 +161,7 @@ impl Server {
     pub(crate) fn committed_value(&self, key: &Key) -> Option<Bytes>
         ensures { result ≡ committed_value_of self.now key.now }
     {
-        row::committed_value(self.rows.row(key))
+        self.rows.committed(key)
     }
 
     /// Returns the value of a row that the branch `own` sees: by its own newest write of the row, and else the
@@ -179,7 +169,7 @@ impl Server {
     pub(crate) fn value_within(&self, own: &Xid, key: &Key) -> Option<Bytes>
         ensures { result ≡ value_within_of self.now own.now key.now }
     {
-        row::value_within(own, self.rows.row(key))
+        self.rows.value_within(own, key)
     }
 
     /// Returns whether a branch holds the row, in share or exclusively, that isn't the one that the session has open,
@@ -187,7 +177,7 @@ impl Server {
     pub(crate) fn is_held_against(&self, association: &Association, key: &Key) -> bool
         ensures { result ≡ is_held_against_of self.now association.now key.now }
     {
-        row::is_held_against(association, self.rows.row(key))
+        self.rows.is_held_against(association, key)
     }
 
     /// Returns whether a branch holds the row exclusively that isn't the one that the session has open, its
@@ -195,14 +185,14 @@ impl Server {
     pub(crate) fn is_locked_against(&self, association: &Association, key: &Key) -> bool
         ensures { result ≡ is_locked_against_of self.now association.now key.now }
     {
-        row::is_locked_against(association, self.rows.row(key))
+        self.rows.is_locked_against(association, key)
     }
 
     /// Returns whether the branch holds the row, in share or exclusively.
     pub(crate) fn holds(&self, own: &Xid, key: &Key) -> bool
         ensures { result ≡ holds_of self.now own.now key.now }
     {
-        row::is_held_by(own, self.rows.row(key))
+        self.rows.is_held_by(own, key)
     }
 
     /// Lists the identifiers of the PREPARED branches, ascending.
@@ -272,7 +262,7 @@ impl Server {
         let xid = own.xid();
         let holder = own.try_clone()?;
         // A branch that holds the row has listed the key already.
-        if row::is_held_by(xid, self.rows.row(key)) {
+        if self.rows.is_held_by(xid, key) {
             return self.rows.hold(key, holder, change);
         }
         // The key is listed first: if there is no memory for the row's record, taking it off the list needs none.
@@ -309,12 +299,13 @@ impl Server {
         self.rows.put(key, value)
     }
 
-    /// Removes the value of a row that no branch holds.
-    pub(crate) fn delete_row(&mut self, key: &Key)
+    /// Removes the value of a row that no branch holds. After `NoMemory` the server is unchanged.
+    pub(crate) fn delete_row(&mut self, key: &Key) -> Result<(), NoMemory>
         requires { is_held_against_of self.old Free key.now ≡ false }
-        ensures { self.new ≡ record self.old { rows = with_write key.now None self.old.rows } }
+        ensures ok { OnOk result (self.new ≡ record self.old { rows = with_write key.now None self.old.rows }) }
+        ensures err { OnErr result (self.new ≡ self.old) }
     {
-        self.rows.delete(key);
+        self.rows.delete(key)
     }
 
     /// Ends a branch. If it `commits`, its writes become the committed values; otherwise they are dropped.

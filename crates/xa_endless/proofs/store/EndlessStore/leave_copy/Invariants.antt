@@ -5,4 +5,5 @@ abbrev pub invariant-loop-step : goal.invariant-loop-step
 invariant-loop-step l = record {
   member : l.member ≡ l.fn.member;
   copy : l.shared.value ≡ l.fn.member.replica;
+  own : l.own ≡ l.fn.member.replica;
 }

@@ -1,8 +1,7 @@
-use Rattle.std.proofs.Common.{ap, sym, ◌∙◌}
+use Rattle.std.proofs.Common.{ap, ◌∙◌}
 use Rattle.std.specs.FinMap.{entries}
-use Rattle.xa_xid.proofs.Orders.{bytes_total, exact_texts}
 use Rattle.xa_server.specs.Held.{held_among}
-use Rattle.xa_server.proofs.Kept.{entries-made}
+use Rattle.xa_server.proofs.Layers.{held_listed}
 use Rattle.xa_server.proofs.Outcomes.{if_ok, on_err}
 use Rattle.xa_server.proofs.row_table.RowTable.held_by.Goals as goal
 
@@ -10,13 +9,11 @@ pub returns-clause-listed : goal.returns-clause-listed
 returns-clause-listed c =
     if_ok c.held_in.result c.held_in.ensures.listed
     (λ rows is. is
-    ∙ ap (held_among c.args.xid.now)
-    (sym (entries-made bytes_total exact_texts c.self.inside.by_key.entries c.held_in.ensures.ordered))
+    ∙ held_listed c.args.xid.now c.self.inside.recent c.self.inside.runs c.held_in.ensures.ordered
     ∙ ap (λ records. held_among c.args.xid.now (entries records)) c.self.view_is)
 
 pub returns-clause-memory : goal.returns-clause-memory
 returns-clause-memory c =
     on_err c.held_in.result c.held_in.ensures.memory
-    (λ some none. some (ap (held_among c.args.xid.now) (sym
-    (entries-made bytes_total exact_texts c.self.inside.by_key.entries c.held_in.ensures.ordered))
+    (λ some none. some (held_listed c.args.xid.now c.self.inside.recent c.self.inside.runs c.held_in.ensures.ordered
     ∙ ap (λ records. held_among c.args.xid.now (entries records)) c.self.view_is ∙ none))

@@ -6,6 +6,6 @@ use Rattle.xa_server.proofs.server.Server.committed_value.Goals as goal
 
 pub returns : goal.returns
 returns c =
-    c.committed_value.ensures ∙ ap committed_of c.row.ensures
+    c.committed.ensures
     ∙ sym (Seen.committed-seen c.self.inside.branches c.self.inside.rows c.args.key.now)
     ∙ ap (λ s. committed_value s c.args.key.now) c.self.view_is

@@ -5,7 +5,7 @@ use Rattle.std.specs.FinMap as map
 use Rattle.xa_xid.specs.declared.xid.Xid.{Xid}
 use Rattle.xa_server.specs.declared.association.Association.TheVariants.{Active}
 use Rattle.xa_server.specs.declared.lock.Change.{Change}
-use Rattle.xa_server.specs.declared.row.RowRecord.{RowRecord}
+use Rattle.xa_server.specs.Recorded.{RowRecord}
 use Rattle.xa_server.specs.State.{State, is_known}
 use Rattle.xa_server.specs.Locks.{is_held_against}
 use Rattle.xa_server.specs.Step.{with_changed}
@@ -17,13 +17,11 @@ use Rattle.xa_server.proofs.Holding
 use Rattle.xa_server.proofs.server.Server.hold.Goals as goal
 
 -- what a row's record says of the branch
-lock_in : (branches : BranchMap) (rows : RowMap) (own named : Xid) (key : List ℕ) (found : Option RowRecord) (b : Bool)
-    → found ≡ map.get rows key
-    → named ≡ own → b ≡ is_some (option_and_then (lock_by named) found)
+lock_in : (rows : RowMap) (own named : Xid) (key : List ℕ) (b : Bool) → named ≡ own
+    → b ≡ is_some (option_and_then (lock_by named) (map.get rows key))
     → is_some (option_and_then (lock_by own) (map.get rows key)) ≡ b
-lock_in branches rows own named key found b is same told =
-    ap (λ row. is_some (option_and_then (lock_by own) row)) (sym is)
-    ∙ ap (λ xid. is_some (option_and_then (lock_by xid) found)) (sym same) ∙ sym told
+lock_in rows own named key b same told =
+    ap (λ xid. is_some (option_and_then (lock_by xid) (map.get rows key))) (sym same) ∙ sym told
 
 -- the rows, held by a name of the branch
 held_as : (rows new : RowMap) (own holder : Xid) (key : List ℕ) (change : Change) → holder ≡ own
@@ -68,8 +66,8 @@ invariant_of-self c =
     (again c.self.inside.branches c.self.inside.rows c.args.self.now c.args.own.now c.args.key.now c.args.change
     c.self.view_is c.self.invariant
     c.requires.known c.requires.unheld
-    (lock_in c.self.inside.branches c.self.inside.rows c.args.own.now c.xid-xid.result.now c.args.key.now _ _
-    c.row.ensures c.xid-xid.ensures c.if-is_held_by.ensures)).0)
+    (lock_in c.self.inside.rows c.args.own.now c.xid-xid.result.now c.args.key.now _ c.xid-xid.ensures
+    c.if-is_held_by.ensures)).0)
     (λ err. rw err c.self.invariant)
 
 pub returns-then-is_held_by-clause-ok : goal.returns-then-is_held_by-clause-ok
@@ -79,8 +77,8 @@ returns-then-is_held_by-clause-ok c = on_ok c.hold.result c.hold.ensures.ok (λ 
     ∙ (again c.self.inside.branches c.self.inside.rows c.args.self.now c.args.own.now c.args.key.now c.args.change
     c.self.view_is c.self.invariant
     c.requires.known c.requires.unheld
-    (lock_in c.self.inside.branches c.self.inside.rows c.args.own.now c.xid-xid.result.now c.args.key.now _ _
-    c.row.ensures c.xid-xid.ensures c.if-is_held_by.ensures)).1)
+    (lock_in c.self.inside.rows c.args.own.now c.xid-xid.result.now c.args.key.now _ c.xid-xid.ensures
+    c.if-is_held_by.ensures)).1)
 
 -- the records once the key was taken out again
 back : (branches listed taken : BranchMap) (own : Xid) (key : List ℕ)
@@ -102,8 +100,8 @@ invariant_of-self-2 c =
     (anew c.self.inside.branches c.self.inside.rows c.args.self.now c.args.own.now c.args.key.now c.args.change
     c.self.view_is c.self.invariant c.requires.known
     c.requires.unheld
-    (lock_in c.self.inside.branches c.self.inside.rows c.args.own.now c.xid-xid.result.now c.args.key.now _ _
-    c.row.ensures c.xid-xid.ensures c.if-is_held_by.ensures)).0)
+    (lock_in c.self.inside.rows c.args.own.now c.xid-xid.result.now c.args.key.now _ c.xid-xid.ensures
+    c.if-is_held_by.ensures)).0)
     (λ err taken. rw (
       back c.self.inside.branches c.list.new.self c.unlist_refused.new.branches c.args.own.now c.args.key.now
           (Holding.changed_as c.self.inside.branches c.list.new.self c.args.own.now c.xid-xid.result.now
@@ -136,5 +134,5 @@ returns-clause-ok c = on_ok_both c.hold-held.result c.hold-held.ensures.ok c.unl
     ∙ (anew c.self.inside.branches c.self.inside.rows c.args.self.now c.args.own.now c.args.key.now c.args.change
     c.self.view_is c.self.invariant
     c.requires.known c.requires.unheld
-    (lock_in c.self.inside.branches c.self.inside.rows c.args.own.now c.xid-xid.result.now c.args.key.now _ _
-    c.row.ensures c.xid-xid.ensures c.if-is_held_by.ensures)).1)
+    (lock_in c.self.inside.rows c.args.own.now c.xid-xid.result.now c.args.key.now _ c.xid-xid.ensures
+    c.if-is_held_by.ensures)).1)

@@ -8,6 +8,6 @@ use Rattle.xa_server.proofs.server.Server.holds.Goals as goal
 
 pub returns : goal.returns
 returns c =
-    c.is_held_by.ensures ∙ ap (λ row. is_some (option_and_then (lock_by c.args.own.now) row)) c.row.ensures
+    c.is_held_by.ensures
     ∙ sym (Seen.holds-seen c.self.inside.branches c.self.inside.rows c.args.own.now c.args.key.now c.self.invariant)
     ∙ ap (λ s. holds s c.args.own.now c.args.key.now) c.self.view_is

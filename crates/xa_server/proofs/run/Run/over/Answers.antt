@@ -1,0 +1,15 @@
+use Rattle.xa_server.specs.Layers.{kept_write}
+use Rattle.xa_server.proofs.Outcomes.{if_ok}
+use Rattle.xa_server.proofs.Underlying.{sorted_over, merged_run}
+use Rattle.xa_server.proofs.run.Run.over.Goals as goal
+
+pub of-requires : goal.of-requires
+of-requires c =
+    sorted_over (kept_write c.args.is_last) c.rows.result.now c.rows-2.result.now _
+    c.rows.ensures.ordered c.rows-2.ensures.ordered c.in_ok-merge.ensures
+
+pub returns : goal.returns
+returns c =
+    if_ok c.of.result c.of.ensures (λ run is key.
+    merged_run c.args.is_last c.rows.result.now c.rows-2.result.now _ c.args.self.now c.args.older.now run key
+    c.rows.ensures.ordered c.rows-2.ensures.ordered c.in_ok-merge.ensures c.rows.ensures.seen c.rows-2.ensures.seen is)

@@ -1,0 +1,25 @@
+use Rattle.std.proofs.Common.{sym}
+use Rattle.xa_xid.proofs.Orders.{bytes_total, exact_texts}
+use Rattle.xa_server.proofs.Merging.{search_front, search_here, search_back}
+use Rattle.xa_server.proofs.run.find_in.Goals as goal
+
+pub loop-left-preserved-in-Less : goal.loop-left-preserved-in-Less
+loop-left-preserved-in-Less c =
+    let found = search_front bytes_total exact_texts c.args.key.now c.loop-left.left.now _ _ _ c.in-Some.row.now _ _
+    c.split_at.ensures.front c.split_at.ensures.back c.in-Some.ensures.cases.0
+    c.loop-left.invariant.sorted c.loop-left.invariant.same (sym c.in-Less.ensures) in
+    record { sorted = found.0; same = found.1 }
+
+pub returns-in-Equal : goal.returns-in-Equal
+returns-in-Equal c =
+    rw c.copy_of_write.ensures
+    (search_here bytes_total exact_texts c.args.key.now c.loop-left.left.now _ _ _ c.in-Some.row.now _ _
+    c.split_at.ensures.front c.split_at.ensures.back c.in-Some.ensures.cases.0
+    c.loop-left.invariant.sorted c.loop-left.invariant.same (sym c.in-Equal.ensures))
+
+pub loop-left-preserved : goal.loop-left-preserved
+loop-left-preserved c =
+    let found = search_back bytes_total exact_texts c.args.key.now c.loop-left.left.now _ _ _ c.in-Some.row.now _ _
+    c.split_at.ensures.front c.split_at.ensures.back c.in-Some.ensures.cases.0
+    c.loop-left.invariant.sorted c.loop-left.invariant.same (sym c.in-Greater.ensures) in
+    record { sorted = found.0; same = found.1 }
