@@ -35,7 +35,7 @@ use Rattle.chain_log.proofs.ChainSteps.{Rules, blank, newest_by, seen_keeps}
 use Rattle.chain_log.proofs.Names.{name_begins, name_low, newest_added, one_cell, one_length, within_words, words_apart}
 
 -- if the rule holds of the same words twice, with any seats, its history is the same both times
-one_log : (sizes : Sizes) (words : List ℕ) (one other : List SeatView) (p : ChainRule sizes words one)
+pub one_log : (sizes : Sizes) (words : List ℕ) (one other : List SeatView) (p : ChainRule sizes words one)
     (q : ChainRule sizes words other) → p.log ≡ q.log
 one_log sizes words one other p q =
     one_chain words p.log q.log (chain_of sizes words one p) (chain_of sizes words other q)

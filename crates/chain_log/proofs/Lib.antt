@@ -17,3 +17,5 @@ pub mod Walks
 pub mod Passes
 pub mod Dealt
 pub mod RingLaws
+pub mod ChainEvents
+pub mod RingEvents

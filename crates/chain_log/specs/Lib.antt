@@ -18,3 +18,5 @@ pub mod RingPass
 pub mod RingSpare
 pub mod RingOpens
 pub mod Resting
+pub mod ChainSteps
+pub mod RingSteps

@@ -8,13 +8,16 @@ ghost use Rattle.xa_words.specs.Words.{words_of};
 ghost use Rattle.decision_log.specs.declared.sizes.Sizes.{Sizes};
 ghost use Rattle.decision_log.specs.declared.view.PassView.{PassView};
 ghost use Rattle.decision_log.specs.declared.view.SeatView.{SeatView};
-ghost use Rattle.decision_log.specs.declared.view.SeatView.TheVariants.{Single};
+ghost use Rattle.decision_log.specs.declared.view.SeatView.TheVariants.{Single, Pair};
 ghost use Rattle.decision_log.specs.Machine.{Machine};
 ghost use Rattle.decision_log.specs.Passes.{HasPasses};
 ghost use Rattle.decision_log.specs.Atomic.{Atomic, Exchange, Does, Counts};
+ghost use Rattle.decision_log.specs.Observed.{MetAt, met};
+ghost use Rattle.decision_log.specs.MachineSteps.{StepsTo};
 ghost use Rattle.chain_log.specs.Cells.{name_at, newest_of};
 ghost use Rattle.chain_log.specs.Chain.{Chain};
 ghost use Rattle.chain_log.specs.ChainRule.{own_cell, try_word, newest_for, Knows, ChainRule};
+ghost use Rattle.chain_log.specs.ChainSteps.{IsChainStep};
 
 /// States that the walk from the newest cell along the links spells the history.
 ///
@@ -139,4 +142,34 @@ pub fn each_try_exchanges_the_newest_cell()
         → Counts newest_for try_word step found old new
         → new.known.tries ≢ old.known.tries
         → (from to : ℕ) × (said : Option Entry) × (step ≡ Exchange try_word from to said) }
+{}
+
+/// States that a step of a pass of a chain is nothing or one event of the log machine.
+///
+/// The rule is taken to hold before and after the step. Takes no memory. Doesn't wait.
+/// Own rule: docs/INTERNALS.md#the-chain.
+pub fn step_is_an_event()
+    // Proved (log, steps-are-events)
+    ensures { (sizes : Sizes) (words words' : List ℕ) (views : List SeatView) (before : ChainRule sizes words views)
+        (id : ℕ) (step : Atomic) (found : ℕ) (old new : PassView)
+        (after : ChainRule sizes words' (set views id (Single new)))
+        → get_elem? views id ≡ some (Single old)
+        → Does step words found words'
+        → IsChainStep step old found new
+        → StepsTo sizes.capacity before.log views after.log (set views id (Single new)) }
+{}
+
+/// States that a meeting of two passes of a chain is nothing or one event of the log machine.
+///
+/// The rule is taken to hold before and after it. Takes no memory. Doesn't wait.
+/// Own rule: docs/INTERNALS.md#the-chain.
+pub fn meeting_is_an_event()
+    // Proved (log, steps-are-events)
+    ensures { (sizes : Sizes) (words : List ℕ) (views : List SeatView) (before : ChainRule sizes words views)
+        (id : ℕ) (first second : PassView) (seen : List Entry)
+        (after : ChainRule sizes words (set views id (Pair first (met second seen))))
+        → get_elem? views id ≡ some (Pair first second)
+        → MetAt first second seen
+        → (length second.known.seen < length first.known.seen → slice_index words 0 ≡ newest_for (met second seen))
+        → StepsTo sizes.capacity before.log views after.log (set views id (Pair first (met second seen))) }
 {}

@@ -1,5 +1,5 @@
 //! What holds of the words of a ring at any moment, as contracts that name only its rule.
-ghost use Rattle.std.specs.Prelude.{◌≡◌, ◌≢◌, ◌<◌, ◌≤◌, ◌+◌, ℕ, List, [], ◌∷◌, ◌++◌, length, set, slice_get};
+ghost use Rattle.std.specs.Prelude.{◌≡◌, ◌≢◌, ◌<◌, ◌≤◌, ◌+◌, ◌⊎◌, ℕ, List, [], ◌∷◌, ◌++◌, length, set, slice_get};
 ghost use Rattle.std.specs.Prelude.{slice_index, Some};
 ghost use mathlib.Core.Option.{Option, some};
 ghost use lib.ListN.{get_elem?};
@@ -8,16 +8,19 @@ ghost use Rattle.xa_words.specs.Words.{words_of};
 ghost use Rattle.decision_log.specs.declared.sizes.Sizes.{Sizes};
 ghost use Rattle.decision_log.specs.declared.view.PassView.{PassView};
 ghost use Rattle.decision_log.specs.declared.view.SeatView.{SeatView};
-ghost use Rattle.decision_log.specs.declared.view.SeatView.TheVariants.{Single};
+ghost use Rattle.decision_log.specs.declared.view.SeatView.TheVariants.{Single, Pair};
 ghost use Rattle.decision_log.specs.declared.view.Turn.TheVariants.{Without};
 ghost use Rattle.decision_log.specs.Draft.{HasWordsAt};
 ghost use Rattle.decision_log.specs.Machine.{Machine};
 ghost use Rattle.decision_log.specs.Passes.{HasPasses};
 ghost use Rattle.decision_log.specs.Atomic.{Atomic, Exchange, Does, Counts};
+ghost use Rattle.decision_log.specs.Observed.{met};
+ghost use Rattle.decision_log.specs.MachineSteps.{StepsTo};
 ghost use Rattle.chain_log.specs.Cells.{newest_of};
 ghost use Rattle.chain_log.specs.Places.{rows_of, cell_of, cell_words};
 ghost use Rattle.chain_log.specs.RingRule.{own_name, own_cell, try_word, newest_for, least, Knows, RingRule};
 ghost use Rattle.chain_log.specs.RingTransitions.{won, stored};
+ghost use Rattle.chain_log.specs.RingSteps.{IsRingStep};
 
 /// States that the words spell the last entries of the history: one fewer than there are rows.
 ///
@@ -182,4 +185,35 @@ pub fn each_try_exchanges_the_newest_name()
         → Counts newest_for try_word step found old new
         → new.known.tries ≢ old.known.tries
         → (from to : ℕ) × (said : Option Entry) × (step ≡ Exchange try_word from to said) }
+{}
+
+/// States that after a step of a pass of a ring the rule holds, and the step is nothing or one event of the log
+/// machine.
+///
+/// The words of a ring spell only the last entries, so its history is the one that goes on from the history before the
+/// step. Takes no memory. Doesn't wait.
+/// Own rule: docs/INTERNALS.md#the-ring.
+pub fn step_is_an_event()
+    // Proved (log, steps-are-events)
+    ensures { (sizes : Sizes) (words words' : List ℕ) (views : List SeatView) (before : RingRule sizes words views)
+        (id : ℕ) (old new : PassView)
+        → get_elem? views id ≡ some (Single old)
+        → IsRingStep before.log words old words' new
+        → (after : RingRule sizes words' (set views id (Single new)))
+        × StepsTo sizes.capacity before.log views after.log (set views id (Single new)) }
+{}
+
+/// States that after a meeting of two passes of a ring the rule holds, and the meeting is nothing or one event of the
+/// log machine.
+///
+/// The second pass has then seen what it had, or the whole history. Takes no memory. Doesn't wait.
+/// Own rule: docs/INTERNALS.md#the-ring.
+pub fn meeting_is_an_event()
+    // Proved (log, steps-are-events)
+    ensures { (sizes : Sizes) (words : List ℕ) (views : List SeatView) (before : RingRule sizes words views)
+        (id : ℕ) (first second : PassView) (seen : List Entry)
+        → get_elem? views id ≡ some (Pair first second)
+        → (seen ≡ second.known.seen) ⊎ (seen ≡ before.log)
+        → (after : RingRule sizes words (set views id (Pair first (met second seen))))
+        × StepsTo sizes.capacity before.log views after.log (set views id (Pair first (met second seen))) }
 {}

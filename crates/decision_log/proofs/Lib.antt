@@ -12,3 +12,6 @@ pub mod TurnSteps
 pub mod TurnStores
 pub mod TurnSeats
 pub mod TurnHistory
+pub mod StepsOfSeats
+pub mod LearnedSteps
+pub mod TurnEvents

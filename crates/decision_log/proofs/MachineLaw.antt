@@ -116,3 +116,11 @@ pub mine_is_own : (capacity : ℕ) (events : List Event) (machine : Machine)
     → Runs events (opening_machine capacity) machine → (session : ℕ)
     → entries_of session (machine.knows session).seen ≡ (machine.knows session).mine
 mine_is_own capacity events machine is = (runs_end_in_states capacity events machine is).part
+
+-- one event leads from a state that the definition allows to another
+pub state_next : (event : Event) (old new : Machine) → Happens event old new → IsState old → IsState new
+unfolding Fits
+state_next event old new is state =
+    state_of new (room_after event old new is state.room)
+    (after_event event old new is
+    (λ session. record { begins = state.seen session; own = state.mine session; part = state.part session }))

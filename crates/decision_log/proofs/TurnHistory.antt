@@ -76,7 +76,7 @@ module _ (sizes : Sizes) (words : List ℕ) (views : List SeatView) (r : TurnRul
   spelled place entry is = first_rows words place entry ((r.entries place entry is).0, r.spelled.rows place entry is)
 
 -- if the rule holds of the same words twice, with any seats, its history is the same both times
-one_log : (sizes : Sizes) (words : List ℕ) (views views' : List SeatView) (p : TurnRule sizes words views)
+pub one_log : (sizes : Sizes) (words : List ℕ) (views views' : List SeatView) (p : TurnRule sizes words views)
     (q : TurnRule sizes words views') → p.log ≡ q.log
 one_log sizes words views views' p q =
     one_list words 0 p.log q.log (sym p.spelled.count ∙ q.spelled.count) (spelled sizes words views p)
@@ -131,7 +131,7 @@ module _ (sizes : Sizes) (words : List ℕ) (views views' : List SeatView) (r : 
       ∙ t.1) after
 
 -- a count that is what a pass has seen means that it has seen all
-all_seen : (sizes : Sizes) (words : List ℕ) (views : List SeatView) (r : TurnRule sizes words views) (h : PassView)
+pub all_seen : (sizes : Sizes) (words : List ℕ) (views : List SeatView) (r : TurnRule sizes words views) (h : PassView)
     → Knows sizes words r.log h
     → slice_index words 0 ≡ count_for h → h.known.seen ≡ r.log
 all_seen sizes words views r h k same = begins_same h.known.seen r.log k.seen (omega (arith, r.spelled.count, same))

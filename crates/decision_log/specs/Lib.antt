@@ -18,3 +18,5 @@ pub mod TurnCounts
 pub mod TurnSeat
 pub mod TurnPass
 pub mod Opens
+pub mod MachineSteps
+pub mod TurnSteps

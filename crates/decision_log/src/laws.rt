@@ -1,11 +1,11 @@
 //! Laws of the log as a machine, and of the passes of a log with a turn: contracts over definitions only.
-ghost use Rattle.std.specs.Prelude.{◌≡◌, ◌≢◌, ◌<◌, ◌≤◌, ◌+◌, ℕ, List, [], ◌∷◌, ◌++◌, length, set};
+ghost use Rattle.std.specs.Prelude.{◌≡◌, ◌≢◌, ◌<◌, ◌≤◌, ◌+◌, ℕ, List, [], ◌∷◌, ◌++◌, length, set, slice_index};
 ghost use mathlib.Core.Option.{Option, some};
 ghost use lib.ListN.{get_elem?};
 ghost use Rattle.xa_words.specs.Entry.{Entry, IsEntry};
 ghost use Rattle.xa_words.specs.Words.{words_of};
 ghost use Rattle.decision_log.specs.declared.view.PassView.{PassView};
-ghost use Rattle.decision_log.specs.declared.view.SeatView.TheVariants.{Single};
+ghost use Rattle.decision_log.specs.declared.view.SeatView.TheVariants.{Single, Pair};
 ghost use Rattle.decision_log.specs.declared.view.Turn.TheVariants.{Fresh};
 ghost use Rattle.decision_log.specs.declared.sizes.Sizes.{Sizes};
 ghost use Rattle.decision_log.specs.declared.view.SeatView.{SeatView};
@@ -15,6 +15,10 @@ ghost use Rattle.decision_log.specs.Known.{AllOf};
 ghost use Rattle.decision_log.specs.Reached.{IsReached};
 ghost use Rattle.decision_log.specs.Passes.{HasPasses};
 ghost use Rattle.decision_log.specs.Atomic.{Atomic, Exchange, Does, Counts};
+ghost use Rattle.decision_log.specs.MachineSteps.{Moves, StandsFor, StepsTo};
+ghost use Rattle.decision_log.specs.Observed.{MetAt, met};
+ghost use Rattle.decision_log.specs.Seats.{all_passes};
+ghost use Rattle.decision_log.specs.TurnSteps.{IsTurnStep};
 ghost use Rattle.decision_log.specs.TurnRule.{row_at, turn_word, count_for, TurnRule};
 
 /// States that after any looks and appends, the entries of a session's number in what it has seen are its own.
@@ -143,4 +147,57 @@ pub fn each_try_exchanges_the_turn()
         → Counts count_for turn_word step found old new
         → new.known.tries ≢ old.known.tries
         → (from to : ℕ) × (said : Option Entry) × (step ≡ Exchange turn_word from to said) }
+{}
+
+/// States that a step of a pass of a log with a turn is nothing or one event of the log machine.
+///
+/// The rule is taken to hold before and after the step. Takes no memory. Doesn't wait.
+/// Own rule: docs/INTERNALS.md#the-log-with-a-turn.
+pub fn step_is_an_event()
+    // Proved (log, steps-are-events): A step on the words of a log is nothing or one event of the log machine, and so
+    //   is a meeting of passes. A move of seats is nothing.
+    ensures { (sizes : Sizes) (words words' : List ℕ) (views : List SeatView) (before : TurnRule sizes words views)
+        (id : ℕ) (step : Atomic) (found : ℕ) (old new : PassView)
+        (after : TurnRule sizes words' (set views id (Single new)))
+        → get_elem? views id ≡ some (Single old)
+        → Does step words found words'
+        → IsTurnStep step old found new
+        → StepsTo sizes.capacity before.log views after.log (set views id (Single new)) }
+{}
+
+/// States that a meeting of two passes of a log with a turn is nothing or one event of the log machine.
+///
+/// The rule is taken to hold before and after it. Takes no memory. Doesn't wait.
+/// Own rule: docs/INTERNALS.md#the-log-with-a-turn.
+pub fn meeting_is_an_event()
+    // Proved (log, steps-are-events)
+    ensures { (sizes : Sizes) (words : List ℕ) (views : List SeatView) (before : TurnRule sizes words views)
+        (id : ℕ) (first second : PassView) (seen : List Entry)
+        (after : TurnRule sizes words (set views id (Pair first (met second seen))))
+        → get_elem? views id ≡ some (Pair first second)
+        → MetAt first second seen
+        → (length second.known.seen < length first.known.seen → slice_index words 0 ≡ count_for (met second seen))
+        → StepsTo sizes.capacity before.log views after.log (set views id (Pair first (met second seen))) }
+{}
+
+/// States that where seats are split or joined, or a pass is issued, nothing happens to the log machine.
+///
+/// Takes no memory. Doesn't wait.
+/// Own rule: docs/INTERNALS.md#what-both-logs-share.
+pub fn moves_of_seats_are_no_events()
+    // Proved (log, steps-are-events)
+    ensures { (capacity : ℕ) (log : List Entry) (views views' : List SeatView) (machine : Machine)
+        → Moves views views'
+        → StandsFor capacity log views machine
+        → StandsFor capacity log views' machine }
+{}
+
+/// States that the machine at its start stands for a log whose passes aren't issued yet.
+///
+/// Takes no memory. Doesn't wait.
+/// Own rule: docs/INTERNALS.md#what-both-logs-share.
+pub fn log_begins_as_the_machine()
+    // Proved (log, steps-are-events)
+    ensures { (sizes : Sizes)
+        → StandsFor sizes.capacity [] (all_passes sizes ∷ []) (opening_machine sizes.capacity) }
 {}

@@ -1,3 +1,4 @@
 pub mod OverlapOutcomes
 pub mod OverlapSchedules
 pub mod OverlapSteps
+pub mod ShownRuns

@@ -312,7 +312,7 @@ begins (suc count) within lines config have =
     }
 
 -- each element of a list of `count` times `x` is `x`
-get_replicate : {A : Type 0} (count place : ℕ) (x : A) → place < count
+pub get_replicate : {A : Type 0} (count place : ℕ) (x : A) → place < count
     → slice_get (replicate count x) place ≡ Some x
 get_replicate zero place x within = absurd (omega arith)
 get_replicate (suc count) zero x within = refl

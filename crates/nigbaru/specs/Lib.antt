@@ -1,4 +1,5 @@
 pub mod Overlapping
+pub mod Shown
 pub use Rattle.xa_xid.specs as xid
 pub use Rattle.xa_statement.specs as statement
 pub use Rattle.xa_server.specs as server

@@ -1,10 +1,18 @@
-//! What a race of fresh sessions answers is explained: a law, stated as the contract of a function that does nothing.
-ghost use Rattle.std.specs.Prelude.{◌≤◌, List, length, map};
+//! What a race of fresh sessions answers is explained, and what callers see of any run: laws, stated as contracts of
+//! functions that do nothing.
+ghost use Rattle.std.specs.Prelude.{◌≡◌, ◌≤◌, ℕ, None, List, length, map};
 ghost use Rattle.xa_server.specs.State.{State};
 ghost use Rattle.decision_log.specs.Known.{AllOf};
+ghost use Rattle.decision_log.specs.Machine.{IsState};
+ghost use Rattle.xa_session.specs.Replay.{state_after};
+ghost use Rattle.xa_session.specs.Timed.{Moment, Stage, Passes};
+ghost use Rattle.xa_session.specs.Linear.{sights};
 ghost use Rattle.xa_store.specs.declared.run.Run.{Run};
 ghost use Rattle.xa_store.specs.declared.outcome.Outcome.{Outcome};
 ghost use Rattle.xa_store.specs.Legal.{IsOutcome};
+ghost use Rattle.xa_judge.specs.declared.event.Event.{Event};
+ghost use Rattle.xa_judge.specs.Explained.{Explained};
+ghost use Rattle.nigbaru.specs.Shown.{IsRecordOf};
 ghost use Rattle.nigbaru.specs.Overlapping.{Lines, AreFreshRuns, AreLinesOf, IsExplainedOverlap};
 
 /// States that the answers of a race of fresh sessions are explained once they are written down as
@@ -29,4 +37,22 @@ pub fn race_is_explained()
         → AllOf (length runs) outcome.history.items
         → AreLinesOf runs (map (λ answers. answers.items) outcome.answers.items) lines
         → IsExplainedOverlap base lines }
+{}
+
+/// States that what callers see of any run of the log machine is explained once it is written down as a record. Does
+/// nothing when it is called.
+///
+/// The events stand in the record in the order in which they happened. Each return shows the reply of its answer. A
+/// call that ended in a fault has an answer that isn't known. The sessions are 1 to 16; they may have done anything
+/// before, and calls may be open at the end. Takes no memory. Doesn't wait.
+/// Own rule: docs/PROOF.md#from-one-call-to-linearizability.
+pub fn records_are_explained()
+    // Proved (records, records-are-explained): What callers see of a run of the log machine whose calls end as the
+    //   session theorem says is explained, once it is written down as a record in the order in which it happened.
+    ensures { (base : State) (moments : List Moment) (old new : Stage) (events : List Event)
+        → IsState old.machine
+        → ((session : ℕ) → old.calls session ≡ None)
+        → Passes base moments old new
+        → IsRecordOf (sights moments) events
+        → Explained (state_after base old.machine.history) events }
 {}

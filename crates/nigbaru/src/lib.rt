@@ -20,7 +20,7 @@ pub mod script;
 #[cfg(test)]
 mod tests;
 
-pub use explained::race_is_explained;
+pub use explained::{race_is_explained, records_are_explained};
 pub use xa_coordinator::{
     BeginFault, Beside, Cause, Closed, Closing, Coordinator, Decision, Decisions, Ending,
     FORMAT_ID, Fused, LastingStore, Paused, Prepared, RecoverFault, Report, Speak, Transaction,

@@ -5,3 +5,10 @@ pub mod Entering
 pub mod Views
 pub mod OwnAssociations
 pub mod Associations
+pub mod Moments
+pub mod Futures
+pub mod Appended
+pub mod Linearizing
+pub mod Coming
+pub mod Tightening
+pub mod OneByOne

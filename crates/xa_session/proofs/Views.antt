@@ -1,5 +1,5 @@
 -- A session stays of its log, over calls one after another, and what they take adds up.
-use Rattle.std.proofs.Common.{◌≡◌, ◌+◌, ℕ, Option, Some, None, refl, sym, ◌∙◌, subst, arith}
+use Rattle.std.proofs.Common.{◌+◌, ℕ, Option, Some, None, refl, ◌∙◌, subst, arith}
 use Rattle.xa_session.specs.View.{SessionView, KeepsLimit, StaysOfLog, Takes}
 
 -- a limit that stays as it is isn't lifted

@@ -6,3 +6,7 @@ pub mod Tries
 pub mod Stays
 pub mod Outcome
 pub mod Faults
+pub mod Timed
+pub mod Linear
+pub mod Met
+pub mod Loose

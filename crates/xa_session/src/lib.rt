@@ -11,6 +11,7 @@ mod answer;
 mod attempt;
 mod execute;
 mod fault;
+pub mod laws;
 mod pausing;
 mod replica;
 mod session;
