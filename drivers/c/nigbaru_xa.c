@@ -8,7 +8,6 @@
 #include <string.h>
 
 #define LONGEST_NAME 64
-#define LONGEST_TEXT 512
 #define DEFAULT_ROWS 16384
 #define MOST_SESSIONS 16
 #define DEFAULT_SESSIONS MOST_SESSIONS
@@ -121,7 +120,7 @@ static struct place *place_of(struct named_store *store, const XID *xid, uint64_
 /* Has the session of a place roll back what isn't prepared. The place is free then, or UNCLEAN without memory. */
 static int is_clean_now(struct place *place) {
   nigbaru_answer answer;
-  int is_clean = nigbaru_run(&place->session, "DISCONNECT", 10, &answer, NULL, 0, 0) == NIGBARU_OK;
+  int is_clean = nigbaru_disconnect(&place->session, &answer, 0) == NIGBARU_OK;
   if (!is_clean)
     put_back(place, UNCLEAN);
   return is_clean;
@@ -181,48 +180,16 @@ static struct opening *opening_of(int rmid) {
 
 /* ---- statements ---- */
 
-struct text {
-  size_t length;
-  char bytes[LONGEST_TEXT];
-};
+/* A statement about a branch, tried without a limit where `tries` is 0. */
+typedef uint32_t branch_call(nigbaru_session *, const nigbaru_xid *, nigbaru_answer *, uint64_t tries);
 
-static void add_word(struct text *text, const char *word) {
-  size_t length = strlen(word);
-  memcpy(text->bytes + text->length, word, length);
-  text->length += length;
+static uint32_t commit(nigbaru_session *session, const nigbaru_xid *xid, nigbaru_answer *answer, uint64_t tries) {
+  return nigbaru_commit(session, xid, false, answer, tries);
 }
 
-static void add_literal(struct text *text, const void *bytes, size_t length) {
-  add_word(text, "X'");
-  for (size_t index = 0; index < length; index++) {
-    unsigned char byte = ((const unsigned char *)bytes)[index];
-    text->bytes[text->length++] = "0123456789abcdef"[byte >> 4];
-    text->bytes[text->length++] = "0123456789abcdef"[byte & 15];
-  }
-  add_word(text, "'");
-}
-
-static void add_number(struct text *text, unsigned long number) {
-  char digits[24];
-  size_t at = sizeof digits - 1;
-  digits[at] = 0;
-  do {
-    digits[--at] = (char)('0' + number % 10);
-  } while ((number /= 10) != 0);
-  add_word(text, digits + at);
-}
-
-/* "VERB xid CLAUSE" */
-static struct text statement_of(const char *verb, const XID *xid, const char *clause) {
-  struct text text = {.length = 0};
-  add_word(&text, verb);
-  add_literal(&text, xid->data, (size_t)xid->gtrid_length);
-  add_word(&text, ",");
-  add_literal(&text, xid->data + xid->gtrid_length, (size_t)xid->bqual_length);
-  add_word(&text, ",");
-  add_number(&text, (unsigned long)xid->formatID);
-  add_word(&text, clause);
-  return text;
+static uint32_t commit_one_phase(nigbaru_session *session, const nigbaru_xid *xid, nigbaru_answer *answer,
+                                 uint64_t tries) {
+  return nigbaru_commit(session, xid, true, answer, tries);
 }
 
 static int is_branch_id(const XID *xid) {
@@ -248,19 +215,18 @@ static int code_of(uint32_t status, const nigbaru_answer *answer, int without_me
 }
 
 /* Has a statement about a branch answered by the session of a place. */
-static int say(struct place *place, const char *verb, const XID *xid, const char *clause, int without_memory) {
-  struct text text = statement_of(verb, xid, clause);
+static int say(struct place *place, branch_call *call, const XID *xid, int without_memory) {
   nigbaru_answer answer;
-  uint32_t status = nigbaru_run(&place->session, text.bytes, text.length, &answer, NULL, 0, 0);
+  uint32_t status = call(&place->session, (const nigbaru_xid *)xid, &answer, 0);
   return code_of(status, &answer, without_memory);
 }
 
 /* The same by any session that has no branch. */
-static int say_anywhere(struct opening *it, const char *verb, const XID *xid, int without_session) {
+static int say_anywhere(struct opening *it, branch_call *call, const XID *xid, int without_session) {
   struct place *place = free_place(it);
   if (place == NULL)
     return without_session;
-  int code = say(place, verb, xid, "", without_session);
+  int code = say(place, call, xid, without_session);
   put_back(place, FREE);
   return code;
 }
@@ -467,14 +433,13 @@ int nigbaru_xa_drop(const char *store) {
 
 /* All prepared branches, in a block of their own, as a session gives them. */
 static uint32_t list_by(struct place *place, XID **listed, size_t *count) {
-  static const char text[] = "XA RECOVER";
   nigbaru_answer answer;
   size_t room = 16;
   for (;;) {
     XID *xids = zeroed(room * sizeof *xids);
     if (xids == NULL)
       return NIGBARU_NO_MEMORY;
-    uint32_t status = nigbaru_run(&place->session, text, sizeof text - 1, &answer, (nigbaru_xid *)xids, room, 0);
+    uint32_t status = nigbaru_recover(&place->session, &answer, (nigbaru_xid *)xids, room, 0);
     if (status == NIGBARU_LIST && answer.count <= room) {
       *listed = xids;
       *count = (size_t)answer.count;
@@ -528,7 +493,7 @@ static int xa_start_here(XID *xid, int rmid, long flags) {
   struct place *place = free_place(it);
   if (place == NULL)
     return XAER_RMERR;
-  code = say(place, "XA START ", xid, "", XAER_RMERR);
+  code = say(place, nigbaru_start, xid, XAER_RMERR);
   if (code == XA_OK) {
     keep_branch(place, xid);
     it->active = place;
@@ -550,7 +515,7 @@ static int xa_end_here(XID *xid, int rmid, long flags) {
   XID own = branch_of(it->active);
   if (!is_same_branch(xid, &own))
     return code_of_other(it, xid, XAER_RMERR);
-  code = say(it->active, "XA END ", xid, "", XAER_RMERR);
+  code = say(it->active, nigbaru_end, xid, XAER_RMERR);
   if (code == XA_OK) {
     put_back(it->active, IDLE);
     it->active = NULL;
@@ -563,14 +528,14 @@ static int xa_end_here(XID *xid, int rmid, long flags) {
 /* Has the session of an idle branch, whichever thread worked in it, answer a statement that ends or prepares it.
    XAER_NOTA where no branch is idle or active under this identifier, XAER_PROTO where it is active, or another thread
    is in such a call. */
-static int finish(struct opening *it, const char *verb, const XID *xid, const char *clause, int without_memory) {
+static int finish(struct opening *it, branch_call *call, const XID *xid, int without_memory) {
   uint64_t word;
   struct place *place = place_of(it->store, xid, &word);
   if (place == NULL)
     return XAER_NOTA;
   if (word % STATES != IDLE || !is_used_now(place, word))
     return XAER_PROTO;
-  int code = say(place, verb, xid, clause, without_memory);
+  int code = say(place, call, xid, without_memory);
   put_back(place, code == XA_OK ? FREE : IDLE);
   return code;
 }
@@ -580,7 +545,7 @@ static int xa_prepare_here(XID *xid, int rmid, long flags) {
   int code = check(flags, TMNOFLAGS, it, xid);
   if (code != XA_OK)
     return code;
-  code = finish(it, "XA PREPARE ", xid, "", XAER_RMERR);
+  code = finish(it, nigbaru_prepare, xid, XAER_RMERR);
   return code == XAER_NOTA ? code_of_other(it, xid, XAER_RMERR) : code;
 }
 
@@ -591,11 +556,11 @@ static int xa_commit_here(XID *xid, int rmid, long flags) {
   if (code != XA_OK)
     return code;
   if (flags & TMONEPHASE) {
-    code = finish(it, "XA COMMIT ", xid, " ONE PHASE", XAER_RMFAIL);
+    code = finish(it, commit_one_phase, xid, XAER_RMFAIL);
     /* XAER_RMERR would say that the branch was rolled back. */
     return code == XAER_NOTA ? code_of_other(it, xid, XAER_RMFAIL) : code;
   }
-  return place_of(it->store, xid, &word) != NULL ? XAER_PROTO : say_anywhere(it, "XA COMMIT ", xid, XA_RETRY);
+  return place_of(it->store, xid, &word) != NULL ? XAER_PROTO : say_anywhere(it, commit, xid, XA_RETRY);
 }
 
 static int xa_rollback_here(XID *xid, int rmid, long flags) {
@@ -603,8 +568,8 @@ static int xa_rollback_here(XID *xid, int rmid, long flags) {
   int code = check(flags, TMNOFLAGS, it, xid);
   if (code != XA_OK)
     return code;
-  code = finish(it, "XA ROLLBACK ", xid, "", XAER_RMFAIL);
-  return code == XAER_NOTA ? say_anywhere(it, "XA ROLLBACK ", xid, XAER_RMFAIL) : code;
+  code = finish(it, nigbaru_rollback, xid, XAER_RMFAIL);
+  return code == XAER_NOTA ? say_anywhere(it, nigbaru_rollback, xid, XAER_RMFAIL) : code;
 }
 
 /* No branch is ever completed by the store's own decision, so there is none to forget. */
@@ -673,8 +638,20 @@ struct xa_switch_t nigbaru_xa_switch = {
 
 /* ---- rows ---- */
 
-/* "VERB key[,value]", and what the application gets of the answer. */
-static int row(int rmid, const char *verb, const void *key, size_t key_length, const void *value, size_t length,
+enum row_verb { GET, PUT, DELETE };
+
+/* Has a statement about a row answered by a session. */
+static uint32_t say_of_row(nigbaru_session *session, enum row_verb verb, const void *key, size_t key_length,
+                           const void *value, size_t length, nigbaru_answer *answer) {
+  switch (verb) {
+  case GET: return nigbaru_get(session, key, key_length, answer, 0);
+  case PUT: return nigbaru_put(session, key, key_length, value, length, answer, 0);
+  default: return nigbaru_del(session, key, key_length, answer, 0);
+  }
+}
+
+/* The same, and what the application gets of the answer. */
+static int row(int rmid, enum row_verb verb, const void *key, size_t key_length, const void *value, size_t length,
                nigbaru_answer *answer) {
   if (key == NULL || (value == NULL && length != 0))
     return NIGBARU_NO_POINTER;
@@ -686,14 +663,7 @@ static int row(int rmid, const char *verb, const void *key, size_t key_length, c
   struct place *place = it->active != NULL ? it->active : free_place(it);
   if (place == NULL)
     return NIGBARU_NO_SESSION;
-  struct text text = {.length = 0};
-  add_word(&text, verb);
-  add_literal(&text, key, key_length);
-  if (verb[0] == 'P') {
-    add_word(&text, ",");
-    add_literal(&text, value, length);
-  }
-  uint32_t status = nigbaru_run(&place->session, text.bytes, text.length, answer, NULL, 0, 0);
+  uint32_t status = say_of_row(&place->session, verb, key, key_length, value, length, answer);
   if (place != it->active)
     put_back(place, FREE);
   return status == NIGBARU_REFUSED ? (int)answer->error : (int)status;
@@ -703,7 +673,7 @@ int nigbaru_xa_get(int rmid, const void *key, size_t key_length, unsigned char v
   if (value == NULL || length == NULL)
     return NIGBARU_NO_POINTER;
   nigbaru_answer answer;
-  int status = row(rmid, "GET ", key, key_length, NULL, 0, &answer);
+  int status = row(rmid, GET, key, key_length, NULL, 0, &answer);
   if (status == NIGBARU_VALUE) {
     *length = (size_t)answer.length;
     memcpy(value, answer.value, *length);
@@ -713,10 +683,10 @@ int nigbaru_xa_get(int rmid, const void *key, size_t key_length, unsigned char v
 
 int nigbaru_xa_put(int rmid, const void *key, size_t key_length, const void *value, size_t length) {
   nigbaru_answer answer;
-  return row(rmid, "PUT ", key, key_length, value, length, &answer);
+  return row(rmid, PUT, key, key_length, value, length, &answer);
 }
 
 int nigbaru_xa_delete(int rmid, const void *key, size_t key_length) {
   nigbaru_answer answer;
-  return row(rmid, "DEL ", key, key_length, NULL, 0, &answer);
+  return row(rmid, DELETE, key, key_length, NULL, 0, &answer);
 }

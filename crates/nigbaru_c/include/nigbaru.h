@@ -1,12 +1,13 @@
 /* nigbaru.h: a verified row store with XA branches, called from C or C++.
  *
- * Open a store, take a session for each thread, and give the sessions statements as text:
+ * Open a store, take a session for each thread, and give the sessions statements, by calls of their own or as text:
  *
  *     nigbaru_store store = NIGBARU_EMPTY;
  *     nigbaru_session session = NIGBARU_EMPTY;
  *     nigbaru_answer answer;
  *     if (nigbaru_open(16384, 16, &store) || nigbaru_take(&store, 1, &session)) return 1;
- *     if (nigbaru_run(&session, "PUT 'k','v'", 11, &answer, NULL, 0, 0) != NIGBARU_OK) return 1;
+ *     if (nigbaru_put(&session, "k", 1, "v", 1, &answer, 0) != NIGBARU_OK) return 1;
+ *     if (nigbaru_run(&session, "GET 'k'", 7, &answer, NULL, 0, 0) != NIGBARU_VALUE) return 1;
  *     nigbaru_leave(&session);
  *     nigbaru_close(&store);
  *
@@ -15,12 +16,12 @@
  * Threads. Sessions of one store may be on threads of their own, without a lock of yours. Each session
  * answers from its own copy of the rows, and adds to the one history that all share. A handle takes one call
  * at a time: a second call on it at the same time returns NIGBARU_BUSY. No call waits for another thread;
- * nigbaru_run without a limit tries again as long as other sessions are faster, or its session is behind. A
+ * a statement without a limit is tried again as long as other sessions are faster, or its session is behind. A
  * handle may be moved to another thread between calls.
  *
  * The history has no end. It is kept in a ring of `rows` entries: each new entry overwrites the oldest one. A
  * session that isn't used while others add more entries than that is behind. Its next statement then goes on
- * from a checkpoint, a copy of all rows that the other sessions keep near the end of the history.
+ * from a checkpoint, a copy of the store's state that the other sessions leave near the end of the history.
  *
  * Memory. The library takes memory by malloc and realloc, and frees it. The ring doesn't grow.
  * nigbaru_follow, nigbaru_leave and nigbaru_close take no memory. A store is freed after it was closed and
@@ -31,7 +32,8 @@
  *
  * No call can see whether you keep these rules, so they are yours:
  *   1. A pointer that isn't null points to what its type says, with room for it.
- *   2. `text` points to `length` bytes, `xids` to room for `room` identifiers.
+ *   2. `text` points to `length` bytes, `key` to `key_length`, `value` to `value_length`, and `xids` to room for
+ *      `room` identifiers.
  *   3. A handle begins as NIGBARU_EMPTY, and only calls of this header change it.
  *   4. A handle is never copied: pass it by its address, and move it only while no call has it.
  *   5. What a call writes to, such as `answer` and `entry`, isn't touched by another thread before the call has
@@ -54,6 +56,7 @@ typedef std::atomic_flag nigbaru_flag;
 extern "C" {
 #else
 #include <stdatomic.h>
+#include <stdbool.h>
 typedef atomic_flag nigbaru_flag;
 #endif
 
@@ -61,7 +64,7 @@ typedef atomic_flag nigbaru_flag;
  * history. From 5 on the call failed. If several causes hold, the one that the call's comment names first is
  * returned. No call returns 6 or 12. */
 
-/* The call was carried out; from nigbaru_attempt and nigbaru_run: the reply is OK. */
+/* The call was carried out; of a statement: the reply is OK. */
 #define NIGBARU_OK            0
 /* GET: the row's value is the first answer.length bytes of answer.value. */
 #define NIGBARU_VALUE         1
@@ -72,7 +75,7 @@ typedef atomic_flag nigbaru_flag;
 #define NIGBARU_LIST          3
 /* The server refused the statement, and nothing changed: answer.error is the number of the error. */
 #define NIGBARU_REFUSED       4
-/* Another session added to the history first: call again. nigbaru_run does so by itself. */
+/* Another session added to the history first: call again, or let the call try more often. */
 #define NIGBARU_OVERTAKEN     5
 /* An allocation failed, or the history has more than 2^59 entries: free some memory and call again. */
 #define NIGBARU_NO_MEMORY     7
@@ -81,7 +84,7 @@ typedef atomic_flag nigbaru_flag;
 /* The handle is empty, or holds a session where a store is needed, or a store where a session is: open or
  * take first. */
 #define NIGBARU_NO_HANDLE     9
-/* An argument is out of its range, or a formatID is above LONG_MAX: correct it. */
+/* An argument is out of its range, or the formatID of a text is above LONG_MAX: correct it. */
 #define NIGBARU_OUT_OF_RANGE 10
 /* Somebody has the session of this number: take another number, or wait until the session leaves. */
 #define NIGBARU_NO_SESSION   11
@@ -93,16 +96,15 @@ typedef atomic_flag nigbaru_flag;
 /* A pointer is null that must not be, and the call did nothing. Not from nigbaru_raw_*. */
 #define NIGBARU_NO_POINTER   15
 /* Others have added so many entries since this session last answered that some which it needs are
- * overwritten, and no checkpoint brought it to the end of the history just now: call again. nigbaru_run does
- * so by itself. From nigbaru_follow: entry.lost entries are lost, as they were overwritten or would be next; call
+ * overwritten, and no checkpoint brought it to the end of the history just now: call again, or let the call try
+ * more often. From nigbaru_follow: entry.lost entries are lost, as they were overwritten or would be next; call
  * again for the entries after them. */
 #define NIGBARU_BEHIND       16
 
 /* What a store or a session is kept by. Its pointer is the library's. */
 typedef struct nigbaru_handle { void *at; } nigbaru_handle;
 
-/* What nigbaru_attempt and nigbaru_run write. It is written at every status except NIGBARU_NO_POINTER and
- * NIGBARU_BUSY. */
+/* What a statement is answered. It is written at every status except NIGBARU_NO_POINTER and NIGBARU_BUSY. */
 typedef struct nigbaru_answer {
     /* At 0 to 4: how many entries of the history come before the answer, from the store's first on, in
      * [0, 2^59 + rows]. At NIGBARU_SYNTAX: the first byte of the text that doesn't fit, from 0. Else 0. */
@@ -140,7 +142,8 @@ typedef struct nigbaru_entry {
 } nigbaru_entry;
 
 /* X/Open's XID, with the same layout: you may pass an XID * as a nigbaru_xid *. data has the gtrid and then
- * the bqual. */
+ * the bqual: { 1, 3, 2, "tx1b1" } is the statements' 'tx1','b1',1. A call takes a formatID from 0 on, and
+ * lengths in [0, 64]. */
 typedef struct nigbaru_xid {
     long formatID;
     long gtrid_length;
@@ -154,6 +157,17 @@ uint32_t nigbaru_raw_open(uint64_t rows, uint64_t sessions, nigbaru_handle *stor
 uint32_t nigbaru_raw_take(nigbaru_handle *store, uint64_t number, nigbaru_handle *session);
 uint32_t nigbaru_raw_attempt(nigbaru_handle *session, const uint8_t *text, size_t length, nigbaru_answer *answer,
                              nigbaru_xid *xids, size_t room);
+uint32_t nigbaru_raw_start(nigbaru_handle *session, const nigbaru_xid *xid, nigbaru_answer *answer);
+uint32_t nigbaru_raw_end(nigbaru_handle *session, const nigbaru_xid *xid, nigbaru_answer *answer);
+uint32_t nigbaru_raw_prepare(nigbaru_handle *session, const nigbaru_xid *xid, nigbaru_answer *answer);
+uint32_t nigbaru_raw_commit(nigbaru_handle *session, const nigbaru_xid *xid, bool one_phase, nigbaru_answer *answer);
+uint32_t nigbaru_raw_rollback(nigbaru_handle *session, const nigbaru_xid *xid, nigbaru_answer *answer);
+uint32_t nigbaru_raw_recover(nigbaru_handle *session, nigbaru_answer *answer, nigbaru_xid *xids, size_t room);
+uint32_t nigbaru_raw_get(nigbaru_handle *session, const uint8_t *key, size_t key_length, nigbaru_answer *answer);
+uint32_t nigbaru_raw_put(nigbaru_handle *session, const uint8_t *key, size_t key_length, const uint8_t *value,
+                         size_t value_length, nigbaru_answer *answer);
+uint32_t nigbaru_raw_del(nigbaru_handle *session, const uint8_t *key, size_t key_length, nigbaru_answer *answer);
+uint32_t nigbaru_raw_disconnect(nigbaru_handle *session, nigbaru_answer *answer);
 uint32_t nigbaru_raw_follow(nigbaru_handle *session, nigbaru_entry *entry);
 uint32_t nigbaru_raw_leave(nigbaru_handle *session);
 uint32_t nigbaru_raw_close(nigbaru_handle *store);
@@ -220,27 +234,6 @@ static inline uint32_t nigbaru_take(nigbaru_store *store, uint64_t number, nigba
     return status;
 }
 
-/* Gives a session a statement, and tries once to answer it. Never waits.
- *
- * text, length: the statement, in length bytes without a terminator; text may be null if length is 0.
- * answer: gets the answer. xids, room: room for the identifiers of an XA RECOVER; xids may be null if room is
- * 0.
- * Returns 0 to 4 if the statement was answered. Errors: NO_POINTER, BUSY, NO_HANDLE (no session is held),
- * SYNTAX, OUT_OF_RANGE (a formatID is above LONG_MAX), then BEHIND, NO_MEMORY and OVERTAKEN.
- * After an error nothing of the statement is in the history. The session may have seen more of it. `xids` is
- * written only at LIST. */
-static inline uint32_t nigbaru_attempt(nigbaru_session *session, const char *text, size_t length, nigbaru_answer *answer,
-                                      nigbaru_xid *xids, size_t room) {
-    static nigbaru_xid none;
-    uint32_t status;
-    if (session == NULL || answer == NULL || (text == NULL && length != 0) || (xids == NULL && room != 0)) return NIGBARU_NO_POINTER;
-    if (!nigbaru_enter_(&session->busy)) return NIGBARU_BUSY;
-    status = nigbaru_raw_attempt(&session->handle, (const uint8_t *)(text == NULL ? "" : text), length, answer,
-                                 xids == NULL ? &none : xids, room);
-    nigbaru_exit_(&session->busy);
-    return status;
-}
-
 /* Counts down, up to a tenth of a millisecond. A session that is behind needs a checkpoint, which others
  * make: so it lets them go on, for longer each time. */
 static inline void nigbaru_pause_(uint64_t tried) {
@@ -248,21 +241,129 @@ static inline void nigbaru_pause_(uint64_t tried) {
     while (left != 0) left = left - 1;
 }
 
-/* Gives a session a statement as nigbaru_attempt does, and tries again while it is overtaken or behind. While it
- * is behind it pauses between two tries, for a tenth of a millisecond at most.
+/* Whether a statement is tried again, which has this status after `tried` tries. */
+static inline bool nigbaru_again_(uint32_t status, uint64_t tried, uint64_t tries) {
+    if ((status != NIGBARU_OVERTAKEN && status != NIGBARU_BEHIND) || tried == tries) return false;
+    if (status == NIGBARU_BEHIND) nigbaru_pause_(tried);
+    return true;
+}
+
+/* The library takes no null pointer, also where there are no bytes or there is no room. */
+static inline const uint8_t *nigbaru_bytes_(const void *bytes) {
+    return (const uint8_t *)(bytes == NULL ? "" : bytes);
+}
+static inline nigbaru_xid *nigbaru_room_(nigbaru_xid *xids) {
+    static nigbaru_xid none;
+    return xids == NULL ? &none : xids;
+}
+
+/* What each call for a statement does. */
+#define NIGBARU_TRY_(HAS_POINTERS, CALL)                                                 \
+    uint32_t status;                                                                     \
+    uint64_t tried = 0;                                                                  \
+    if (session == NULL || answer == NULL || !(HAS_POINTERS)) return NIGBARU_NO_POINTER; \
+    do {                                                                                 \
+        if (!nigbaru_enter_(&session->busy)) return NIGBARU_BUSY;                        \
+        status = CALL;                                                                   \
+        nigbaru_exit_(&session->busy);                                                   \
+    } while (nigbaru_again_(status, ++tried, tries));                                    \
+    return status
+
+/* ---- Statements, as text and by calls of their own: nigbaru_start(&session, &xid, &answer, 0) does what
+ * nigbaru_run does with the text of XA START and this identifier, and has nothing to spell or to read.
  *
- * tries: how often it tries at most, from 1 on; 0 means without a limit.
- * Errors: those of nigbaru_attempt; OVERTAKEN and BEHIND only after `tries` tries. */
+ * answer: gets the answer. tries: how often it is tried at most, from 1 on; 0 means without a limit. It is tried
+ * again while the session is overtaken or behind. While it is behind it pauses between two tries, for a tenth of a
+ * millisecond at most. No call waits.
+ * Returns 0 to 4 if the statement was answered. Errors: NO_POINTER, BUSY, NO_HANDLE (no session is held), SYNTAX
+ * (of a text), OUT_OF_RANGE, then BEHIND, NO_MEMORY and OVERTAKEN; OVERTAKEN and BEHIND only after `tries` tries.
+ * After an error nothing of the statement is in the history. The session may have seen more of it. ---- */
+
+/* Gives a session a statement as text.
+ *
+ * text, length: the statement, in length bytes without a terminator; text may be null if length is 0. OUT_OF_RANGE:
+ * its formatID is above LONG_MAX. xids, room: room for the identifiers of an XA RECOVER; xids may be null if room is
+ * 0. It is written only at LIST. */
 static inline uint32_t nigbaru_run(nigbaru_session *session, const char *text, size_t length, nigbaru_answer *answer,
                                   nigbaru_xid *xids, size_t room, uint64_t tries) {
-    uint64_t tried = 0;
-    for (;;) {
-        uint32_t status = nigbaru_attempt(session, text, length, answer, xids, room);
-        tried++;
-        if ((status != NIGBARU_OVERTAKEN && status != NIGBARU_BEHIND) || tried == tries) return status;
-        if (status == NIGBARU_BEHIND) nigbaru_pause_(tried);
-    }
+    NIGBARU_TRY_((text != NULL || length == 0) && (xids != NULL || room == 0),
+                 nigbaru_raw_attempt(&session->handle, nigbaru_bytes_(text), length, answer,
+                                     nigbaru_room_(xids), room));
 }
+
+/* The same, tried once. */
+static inline uint32_t nigbaru_attempt(nigbaru_session *session, const char *text, size_t length,
+                                      nigbaru_answer *answer, nigbaru_xid *xids, size_t room) {
+    return nigbaru_run(session, text, length, answer, xids, room, 1);
+}
+
+/* XA START. Of this and the next four, xid: the branch. OUT_OF_RANGE: its formatID is negative, as that of no
+ * identifier is, or one of its lengths isn't in [0, 64]. */
+static inline uint32_t nigbaru_start(nigbaru_session *session, const nigbaru_xid *xid, nigbaru_answer *answer,
+                                    uint64_t tries) {
+    NIGBARU_TRY_(xid != NULL, nigbaru_raw_start(&session->handle, xid, answer));
+}
+
+/* XA END. */
+static inline uint32_t nigbaru_end(nigbaru_session *session, const nigbaru_xid *xid, nigbaru_answer *answer,
+                                  uint64_t tries) {
+    NIGBARU_TRY_(xid != NULL, nigbaru_raw_end(&session->handle, xid, answer));
+}
+
+/* XA PREPARE. */
+static inline uint32_t nigbaru_prepare(nigbaru_session *session, const nigbaru_xid *xid, nigbaru_answer *answer,
+                                      uint64_t tries) {
+    NIGBARU_TRY_(xid != NULL, nigbaru_raw_prepare(&session->handle, xid, answer));
+}
+
+/* XA COMMIT, and if one_phase is true XA COMMIT .. ONE PHASE. */
+static inline uint32_t nigbaru_commit(nigbaru_session *session, const nigbaru_xid *xid, bool one_phase,
+                                     nigbaru_answer *answer, uint64_t tries) {
+    NIGBARU_TRY_(xid != NULL, nigbaru_raw_commit(&session->handle, xid, one_phase, answer));
+}
+
+/* XA ROLLBACK. */
+static inline uint32_t nigbaru_rollback(nigbaru_session *session, const nigbaru_xid *xid, nigbaru_answer *answer,
+                                       uint64_t tries) {
+    NIGBARU_TRY_(xid != NULL, nigbaru_raw_rollback(&session->handle, xid, answer));
+}
+
+/* XA RECOVER. xids, room: as of nigbaru_run. */
+static inline uint32_t nigbaru_recover(nigbaru_session *session, nigbaru_answer *answer, nigbaru_xid *xids, size_t room,
+                                      uint64_t tries) {
+    NIGBARU_TRY_(xids != NULL || room == 0,
+                 nigbaru_raw_recover(&session->handle, answer, nigbaru_room_(xids), room));
+}
+
+/* GET. Of this and the next two, key, key_length: the row's key, 1 to 64 bytes. OUT_OF_RANGE: it is shorter or
+ * longer, or the value is longer. A pointer may be null if its length is 0. */
+static inline uint32_t nigbaru_get(nigbaru_session *session, const void *key, size_t key_length, nigbaru_answer *answer,
+                                  uint64_t tries) {
+    NIGBARU_TRY_(key != NULL || key_length == 0,
+                 nigbaru_raw_get(&session->handle, nigbaru_bytes_(key), key_length, answer));
+}
+
+/* PUT. value, value_length: the value, 0 to 64 bytes. */
+static inline uint32_t nigbaru_put(nigbaru_session *session, const void *key, size_t key_length, const void *value,
+                                  size_t value_length, nigbaru_answer *answer, uint64_t tries) {
+    NIGBARU_TRY_((key != NULL || key_length == 0) && (value != NULL || value_length == 0),
+                 nigbaru_raw_put(&session->handle, nigbaru_bytes_(key), key_length, nigbaru_bytes_(value),
+                                 value_length, answer));
+}
+
+/* DEL. */
+static inline uint32_t nigbaru_del(nigbaru_session *session, const void *key, size_t key_length, nigbaru_answer *answer,
+                                  uint64_t tries) {
+    NIGBARU_TRY_(key != NULL || key_length == 0,
+                 nigbaru_raw_del(&session->handle, nigbaru_bytes_(key), key_length, answer));
+}
+
+/* DISCONNECT: rolls back the session's branch, unless it is prepared. */
+static inline uint32_t nigbaru_disconnect(nigbaru_session *session, nigbaru_answer *answer, uint64_t tries) {
+    NIGBARU_TRY_(true, nigbaru_raw_disconnect(&session->handle, answer));
+}
+
+#undef NIGBARU_TRY_
 
 /* Hands out the next entry of the history: its session and its statement. A session hands out each entry
  * once, in order, from the store's first on, also after it has left and was taken again. If it follows too
@@ -283,8 +384,8 @@ static inline uint32_t nigbaru_follow(nigbaru_session *session, nigbaru_entry *e
 
 /* Gives a session back to its store, from which any thread can take it again. Its handle is empty afterwards.
  *
- * Nothing is logged: what the session added stays, and so does its open branch, with its locks. Send
- * DISCONNECT first to roll an open branch back. Takes no memory.
+ * Nothing is logged: what the session added stays, and so does its open branch, with its locks. Call
+ * nigbaru_disconnect first to roll an open branch back. Takes no memory.
  * Errors: NO_POINTER, BUSY, NO_HANDLE (no session is held, also if it has left already). After an error the
  * handle is as before. */
 static inline uint32_t nigbaru_leave(nigbaru_session *session) {

@@ -4,4 +4,6 @@ pub mod Opening
 pub mod Taking
 pub mod Outcome
 pub mod Telling
+pub mod Naming
+pub mod Asked
 pub mod Following

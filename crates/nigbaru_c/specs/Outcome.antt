@@ -2,7 +2,6 @@
 --     status_of_reply, status_of_fault, status_of      the status that C gets
 --     Fits             X/Open's layout can hold a statement's identifier
 --     HasTried, Tried  what one try at a statement did, by its outcome
---     Attempts         a statement was tried and answered or not, if a session is held
 --     Goes             what a text did to a session, by the outcome
 --     Comes            the same for the session that a handle holds, if it holds one
 use Rattle.std.specs.Prelude.{◌≡◌, ◌<◌, ◌^◌, ℕ, List, Result, Ok, Err, Option, None, Some}
@@ -75,14 +74,6 @@ Tried statement (Unanswered fault) old new = HasTried statement (Err fault) old 
 Tried statement (Misspelled fault) old new = ⊥
 Tried statement Vacant old new = ⊥
 Tried statement OutOfRange old new = (Fits statement → ⊥) × (new ≡ old)
-
--- a statement was tried if a session is held, and was answered, or wasn't for a cause; else the outcome is Vacant,
--- and no session is held afterwards. There is no other outcome
-abbrev pub Attempts : Statement → Outcome → Option EndlessSession → Option EndlessSession → Type 0
-Attempts statement Vacant None None = Unit {0}
-Attempts statement (Answered answer) (Some old) (Some new) = Tried statement (Answered answer) old new
-Attempts statement (Unanswered fault) (Some old) (Some new) = Tried statement (Unanswered fault) old new
-Attempts statement outcome old new = ⊥
 
 -- what a text did to the session, by the outcome: if Misspelled, the text has its fault at this place, and the session
 -- is unchanged; else the text spells a statement, which was tried with this outcome

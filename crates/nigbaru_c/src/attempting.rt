@@ -6,7 +6,7 @@ ghost use Rattle.nigbaru_c.specs.Telling.{Tells, Lists};
 ghost use Rattle.nigbaru_c.specs.declared.outcome.Outcome.{Outcome as OutcomeOf};
 
 use crate::telling::list;
-use crate::{Handle, Outcome, Told, XidPart};
+use crate::{Asked, Handle, Outcome, Told, XidPart, answering};
 use std::alloc::Global;
 
 /// Has the handle's session attempt once to answer the statement that a text spells. If the handle holds no session,
@@ -15,15 +15,8 @@ fn answer(alloc: Global, session: &mut Handle, text: &[u8]) -> Outcome
     ensures comes { Comes text.now result (session_of session.old.held) (session_of session.new.held) }
     ensures same { session_of session.old.held ≡ None → session.new.held ≡ session.old.held }
 {
-    match session.empty(alloc) {
-        // The handle gets its box back, whatever the outcome.
-        Some(mut chair) => {
-            let outcome = chair.answer(text);
-            session.fill(chair);
-            outcome
-        }
-        None => Outcome::Vacant,
-    }
+    let asked = Asked::by(text);
+    answering::answer(alloc, session, &asked)
 }
 
 /// Has a session try once to answer the statement that a text spells. See `nigbaru_attempt` of
@@ -51,8 +44,8 @@ pub extern "C" fn nigbaru_raw_attempt(
     //   holds. At `OVERTAKEN` the one try was lost to a longer history. At `BEHIND` the history has at least as many
     //   entries as the ring has rows, from the next one on that the session would replay. `NO_MEMORY` is for a list,
     //   for a session that hasn't replayed all that is seen and whose next entry may take memory or that needs a copy
-    //   of all rows, or after more than 2^59 entries. The statuses for syntax and range change nothing, and a handle
-    //   without a session stays as it is.
+    //   of a checkpoint, or after more than 2^59 entries. The statuses for syntax and range change nothing, and a
+    //   handle without a session stays as it is.
     // Proved (c, attempt-answer): The answer's fields and the identifiers that C gets are those of the reply, and 0
     //   where the reply has none. Identifiers are written only for a list, as many as there is room for; a formatID
     //   of 2^63 or more is written as -1.

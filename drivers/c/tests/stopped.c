@@ -1,11 +1,15 @@
 /* Stops one thread after another, each at a random instruction of a statement and for 200 ms at least:
-   stopped STOPS ROWS STORE_ROWS [outside]
+   stopped [outside] STOPS ROWS STORE_ROWS [STOPS ROWS STORE_ROWS]..
 
    A signal's handler waits. If the thread isn't in a statement, it is let go, and gets another signal a moment later.
    While it is stopped, each other thread has to have a statement answered that it asks after the stop, also one that
    sleeps until the ring has gone round, and is behind at each statement. One that hasn't within ten seconds counts as
    waiting for the stopped thread. At the end each row is what its thread committed last. The store has STORE_ROWS rows
-   more, which nobody touches.
+   more, which nobody touches. For each three numbers there is a store of its own.
+
+   A stop is a stall if a statement of another thread takes more than 120 ms of the 200. So it is if that thread waits
+   for a processor. For that reason each stop is followed by 200 ms in which nobody is stopped, judged in the same way.
+   The test fails if there are more stalls with stops than without, in all, than chance explains.
 
    So it is over an allocator without locks, such as mimalloc. In others a thread that is stopped in malloc, realloc or
    free may have a lock that the others need there (docs/EMBEDDING.md#threads). With `outside`, for these, a thread that
@@ -25,6 +29,9 @@
 #define WORKERS 6
 #define THREADS (WORKERS + 1)
 #define PATIENCE 10000 /* milliseconds */
+#define STOP 200 /* milliseconds */
+#define STALL 120 /* milliseconds */
+#define CHANCE 0.01 /* the test fails if chance has so many more stalls with stops more seldom than that */
 
 struct worker {
   pthread_t thread;
@@ -32,6 +39,7 @@ struct worker {
   int number;
   long cycles;
   atomic_ulong asked, answered; /* statements */
+  atomic_ulong since, longest; /* when it asked, or 0; how long it waited at most from `watched` on, in microseconds */
   char apart[128];
 };
 
@@ -44,10 +52,17 @@ static atomic_int let_go; /* how many signals stopped nobody */
 static atomic_int begun; /* threads */
 static int longest; /* milliseconds that others took beyond the 200, about */
 static atomic_ulong added; /* entries, about */
+static atomic_ulong watched; /* since when statements are timed, in microseconds */
 
 static void pause_for(long milliseconds) {
   struct timespec time = {milliseconds / 1000, milliseconds % 1000 * 1000000};
   nanosleep(&time, NULL);
+}
+
+static unsigned long now(void) {
+  struct timespec time;
+  clock_gettime(CLOCK_MONOTONIC, &time);
+  return (unsigned long)time.tv_sec * 1000000 + (unsigned long)time.tv_nsec / 1000;
 }
 
 /* Whether the thread is in a statement, and in the allocator; its own signal handler reads it. */
@@ -88,8 +103,17 @@ static void wait_here(int signal) {
     pause_for(1);
 }
 
+/* How long a statement has been asked by now, from `watched` on. */
+static unsigned long waited_for(unsigned long since) {
+  unsigned long from = atomic_load(&watched), until = now();
+  if (since > from)
+    from = since;
+  return until > from ? until - from : 0;
+}
+
 static void say(struct worker *it, const char *text, uint32_t wanted) {
   nigbaru_answer answer;
+  atomic_store(&it->since, now());
   atomic_fetch_add(&it->asked, 1);
   atomic_store(&is_asking, 1);
   uint32_t status = nigbaru_seat_run(&it->seat, text, strlen(text), &answer, NULL, 0);
@@ -98,6 +122,9 @@ static void say(struct worker *it, const char *text, uint32_t wanted) {
     fprintf(stderr, "%d %s: %s (%u)\n", it->number, text, nigbaru_text(status), answer.error);
     exit(1);
   }
+  unsigned long took = waited_for(atomic_exchange(&it->since, 0));
+  if (took > atomic_load(&it->longest))
+    atomic_store(&it->longest, took);
   atomic_fetch_add(&it->answered, 1);
 }
 
@@ -171,14 +198,41 @@ static void bring_to_stop(int stopped, int number) {
   }
 }
 
+/* What was found: how many stops kept others from going on for `PATIENCE`, how many were stalls, and how many of as
+   many times without a stop. */
+struct found {
+  int stops, kept, stalls, stalls_without;
+};
+
+/* From now on statements are timed. */
+static void watch(void) {
+  atomic_store(&watched, now());
+  for (int index = 0; index < THREADS; index++)
+    atomic_store(&workers[index].longest, 0);
+}
+
+/* Whether a statement of a thread other than this one has taken too long since `watch`, also one that isn't answered
+   yet. */
+static int is_stalled(int besides) {
+  for (int index = 0; index < THREADS; index++) {
+    unsigned long since = atomic_load(&workers[index].since), most = atomic_load(&workers[index].longest);
+    unsigned long waits = since == 0 ? 0 : waited_for(since);
+    if (index != besides && (most > STALL * 1000 || waits > STALL * 1000))
+      return 1;
+  }
+  return 0;
+}
+
 /* Stops a thread for 200 ms, and longer while another hasn't gone on yet. Returns one that hasn't at the end, or -1. */
-static int stop(int stopped) {
+static int stop(int stopped, struct found *found) {
   unsigned long before[THREADS];
   int idle, number = atomic_load(&stopped_at) + 1;
   bring_to_stop(stopped, number);
   for (int index = 0; index < THREADS; index++)
     before[index] = atomic_load(&workers[index].asked);
-  pause_for(200);
+  watch();
+  pause_for(STOP);
+  found->stalls += is_stalled(stopped);
   int waited = 0;
   for (; (idle = idle_of(stopped, before)) >= 0 && waited < PATIENCE; waited++)
     pause_for(1);
@@ -188,18 +242,25 @@ static int stop(int stopped) {
   return idle;
 }
 
-static int stop_each(int stops) {
-  int kept = 0;
-  unsigned random = 12345;
-  for (int turn = 0; turn < stops; turn++) {
-    random = random * 1103515245u + 12345u;
-    pause_for(1 + (long)(random >> 16) % 7);
-    int idle = stop(turn % THREADS);
+static void pause_at_random(void) {
+  static unsigned random = 12345;
+  random = random * 1103515245u + 12345u;
+  pause_for(1 + (long)(random >> 16) % 7);
+}
+
+/* As many stops as are asked for, and as many times in which nobody is stopped. */
+static void stop_each(struct found *found) {
+  for (int turn = 0; turn < found->stops; turn++) {
+    pause_at_random();
+    int stopped = turn % THREADS, idle = stop(stopped, found);
     if (idle >= 0)
-      fprintf(stderr, "thread %d was stopped, and thread %d had no answer\n", turn % THREADS + 1, idle + 1);
-    kept += idle >= 0;
+      fprintf(stderr, "thread %d was stopped, and thread %d had no answer\n", stopped + 1, idle + 1);
+    found->kept += idle >= 0;
+    pause_at_random();
+    watch();
+    pause_for(STOP);
+    found->stalls_without += is_stalled(stopped);
   }
-  return kept;
 }
 
 static void check_rows(void) {
@@ -216,29 +277,62 @@ static void check_rows(void) {
   }
 }
 
-int main(int count, char **words) {
-  CHECK(count == 4 || (count == 5 && strcmp(words[4], "outside") == 0));
-  atomic_store(&is_outside, count == 5);
-  int stops = atoi(words[1]);
-  rows = (unsigned long)atol(words[2]);
-  struct sigaction action = {.sa_handler = wait_here, .sa_flags = SA_RESTART};
-  SAME(sigaction(SIGUSR1, &action, NULL), 0);
-  open_store(atol(words[3]));
+/* One store, from its opening to its close. */
+static void try_store(int stops, unsigned long ring, long store_rows, struct found *all) {
+  struct found found = {.stops = stops};
+  memset(workers, 0, sizeof workers);
+  rows = ring;
+  longest = 0;
+  atomic_store(&begun, 0);
+  atomic_store(&is_over, 0);
+  atomic_store(&let_go, 0);
+  atomic_store(&added, 0);
+  open_store(store_rows);
   for (int index = 0; index < THREADS; index++)
     SAME(pthread_create(&workers[index].thread, NULL, index < WORKERS ? works : sleeps, &workers[index]), 0);
   /* (a sanitizer takes memory while a thread begins) */
   while (atomic_load(&begun) < THREADS)
     pause_for(1);
-  int kept = stop_each(stops);
+  stop_each(&found);
   atomic_store(&is_over, 1);
   for (int index = 0; index < THREADS; index++)
     SAME(pthread_join(workers[index].thread, NULL), 0);
   check_rows();
-  printf("%d of %d stops kept others from going on; others took up to about %d ms\n", kept, stops, 200 + longest);
-  printf("%d signals were let go; %lu statements, %ld of the one that sleeps\n", atomic_load(&let_go),
-         atomic_load(&added), workers[WORKERS].cycles);
+  printf("ring of %lu, %ld rows: %d of %d stops kept others from going on; others took up to about %d ms\n", ring,
+         store_rows, found.kept, stops, STOP + longest);
+  printf("stalls: %d with stops, %d without; %d signals were let go; %lu statements, %ld of the one that sleeps\n",
+         found.stalls, found.stalls_without, atomic_load(&let_go), atomic_load(&added), workers[WORKERS].cycles);
   for (int index = 0; index < THREADS; index++)
     SAME(nigbaru_seat_leave(&workers[index].seat), NIGBARU_OK);
   SAME(nigbaru_shared_close(shared), NIGBARU_OK);
-  return kept > 0;
+  all->stops += stops;
+  all->kept += found.kept;
+  all->stalls += found.stalls;
+  all->stalls_without += found.stalls_without;
+}
+
+/* How often so many heads or more come of so many throws of a coin. */
+static double chance_of(int heads, int throws) {
+  long double ways = 1, each = 1, sum = 0; /* `ways` of having `count` heads */
+  for (int count = 0; count < throws; count++)
+    each /= 2;
+  for (int count = 0; count <= throws; ways = ways * (throws - count) / (count + 1), count++)
+    sum += count < heads ? 0 : ways * each;
+  return (double)sum;
+}
+
+int main(int count, char **words) {
+  struct sigaction action = {.sa_handler = wait_here, .sa_flags = SA_RESTART};
+  struct found all = {0};
+  int is_given = count > 1 && strcmp(words[1], "outside") == 0;
+  atomic_store(&is_outside, is_given);
+  CHECK(count - 1 > is_given && (count - 1 - is_given) % 3 == 0);
+  SAME(sigaction(SIGUSR1, &action, NULL), 0);
+  for (int index = 1 + is_given; index < count; index += 3)
+    try_store(atoi(words[index]), (unsigned long)atol(words[index + 1]), atol(words[index + 2]), &all);
+  /* If stops made no difference, each stall would as likely be without one. */
+  double chance = chance_of(all.stalls, all.stalls + all.stalls_without);
+  printf("in all %d stops: %d kept others from going on; stalls: %d with stops, %d without (by chance: %.3f)\n",
+         all.stops, all.kept, all.stalls, all.stalls_without, chance);
+  return all.kept > 0 || chance < CHANCE;
 }
