@@ -77,9 +77,9 @@ EndsOne gate place statement (Ok answer) old new =
     IsLetIn gate no_state statement place answer (known_in old) (known_in new)
 EndsOne gate place statement (Err fault) old new = HaltsAt gate place statement fault old new
 
--- the statement was answered as `IsLetIn` says, its answer is noted, and at most one entry: the session's own, at its
--- place in what the session has seen. Whether an entry is noted isn't said. The parameter `place` is the line, counted
--- from 0 in the session's own statements
+-- the statement was answered as `IsLetIn` says, and its answer is noted. One entry is noted exactly if the session has
+-- seen more than what comes before the answer: its own, at its place in what it has seen. The parameter `place` is the
+-- line, counted from 0 in the session's own statements
 pub record SaysOne (gate : ℕ → ℕ → Bool → Type 0) (place : ℕ) (statement : Statement) (old new : EndlessSession)
     (before after : Said) : Type 0 where
   pub answer : Answer
@@ -88,6 +88,8 @@ pub record SaysOne (gate : ℕ → ℕ → Bool → Type 0) (place : ℕ) (state
   pub added : List Added
   pub more : after.added.items ≡ before.added.items ++ added
   pub few : length added ≤ 1
+  pub noted : answer.place < length (known_in new).seen → 0 < length added
+  pub none : length (known_in new).seen ≤ answer.place → added ≡ []
   pub own : All (IsAddedBy (known_in new).seen (known_in old).number) added
 
 -- the statements before one were answered, the gate can have let the session go on there, and for that statement

@@ -1,13 +1,15 @@
 -- Which faults a command line has.
 use Rattle.std.proofs.Common.{◌≡◌, ◌∙◌, true, [], refl, sym, ap, subst, inl, List, Option, Result, Err}
+use Rattle.std.specs.Option.{IsSomeAnd}
 use Rattle.clap.specs.Words.{App, Text, HasKind, HasMatchesOf, Row, fault_of, is_simple, is_simple_and_free}
 use Rattle.clap.specs.Words.{subcommand_of, subcommand_rows_of}
 use Rattle.clap.specs.declared.error.Error.{Error}
 use Rattle.clap.proofs.OnLiterals.{clap_on_literals}
-use Rattle.std.specs.Option.{IsSomeAnd}
 use Rattle.clap.specs.declared.parser.matches.ArgMatches.{ArgMatches}
-use Rattle.xa_script.specs.CommandLine.{script_app, IsJob, Names, ReadsCommand}
+use Rattle.xa_script.specs.CommandLine.{script_app, IsJob, Names}
+use Rattle.xa_script.specs.Manner.{IsLine, ReadsLine, Says}
 use Rattle.xa_script.specs.declared.command.Job.{Job}
+use Rattle.xa_script.specs.declared.command_line.CommandLine.{CommandLine}
 
 -- the program's command line is simple, and no option of it has a rule on another
 simple_and_free : is_simple_and_free script_app ≡ true
@@ -24,10 +26,11 @@ pub found_as_named : (app : App) (words : List Text) (m : ArgMatches) → app �
     → subcommand_rows_of m ≡ subcommand_of script_app words
 found_as_named app words m is has = (has (ap is_simple is ∙ simple)).1 ∙ ap (λ (a : App). subcommand_of a words) is
 
--- if the matches are a job's, the words name that job
-pub named : (words : List Text) (m : ArgMatches) (job : Job) → subcommand_rows_of m ≡ subcommand_of script_app words
-    → IsSomeAnd (subcommand_rows_of m) (IsJob job) → Names words job
-named words m job is found = let P : Option (Text × List Row) → Type 0 = λ s. IsSomeAnd s (IsJob job) in
+-- if what was found for the subcommand is a command line, the words say it
+pub said : (words : List Text) (m : ArgMatches) (line : CommandLine)
+    → subcommand_rows_of m ≡ subcommand_of script_app words
+    → IsSomeAnd (subcommand_rows_of m) (IsLine line) → Says words line
+said words m line is found = let P : Option (Text × List Row) → Type 0 = λ s. IsSomeAnd s (IsLine line) in
     subst P is found
 
 -- if the words of a command line name a job, its matches are that job's
@@ -55,9 +58,9 @@ no_fault_of_script app words is none = let P : App → Type 0 = λ a. fault_of a
     subst P is (none (ap is_simple_and_free is ∙ simple_and_free))
 
 -- if the answer is an error that is passed on, which has the kind of the words' fault or says that memory ran out, the
--- command line is read as it is to be (`ReadsCommand`)
-pub refused_as : (words : List Text) (answer : Result Job Error) (passed error : Error) → answer ≡ Err passed
+-- command line is read as it is to be (`ReadsLine`)
+pub refused_as : (words : List Text) (answer : Result CommandLine Error) (passed error : Error) → answer ≡ Err passed
     → passed ≡ error
-    → HasKind (fault_of script_app words) error → ReadsCommand words answer
+    → HasKind (fault_of script_app words) error → ReadsLine words answer
 refused_as words answer passed error is same kinds =
-    let P : Result Job Error → Type 0 = λ r. ReadsCommand words r in subst P (sym (is ∙ ap Err same)) (inl kinds)
+    let P : Result CommandLine Error → Type 0 = λ r. ReadsLine words r in subst P (sym (is ∙ ap Err same)) (inl kinds)

@@ -3,13 +3,6 @@ pub mod Audited
 pub mod CommandFaults
 pub mod JobEnds
 pub mod ListedTexts
-pub mod MannerFound
-pub mod NamedAudits
-pub mod NamedCalls
-pub mod NamedJobs
-pub mod NamedLimits
-pub mod NamedRaces
-pub mod NamedRecords
 pub mod Owed
 pub mod RecordsRead
 pub mod SeveralListed

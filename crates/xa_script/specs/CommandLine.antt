@@ -4,18 +4,15 @@
 --     script_app      the command and its subcommands
 --     IsLocal         a command none of whose options is global
 --     IsCapacityText and the like    a text is a number in its range
---     IsRaceOf and the like          the job that the values of a subcommand's options give
+--     name_of, HasOptions            the name of a job's subcommand;  the values of its options say the job
 --     IsJob           the job of a subcommand
 --     Names           the job that the words of a command line name
---     ReadsCommand    when a command line is read, and why not
 --     CanBeDone       the numbers of a job are in their ranges
 --     audit_asked, ReadsInput      whether an audit is an object of JSON, of a job to audit;  the job isn't to audit
-use Rattle.std.specs.Prelude.{◌≡◌, ◌≢◌, ◌<◌, ◌≤◌, ◌^◌, ◌⊎◌, ℕ, Bool, true, false, Option, Some, None, Result}
-use Rattle.std.specs.Prelude.{MatchResult, IfSome, List, [], ◌∷◌, codes}
+use Rattle.std.specs.Prelude.{◌≡◌, ◌≢◌, ◌≤◌, ℕ, Bool, true, false, Option, Some, None, IfSome, List, [], ◌∷◌, codes}
 use Rattle.std.specs.Option.{IsSomeAnd}
 use Rattle.std.specs.Str.Parse.{IsNumeral, digits_value, without_leading_plus}
 use Rattle.clap.specs.Words.{App, Text, Row, Rule, new_app, new_rule, one_of, subcommand_of, with_rule, with_subcommand}
-use Rattle.clap.specs.Words.{fault_of, HasKind}
 use Rattle.clap.specs.Simple.{on_top}
 use Rattle.clap.specs.Lexer.{usize_max}
 use Rattle.clap.specs.declared.builder.value_parser.ValueParser.{ValueParser}
@@ -23,7 +20,6 @@ use Rattle.clap.specs.declared.builder.value_parser.ValueParser.TheVariants as p
 use Rattle.clap.specs.declared.builder.action.ArgAction.TheVariants.{SetTrue}
 use Rattle.clap.specs.declared.builder.command.Command.{Command}
 use Rattle.clap.specs.declared.builder.command.Command.TheViews.{out-Command}
-use Rattle.clap.specs.declared.error.Error.{Error}
 use Rattle.decision_log.specs.Opens.{IsCapacity}
 use Rattle.xa_script.specs.declared.schedule.Schedule.{Schedule}
 use Rattle.xa_script.specs.declared.schedule.Schedule.TheVariants.{Freely, Together, Shuffled}
@@ -176,10 +172,15 @@ script_app =
     (common_app judge_app).top) (common_app explore_app).top)
     audit_app.top
 
+-- the text of a value is this number, which is from `least` to `most`
+abbrev pub IsNumberText : (least most : ℕ) → ℕ → Text → Type 0
+IsNumberText least most number text =
+    IsNumeral 10 (without_leading_plus text) × (number ≡ digits_value 10 (without_leading_plus text))
+    × (least ≤ number) × (number ≤ most)
+
 -- the text of a value is this number, which a log can have as its capacity
 abbrev pub IsCapacityText : ℕ → Text → Type 0
-IsCapacityText capacity text = IsNumeral 10 (without_leading_plus text)
-    × (capacity ≡ digits_value 10 (without_leading_plus text)) × IsCapacity capacity
+IsCapacityText = IsNumberText 1 1024
 
 -- from 1 to 16 stores (own rule)
 abbrev pub IsStoreCount : ℕ → Type 0
@@ -187,8 +188,7 @@ IsStoreCount stores = (1 ≤ stores) × (stores ≤ 16)
 
 -- the text of a value is this number, from 1 to 16
 abbrev pub IsStoresText : ℕ → Text → Type 0
-IsStoresText stores text = IsNumeral 10 (without_leading_plus text)
-    × (stores ≡ digits_value 10 (without_leading_plus text)) × IsStoreCount stores
+IsStoresText = IsNumberText 1 16
 
 -- from 1 to 1,000,000 configurations, ways or runs (own rule)
 abbrev pub IsLimit : ℕ → Type 0
@@ -196,13 +196,11 @@ IsLimit limit = (1 ≤ limit) × (limit ≤ 1000000)
 
 -- the text of a value is this number, from 1 to 1,000,000
 abbrev pub IsLimitText : ℕ → Text → Type 0
-IsLimitText limit text =
-    IsNumeral 10 (without_leading_plus text) × (limit ≡ digits_value 10 (without_leading_plus text)) × IsLimit limit
+IsLimitText = IsNumberText 1 1000000
 
 -- the text of a value is this number, which is below 2^64
 abbrev pub IsSeedText : ℕ → Text → Type 0
-IsSeedText seed text =
-    IsNumeral 10 (without_leading_plus text) × (seed ≡ digits_value 10 (without_leading_plus text)) × (seed < 2 ^ 64)
+IsSeedText = IsNumberText 0 18446744073709551615
 
 -- no number below 2^64 is given as a seed
 abbrev pub HasNoSeed : Option Text → Type 0
@@ -225,81 +223,48 @@ abbrev pub IsRunsOf : (runs : Option Text) → Option ℕ → Type 0
 IsRunsOf runs None = (count : ℕ) → IsSomeAnd runs (IsLimitText count) → ⊥
 IsRunsOf runs (Some count) = IsSomeAnd runs (IsLimitText count)
 
--- the job is a race: its capacity is the value of `--capacity`, its schedule is as `--together` and `--shuffle` give
--- it, it is over a store without an end if `--renew` is given, and it is held as often as `--runs` says
-abbrev pub IsRaceOf : (capacity together shuffle renew runs : Option Text) → Job → Type 0
-IsRaceOf capacity together shuffle renew runs (Race room schedule renews count) =
-    IsSomeAnd capacity (IsCapacityText room) × IsScheduleOf together shuffle schedule × IsFlagOf renew renews
-    × IsRunsOf runs count
-IsRaceOf capacity together shuffle renew runs job = ⊥
+-- the name of a job's subcommand
+abbrev pub name_of : Job → Text
+name_of Run = codes "run"
+name_of (Race capacity schedule renews runs) = codes "race"
+name_of (Coordinate stores capacity fixed) = codes "coordinate"
+name_of Serve = codes "serve"
+name_of Show = codes "show"
+name_of (Judge limit explain json strict shrink) = codes "judge"
+name_of (Explore limit) = codes "explore"
+name_of (Stops stores capacity) = codes "stops"
+name_of (Audit json) = codes "audit"
 
--- the job is to carry out calls: the number of stores is the value of `--stores`, and the room in each that of
--- `--capacity`, to which histories are limited if `--fixed` is given
-abbrev pub IsCoordinateOf : (stores capacity fixed : Option Text) → Job → Type 0
-IsCoordinateOf stores capacity fixed (Coordinate count room ends) =
-    IsSomeAnd stores (IsStoresText count) × IsSomeAnd capacity (IsCapacityText room) × IsFlagOf fixed ends
-IsCoordinateOf stores capacity fixed job = ⊥
-
--- the job is to stop a coordinator: the number of its stores is the value of `--stores`, and the room in each that of
--- `--capacity`
-abbrev pub IsStopsOf : (stores capacity : Option Text) → Job → Type 0
-IsStopsOf stores capacity (Stops count room) =
-    IsSomeAnd stores (IsStoresText count) × IsSomeAnd capacity (IsCapacityText room)
-IsStopsOf stores capacity job = ⊥
-
--- the job is to judge, with the value of `--limit` as its limit, with reasons if `--explain` is given, as an object of
--- JSON if `--json` is, with calls tested if `--strict-calls` is, and with a smaller record if `--shrink` is
-abbrev pub IsJudgeOf : (limit explain json strict shrink : Option Text) → Job → Type 0
-IsJudgeOf limit explain json strict shrink (Judge kept explains writes tests shrinks) =
-    IsSomeAnd limit (IsLimitText kept) × IsFlagOf explain explains × IsFlagOf json writes
-    × IsFlagOf strict tests × IsFlagOf shrink shrinks
-IsJudgeOf limit explain json strict shrink job = ⊥
-
--- the job is to explore, with the value of `--limit` as its limit
-abbrev pub IsExploreOf : (limit : Option Text) → Job → Type 0
-IsExploreOf limit (Explore kept) = IsSomeAnd limit (IsLimitText kept)
-IsExploreOf limit job = ⊥
-
--- the job is to audit, as an object of JSON if `--json` is given
-abbrev pub IsAuditOf : (json : Option Text) → Job → Type 0
-IsAuditOf json (Audit writes) = IsFlagOf json writes
-IsAuditOf json job = ⊥
+-- the values of the options say this job
+abbrev pub HasOptions : Job → List Row → Type 0
+HasOptions Run rows = Unit {0}
+HasOptions (Race capacity schedule renews runs) rows =
+    IsSomeAnd (one_of (codes "capacity") rows) (IsCapacityText capacity)
+    × IsScheduleOf (one_of (codes "together") rows) (one_of (codes "shuffle") rows) schedule
+    × IsFlagOf (one_of (codes "renew") rows) renews × IsRunsOf (one_of (codes "runs") rows) runs
+HasOptions (Coordinate stores capacity fixed) rows =
+    IsSomeAnd (one_of (codes "stores") rows) (IsStoresText stores)
+    × IsSomeAnd (one_of (codes "capacity") rows) (IsCapacityText capacity)
+    × IsFlagOf (one_of (codes "fixed") rows) fixed
+HasOptions Serve rows = Unit {0}
+HasOptions Show rows = Unit {0}
+HasOptions (Judge limit explain json strict shrink) rows =
+    IsSomeAnd (one_of (codes "limit") rows) (IsLimitText limit)
+    × IsFlagOf (one_of (codes "explain") rows) explain × IsFlagOf (one_of (codes "json") rows) json
+    × IsFlagOf (one_of (codes "strict-calls") rows) strict × IsFlagOf (one_of (codes "shrink") rows) shrink
+HasOptions (Explore limit) rows = IsSomeAnd (one_of (codes "limit") rows) (IsLimitText limit)
+HasOptions (Stops stores capacity) rows =
+    IsSomeAnd (one_of (codes "stores") rows) (IsStoresText stores)
+    × IsSomeAnd (one_of (codes "capacity") rows) (IsCapacityText capacity)
+HasOptions (Audit json) rows = IsFlagOf (one_of (codes "json") rows) json
 
 -- the job of a subcommand, with what `clap` found for its arguments
 abbrev pub IsJob : Job → Text × List Row → Type 0
-IsJob Run found = found.0 ≡ codes "run"
-IsJob Serve found = found.0 ≡ codes "serve"
-IsJob Show found = found.0 ≡ codes "show"
-IsJob (Race capacity schedule renews runs) found =
-    (found.0 ≡ codes "race")
-    × IsRaceOf (one_of (codes "capacity") found.1) (one_of (codes "together") found.1)
-    (one_of (codes "shuffle") found.1) (one_of (codes "renew") found.1)
-    (one_of (codes "runs") found.1) (Race capacity schedule renews runs)
-IsJob (Coordinate stores capacity fixed) found =
-    (found.0 ≡ codes "coordinate")
-    × IsCoordinateOf (one_of (codes "stores") found.1) (one_of (codes "capacity") found.1)
-    (one_of (codes "fixed") found.1) (Coordinate stores capacity fixed)
-IsJob (Judge limit explain json strict shrink) found =
-    (found.0 ≡ codes "judge")
-    × IsJudgeOf (one_of (codes "limit") found.1) (one_of (codes "explain") found.1) (one_of (codes "json") found.1)
-    (one_of (codes "strict-calls") found.1) (one_of (codes "shrink") found.1)
-    (Judge limit explain json strict shrink)
-IsJob (Explore limit) found = (found.0 ≡ codes "explore") × IsExploreOf (one_of (codes "limit") found.1) (Explore limit)
-IsJob (Stops stores capacity) found =
-    (found.0 ≡ codes "stops") × IsStopsOf (one_of (codes "stores") found.1) (one_of (codes "capacity") found.1)
-    (Stops stores capacity)
-IsJob (Audit json) found = (found.0 ≡ codes "audit") × IsAuditOf (one_of (codes "json") found.1) (Audit json)
+IsJob job found = (found.0 ≡ name_of job) × HasOptions job found.1
 
 -- the words name this job, as `clap` matches them
 abbrev pub Names : List Text → Job → Type 0
 Names words job = IsSomeAnd (subcommand_of script_app words) (IsJob job)
-
--- a command line is read only where `clap` finds no fault in it; else the error has the kind of its fault, or memory
--- ran out, or the words name no job
-abbrev pub ReadsCommand : List Text → Result Job Error → Type 0
-ReadsCommand words answer =
-    MatchResult answer (λ job. fault_of script_app words ≡ [])
-    (λ error. HasKind (fault_of script_app words) error ⊎ ((job : Job) → Names words job → ⊥))
 
 -- a log can have the capacity, there are 1 to 16 stores, and a limit and a number of runs are from 1 to 1,000,000
 abbrev pub CanBeDone : Job → Type 0

@@ -156,10 +156,12 @@ HasDone contents (Stops stores capacity) json base allowances input old new done
 HasDone contents (Audit object) json base allowances input old new done = ⊥
 
 -- a job ended as `Done` says, and then `end_of` made its result by `faulty`: whether one of its lines was faulty, or
--- None if memory was refused for finding that out. It isn't tied to the lines here: it may be any of the three
-pub record IsLookedAt {W A : Type 0} (strict : Bool) (Done : BufWriter W A → End → Type 0) (new : BufWriter W A)
+-- None if memory was refused for finding that out. No line was faulty if lines weren't looked at; if they were, it isn't
+-- tied to the lines here, and may be any of the three
+pub record IsLookedAt {W A : Type 0} (strict looks : Bool) (Done : BufWriter W A → End → Type 0) (new : BufWriter W A)
     (result : End) : Type 0 where
   pub done : End
   pub faulty : Option Bool
   pub own : Done new done
+  pub unlooked : looks ≡ false → faulty ≡ Some false
   pub ends : result ≡ end_of strict faulty done

@@ -1,43 +1,62 @@
--- How a job is to be done.
+-- What a command line asks for.
 --     IsManner     the manner that the values of the options give
---     HasManner    the manner that the words name
---     HasHistories the histories that the words name
---     HasRecords   the records that the words name, and how they are listed
-use Rattle.std.specs.Prelude.{◌≡◌, Option, List, [], codes, map, unwrap_or}
+--     AreHistories, AreRecords      the files that they name, and how verdicts are listed
+--     IsLine, Says      all that was found for a subcommand;  all that the words say
+--     HasExcess    more files than a job takes, or one that is named twice
+--     ReadsLine    what is read of the words
+use Rattle.std.specs.Prelude.{◌≡◌, ◌≢◌, ◌<◌, ◌⊎◌, Option, None, List, [], codes, length, map, unwrap_or, Result}
+use Rattle.std.specs.Prelude.{MatchResult}
 use Rattle.std.specs.Option.{IsSomeAnd, option_map}
-use Rattle.clap.specs.Words.{Text, all_of, first_of, one_of, subcommand_of}
-use Rattle.xa_script.specs.CommandLine.{IsFlagOf, script_app}
+use Rattle.clap.specs.Words.{HasKind, Row, Text, all_of, fault_of, first_of, one_of, subcommand_of}
+use Rattle.clap.specs.declared.error.Error.{Error}
+use Rattle.xa_script.specs.CommandLine.{IsFlagOf, IsJob, Names, script_app}
+use Rattle.xa_script.specs.declared.command.Job.{Job}
+use Rattle.xa_script.specs.declared.command_line.CommandLine.{CommandLine}
 use Rattle.xa_script.specs.declared.histories.Histories.{Histories}
 use Rattle.xa_script.specs.declared.manner.Manner.{Manner}
 use Rattle.xa_script.specs.declared.records.Records.{Records}
 
 -- each file is the value of its option, and each flag is as its option says
-abbrev pub IsManner : (file allow from verbose strict text quiet json follow : Option Text) → Manner → Type 0
-IsManner file allow from verbose strict text quiet json follow manner =
-    (option_map (λ name. name.now) manner.file ≡ file) × (option_map (λ name. name.now) manner.allow ≡ allow)
-    × (option_map (λ name. name.now) manner.from ≡ from) × IsFlagOf verbose manner.verbose
-    × IsFlagOf strict manner.strict × IsFlagOf text manner.text × IsFlagOf quiet manner.quiet
-    × IsFlagOf json manner.json × IsFlagOf follow manner.follow
+abbrev pub IsManner : List Row → Manner → Type 0
+IsManner rows manner =
+    (option_map (λ name. name.now) manner.file ≡ first_of (codes "file") rows)
+    × (option_map (λ name. name.now) manner.allow ≡ first_of (codes "allow") rows)
+    × (option_map (λ name. name.now) manner.from ≡ first_of (codes "from") rows)
+    × IsFlagOf (one_of (codes "verbose") rows) manner.verbose
+    × IsFlagOf (one_of (codes "strict") rows) manner.strict × IsFlagOf (one_of (codes "text") rows) manner.text
+    × IsFlagOf (one_of (codes "quiet") rows) manner.quiet × IsFlagOf (one_of (codes "json") rows) manner.json
+    × IsFlagOf (one_of (codes "follow") rows) manner.follow
 
--- the words give this manner, as `clap` matches them
-abbrev pub HasManner : List Text → Manner → Type 0
-HasManner words manner =
-    IsSomeAnd (subcommand_of script_app words)
-    (λ found. IsManner (first_of (codes "file") found.1) (first_of (codes "allow") found.1)
-    (first_of (codes "from") found.1) (one_of (codes "verbose") found.1) (one_of (codes "strict") found.1)
-    (one_of (codes "text") found.1) (one_of (codes "quiet") found.1)
-    (one_of (codes "json") found.1) (one_of (codes "follow") found.1) manner)
+-- the names are all values of `HISTORY..`, in their order; none, for a job that has no such argument
+abbrev pub AreHistories : List Row → Histories → Type 0
+AreHistories rows histories = map (λ name. name.now) histories.names.items ≡ unwrap_or (all_of (codes "history") rows) []
 
--- the names are all values of `HISTORY..`, in their order, as `clap` matches the words; none, for a job that has no
--- such argument
-abbrev pub HasHistories : List Text → Histories → Type 0
-HasHistories words histories =
-    IsSomeAnd (subcommand_of script_app words) (λ found. map (λ name. name.now) histories.names.items
-    ≡ unwrap_or (all_of (codes "history") found.1) [])
+-- the names are all values of `RECORD..`, in their order (none if there are none, as for a job that has no such
+-- argument), and TAP is as its option says
+abbrev pub AreRecords : List Row → Records → Type 0
+AreRecords rows records = (map (λ name. name.now) records.names.items ≡ unwrap_or (all_of (codes "record") rows) [])
+    × IsFlagOf (one_of (codes "tap") rows) records.tap
 
--- the names are all values of `RECORD..`, in their order, as `clap` matches the words (none if there are none, as for a
--- job that has no such argument), and TAP is as its option says
-abbrev pub HasRecords : List Text → Records → Type 0
-HasRecords words records =
-    IsSomeAnd (subcommand_of script_app words) (λ found. (map (λ name. name.now) records.names.items
-    ≡ unwrap_or (all_of (codes "record") found.1) []) × IsFlagOf (one_of (codes "tap") found.1) records.tap)
+-- what was found for a subcommand is this job, done in this manner, over these files
+pub record IsLine (line : CommandLine) (found : Text × List Row) : Type 0 where
+  pub job : IsJob line.job found
+  pub manner : IsManner found.1 line.manner
+  pub histories : AreHistories found.1 line.histories
+  pub records : AreRecords found.1 line.records
+
+-- the words ask for this, as `clap` matches them
+abbrev pub Says : List Text → CommandLine → Type 0
+Says words line = IsSomeAnd (subcommand_of script_app words) (IsLine line)
+
+-- there are more than 64 histories or 1,000 records, or a record is named beside `--file`
+abbrev pub HasExcess : CommandLine → Type 0
+HasExcess line = (64 < length line.histories.names.items) ⊎ (1000 < length line.records.names.items)
+    ⊎ ((line.records.names.items ≢ []) × (line.manner.file ≢ None))
+
+-- a command line is read only if `clap` finds no fault in it. Else the error has the kind of its fault, or memory ran
+-- out; or the words name no job, or files that it doesn't take
+abbrev pub ReadsLine : List Text → Result CommandLine Error → Type 0
+ReadsLine words answer =
+    MatchResult answer (λ line. fault_of script_app words ≡ [])
+    (λ error. HasKind (fault_of script_app words) error ⊎ ((job : Job) → Names words job → ⊥)
+    ⊎ ((line : CommandLine) × Says words line × HasExcess line))

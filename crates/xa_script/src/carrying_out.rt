@@ -15,7 +15,7 @@ use crate::starting::first_store;
 use crate::too_long::tell_too_long;
 use crate::undecided::tell_undecided;
 use crate::watch::Watch;
-use crate::{COMMAND_FAULT, Histories, Job, Manner, Records, jobs};
+use crate::{COMMAND_FAULT, CommandLine, Histories, Job, Manner, Records, jobs};
 use std::alloc::Global;
 use std::io::Read;
 use std::rt::{Clock, Files};
@@ -60,24 +60,20 @@ fn judging_in(job: Job) -> Option<Asked>
     }
 }
 
-/// Does a job, and returns the exit status: `COMMAND_FAULT` if the file of `--allow` or of `--from` has a faulty line,
-/// which the standard error names; `audit` reads neither. Only `audit` reads the histories, and only `judge` the
-/// records.
+/// Does what a command line asks for, and returns the exit status: `COMMAND_FAULT` if the file of `--allow` or of
+/// `--from` has a faulty line, which the standard error names; `audit` reads neither. Only `audit` reads the histories,
+/// and only `judge` the records.
 pub fn carry_out<
     R: Files + Clock + Input + Print + Eprint + Alloc<A = Global> + Threads + Wait + Sync,
->(
-    rt: &R,
-    job: Job,
-    manner: &Manner<'_>,
-    histories: &Histories<'_>,
-    records: &Records<'_>,
-) -> Result<u8, ScriptFault>
-    requires done { CanBeDone job }
-    requires histories { length histories.now.names.items ≤ 64 }
-    requires records { length records.now.names.items ≤ 1000 }
+>(rt: &R, line: &CommandLine<'_>) -> Result<u8, ScriptFault>
+    requires done { CanBeDone line.now.job }
+    requires histories { length line.now.histories.names.items ≤ 64 }
+    requires records { length line.now.records.names.items ≤ 1000 }
 {
+    let (job, manner) = (line.job, &line.manner);
     if let Some(json) = audit_in(job) {
-        return carry_out_audit(rt, job, form_asked(json, manner.quiet), manner, histories);
+        let form = form_asked(json, manner.quiet);
+        return carry_out_audit(rt, job, form, manner, &line.histories);
     }
     let Some(allowances) = allowed(rt, manner)? else {
         return Ok(COMMAND_FAULT);
@@ -85,7 +81,7 @@ pub fn carry_out<
     let Some(base) = first_store(rt, manner)? else {
         return Ok(COMMAND_FAULT);
     };
-    carry_out_from(rt, job, manner, records, allowances.as_slice(), &base)
+    carry_out_from(rt, job, manner, &line.records, allowances.as_slice(), &base)
 }
 
 /// Does a job that isn't to audit, with what the files of `--allow` and `--from` hold, and returns the exit status.

@@ -1,19 +1,13 @@
-//! The command line.
-ghost use Rattle.std.specs.Prelude.{◌≡◌, ◌≢◌, ℕ, Some, None, IfOk, IfSome, true, false, map, codes};
+//! The jobs, and the options of each.
+ghost use Rattle.std.specs.Prelude.{◌≡◌, ℕ, None, IfSome, codes};
 ghost use Rattle.std.specs.Option.{IsSomeAnd};
-ghost use Rattle.clap.specs.Words.{app_of, found_of, one_text, subcommand_rows_of};
-ghost use Rattle.xa_script.specs.CommandLine.{IsCapacityText, IsSeedText, IsStoresText, IsLimitText, HasNoSeed};
-ghost use Rattle.xa_script.specs.CommandLine.{IsScheduleOf, IsRunsOf, IsRaceOf};
-ghost use Rattle.xa_script.specs.CommandLine.{IsCoordinateOf, IsStopsOf, IsJudgeOf, IsExploreOf, IsAuditOf, IsJob};
-ghost use Rattle.xa_script.specs.CommandLine.{Names, CanBeDone, ReadsCommand, script_app};
+ghost use Rattle.clap.specs.Words.{found_of, one_of, rows_of};
+ghost use Rattle.xa_script.specs.CommandLine.{CanBeDone, HasOptions, IsCapacityText, IsJob, IsLimitText, IsRunsOf};
+ghost use Rattle.xa_script.specs.CommandLine.{IsScheduleOf, IsStoresText, name_of};
 
 use crate::Schedule;
-use crate::manner::flag_in;
-use crate::subcommands::script_command;
-use clap::error::ErrorKind;
-use clap::{ArgMatches, Command, Error};
-use std::alloc::Global;
-use std::convert::AsStr;
+use crate::found::{flag_in, number_in};
+use clap::ArgMatches;
 
 /// What the program is to do. A job that reads the standard input reads the file of `--file` instead if that is given.
 /// `Judge` reads neither if records are named.
@@ -78,47 +72,15 @@ pub enum Job {
     },
 }
 
-/// The value of `--capacity`; None if it isn't a number from 1 to 1024.
-fn capacity_in(found: &ArgMatches<'_>) -> Option<u64>
-    ensures some { IfSome result (λ capacity. IsSomeAnd (one_text (found_of found.now) (codes "capacity"))
-        (IsCapacityText capacity)) }
-    ensures none { result ≡ None → (capacity : ℕ) → IsSomeAnd (one_text (found_of found.now) (codes "capacity"))
-        (IsCapacityText capacity) → ⊥ }
-{
-    match found.get_one::<u64>("capacity") {
-        // The option's parser takes no other number. That isn't known here.
-        Some(capacity) if 1 <= capacity && capacity <= 1024 => Some(capacity),
-        _ => None,
-    }
-}
-
-/// The value of `--shuffle`; None without a seed.
-fn seed_in(found: &ArgMatches<'_>) -> Option<u64>
-    ensures some { IfSome result (λ seed. IsSomeAnd (one_text (found_of found.now) (codes "shuffle"))
-        (IsSeedText seed)) }
-    ensures none { result ≡ None → HasNoSeed (one_text (found_of found.now) (codes "shuffle")) }
-{
-    found.get_one::<u64>("shuffle")
-}
-
-/// Returns whether `--together` is given.
-fn begins_together(found: &ArgMatches<'_>) -> bool
-    ensures given { result ≡ true → one_text (found_of found.now) (codes "together") ≡ Some (codes "true") }
-    ensures other { result ≡ false → one_text (found_of found.now) (codes "together") ≢ Some (codes "true") }
-{
-    // Without a value the option isn't given.
-    found.get_one::<bool>("together").unwrap_or(false)
-}
-
 /// Returns how the sessions come to their lines. If a seed is given, `--together` changes nothing.
 fn schedule_in(found: &ArgMatches<'_>) -> Schedule
-    ensures { IsScheduleOf (one_text (found_of found.now) (codes "together"))
-        (one_text (found_of found.now) (codes "shuffle")) result }
+    ensures { IsScheduleOf (one_of (codes "together") (rows_of (found_of found.now)))
+        (one_of (codes "shuffle") (rows_of (found_of found.now))) result }
 {
-    match seed_in(found) {
+    match number_in(found, "shuffle", 0, u64::MAX) {
         Some(seed) => Schedule::Shuffled(seed),
         None => {
-            if begins_together(found) {
+            if flag_in(found, "together") {
                 Schedule::Together
             } else {
                 Schedule::Freely
@@ -127,153 +89,125 @@ fn schedule_in(found: &ArgMatches<'_>) -> Schedule
     }
 }
 
-/// Returns the value of an option that takes a number from 1 to 1,000,000; None without such a number.
-fn limit_in(found: &ArgMatches<'_>, name: &str) -> Option<u64>
-    ensures some { IfSome result (λ limit. IsSomeAnd (one_text (found_of found.now) name.now) (IsLimitText limit)) }
-    ensures none { result ≡ None → (limit : ℕ) → IsSomeAnd (one_text (found_of found.now) name.now) (IsLimitText limit)
-        → ⊥ }
+/// Returns the value of `--capacity`; None if it isn't a number from 1 to 1024.
+fn capacity_in(found: &ArgMatches<'_>) -> Option<u64>
+    ensures some { IfSome result (λ capacity. IsSomeAnd (one_of (codes "capacity") (rows_of (found_of found.now)))
+        (IsCapacityText capacity)) }
+    ensures none { result ≡ None → (capacity : ℕ)
+        → IsSomeAnd (one_of (codes "capacity") (rows_of (found_of found.now))) (IsCapacityText capacity) → ⊥ }
 {
-    match found.get_one::<u64>(name) {
-        // The option's parser takes no other number. That isn't known here.
-        Some(limit) if 1 <= limit && limit <= 1_000_000 => Some(limit),
-        _ => None,
-    }
+    number_in(found, "capacity", 1, 1024)
 }
 
-/// The value of `--runs`; None without a number from 1 to 1,000,000.
-fn runs_in(found: &ArgMatches<'_>) -> Option<u64>
-    ensures { IsRunsOf (one_text (found_of found.now) (codes "runs")) result }
-{
-    limit_in(found, "runs")
-}
-
-/// The race that the options of `race` ask for; None if the capacity isn't a number from 1 to 1024.
-fn race_in(found: &ArgMatches<'_>) -> Option<Job>
-    ensures some { IfSome result
-        (IsRaceOf (one_text (found_of found.now) (codes "capacity")) (one_text (found_of found.now) (codes "together"))
-        (one_text (found_of found.now) (codes "shuffle")) (one_text (found_of found.now) (codes "renew"))
-        (one_text (found_of found.now) (codes "runs"))) }
-    ensures none { result ≡ None → (capacity : ℕ) → IsSomeAnd (one_text (found_of found.now) (codes "capacity"))
-        (IsCapacityText capacity) → ⊥ }
-{
-    match capacity_in(found) {
-        Some(capacity) => Some(Job::Race {
-            capacity,
-            schedule: schedule_in(found),
-            renews: flag_in(found, "renew"),
-            // The option's parser takes no number out of its range, so None means that the option isn't given.
-            runs: runs_in(found),
-        }),
-        None => None,
-    }
-}
-
-/// The value of `--stores`; None if it isn't a number from 1 to 16.
+/// Returns the value of `--stores`; None if it isn't a number from 1 to 16.
 fn stores_in(found: &ArgMatches<'_>) -> Option<u64>
-    ensures some { IfSome result (λ stores. IsSomeAnd (one_text (found_of found.now) (codes "stores"))
+    ensures some { IfSome result (λ stores. IsSomeAnd (one_of (codes "stores") (rows_of (found_of found.now)))
         (IsStoresText stores)) }
-    ensures none { result ≡ None → (stores : ℕ) → IsSomeAnd (one_text (found_of found.now) (codes "stores"))
+    ensures none { result ≡ None → (stores : ℕ) → IsSomeAnd (one_of (codes "stores") (rows_of (found_of found.now)))
         (IsStoresText stores) → ⊥ }
 {
-    match found.get_one::<u64>("stores") {
-        // The option's parser takes no other number. That isn't known here.
-        Some(stores) if 1 <= stores && stores <= 16 => Some(stores),
-        _ => None,
-    }
+    number_in(found, "stores", 1, 16)
 }
 
-/// The job that the options of `coordinate` ask for; None if the number of stores isn't from 1 to 16, or the capacity
-/// isn't from 1 to 1024.
-fn coordinate_in(found: &ArgMatches<'_>) -> Option<Job>
-    ensures some { IfSome result
-        (λ job. IsCoordinateOf (one_text (found_of found.now) (codes "stores"))
-        (one_text (found_of found.now) (codes "capacity"))
-        (one_text (found_of found.now) (codes "fixed")) job) }
-    ensures none { result ≡ None
-        → (job : Job)
-        → IsCoordinateOf (one_text (found_of found.now) (codes "stores"))
-        (one_text (found_of found.now) (codes "capacity"))
-        (one_text (found_of found.now) (codes "fixed")) job
-        → ⊥ }
-{
-    match (stores_in(found), capacity_in(found)) {
-        (Some(stores), Some(capacity)) => Some(Job::Coordinate {
-            stores,
-            capacity,
-            fixed: flag_in(found, "fixed"),
-        }),
-        _ => None,
-    }
-}
-
-/// The job that the options of `stops` ask for; None if the number of stores isn't from 1 to 16, or the capacity isn't
-/// from 1 to 1024.
-fn stops_in(found: &ArgMatches<'_>) -> Option<Job>
-    ensures some { IfSome result
-        (IsStopsOf (one_text (found_of found.now) (codes "stores"))
-        (one_text (found_of found.now) (codes "capacity"))) }
-    ensures none { result ≡ None
-        → (job : Job)
-        → IsStopsOf (one_text (found_of found.now) (codes "stores"))
-        (one_text (found_of found.now) (codes "capacity")) job
-        → ⊥ }
-{
-    match (stores_in(found), capacity_in(found)) {
-        (Some(stores), Some(capacity)) => Some(Job::Stops { stores, capacity }),
-        _ => None,
-    }
-}
-
-/// The job that the options of `judge` ask for; None if the limit isn't from 1 to 1,000,000.
-fn judge_in(found: &ArgMatches<'_>) -> Option<Job>
-    ensures some { IfSome result
-        (IsJudgeOf (one_text (found_of found.now) (codes "limit")) (one_text (found_of found.now) (codes "explain"))
-        (one_text (found_of found.now) (codes "json")) (one_text (found_of found.now) (codes "strict-calls"))
-        (one_text (found_of found.now) (codes "shrink"))) }
-    ensures none { result ≡ None → (limit : ℕ) → IsSomeAnd (one_text (found_of found.now) (codes "limit"))
+/// Returns the value of `--limit`; None if it isn't a number from 1 to 1,000,000.
+fn limit_in(found: &ArgMatches<'_>) -> Option<u64>
+    ensures some { IfSome result (λ limit. IsSomeAnd (one_of (codes "limit") (rows_of (found_of found.now)))
+        (IsLimitText limit)) }
+    ensures none { result ≡ None → (limit : ℕ) → IsSomeAnd (one_of (codes "limit") (rows_of (found_of found.now)))
         (IsLimitText limit) → ⊥ }
 {
-    match limit_in(found, "limit") {
-        Some(limit) => Some(Job::Judge {
-            limit,
-            explain: flag_in(found, "explain"),
-            json: flag_in(found, "json"),
-            strict_calls: flag_in(found, "strict-calls"),
-            shrink: flag_in(found, "shrink"),
-        }),
-        None => None,
-    }
+    number_in(found, "limit", 1, 1_000_000)
 }
 
-/// The job that the options of `explore` ask for; None if the limit isn't from 1 to 1,000,000.
-fn explore_in(found: &ArgMatches<'_>) -> Option<Job>
-    ensures some { IfSome result (λ job. IsExploreOf (one_text (found_of found.now) (codes "limit")) job) }
-    ensures none { result ≡ None → (job : Job) → IsExploreOf (one_text (found_of found.now) (codes "limit")) job → ⊥ }
+/// Returns the value of `--runs`; None without a number from 1 to 1,000,000.
+fn runs_in(found: &ArgMatches<'_>) -> Option<u64>
+    ensures { IsRunsOf (one_of (codes "runs") (rows_of (found_of found.now))) result }
 {
-    match limit_in(found, "limit") {
-        Some(limit) => Some(Job::Explore { limit }),
-        None => None,
-    }
+    // The option's parser takes no number out of its range, so None means that the option isn't given.
+    number_in(found, "runs", 1, 1_000_000)
 }
 
-/// The job that the options of `audit` ask for.
+/// Returns the race that the options of `race` ask for; None if the capacity isn't in its range.
+fn race_in(found: &ArgMatches<'_>) -> Option<Job>
+    ensures some { IfSome result (λ job. IsJob job (codes "race", rows_of (found_of found.now))) }
+    ensures none { result ≡ None → (job : Job) → IsJob job (codes "race", rows_of (found_of found.now)) → ⊥ }
+    ensures done { IfSome result CanBeDone }
+{
+    Some(Job::Race {
+        capacity: capacity_in(found)?,
+        schedule: schedule_in(found),
+        renews: flag_in(found, "renew"),
+        runs: runs_in(found),
+    })
+}
+
+/// Returns the job that the options of `coordinate` ask for; None if a number isn't in its range.
+fn coordinate_in(found: &ArgMatches<'_>) -> Option<Job>
+    ensures some { IfSome result (λ job. IsJob job (codes "coordinate", rows_of (found_of found.now))) }
+    ensures none { result ≡ None → (job : Job) → IsJob job (codes "coordinate", rows_of (found_of found.now)) → ⊥ }
+    ensures done { IfSome result CanBeDone }
+{
+    Some(Job::Coordinate {
+        stores: stores_in(found)?,
+        capacity: capacity_in(found)?,
+        fixed: flag_in(found, "fixed"),
+    })
+}
+
+/// Returns the job that the options of `stops` ask for; None if a number isn't in its range.
+fn stops_in(found: &ArgMatches<'_>) -> Option<Job>
+    ensures some { IfSome result (λ job. IsJob job (codes "stops", rows_of (found_of found.now))) }
+    ensures none { result ≡ None → (job : Job) → IsJob job (codes "stops", rows_of (found_of found.now)) → ⊥ }
+    ensures done { IfSome result CanBeDone }
+{
+    let (stores, capacity) = (stores_in(found)?, capacity_in(found)?);
+    Some(Job::Stops { stores, capacity })
+}
+
+/// Returns the job that the options of `judge` ask for; None if the limit isn't in its range.
+fn judge_in(found: &ArgMatches<'_>) -> Option<Job>
+    ensures some { IfSome result (λ job. IsJob job (codes "judge", rows_of (found_of found.now))) }
+    ensures none { result ≡ None → (job : Job) → IsJob job (codes "judge", rows_of (found_of found.now)) → ⊥ }
+    ensures done { IfSome result CanBeDone }
+{
+    Some(Job::Judge {
+        limit: limit_in(found)?,
+        explain: flag_in(found, "explain"),
+        json: flag_in(found, "json"),
+        strict_calls: flag_in(found, "strict-calls"),
+        shrink: flag_in(found, "shrink"),
+    })
+}
+
+/// Returns the job that the options of `explore` ask for; None if the limit isn't in its range.
+fn explore_in(found: &ArgMatches<'_>) -> Option<Job>
+    ensures some { IfSome result (λ job. IsJob job (codes "explore", rows_of (found_of found.now))) }
+    ensures none { result ≡ None → (job : Job) → IsJob job (codes "explore", rows_of (found_of found.now)) → ⊥ }
+    ensures done { IfSome result CanBeDone }
+{
+    let limit = limit_in(found)?;
+    Some(Job::Explore { limit })
+}
+
+/// Returns the job that the options of `audit` ask for.
 fn audit_in(found: &ArgMatches<'_>) -> Job
-    ensures { IsAuditOf (one_text (found_of found.now) (codes "json")) result }
+    ensures job { IsJob result (codes "audit", rows_of (found_of found.now)) }
+    ensures done { CanBeDone result }
 {
     Job::Audit {
         json: flag_in(found, "json"),
     }
 }
 
-/// The job of the subcommand that was found; None if there is no subcommand or no such job, or if a capacity, a number
-/// of stores or a limit of it isn't in its range.
-fn job_in(matches: &ArgMatches<'_>) -> Option<Job>
-    ensures some { IfSome result (λ job. IsSomeAnd (subcommand_rows_of matches.now) (IsJob job)) }
-    ensures none { result ≡ None → (job : Job) → IsSomeAnd (subcommand_rows_of matches.now) (IsJob job) → ⊥ }
+/// Returns the job of the subcommand of this name, by what was found for its options; None if there is no such job, or
+/// if a capacity, a number of stores or a limit isn't in its range.
+///
+/// Takes no memory. Doesn't wait.
+pub fn job_in(name: &str, found: &ArgMatches<'_>) -> Option<Job>
+    ensures some { IfSome result (λ job. IsJob job (name.now, rows_of (found_of found.now))) }
+    ensures none { result ≡ None → (job : Job) → IsJob job (name.now, rows_of (found_of found.now)) → ⊥ }
+    ensures done { IfSome result CanBeDone }
 {
-    let Some((name, found)) = matches.subcommand() else {
-        return None;
-    };
     if name == "run" {
         Some(Job::Run)
     } else if name == "race" {
@@ -295,43 +229,4 @@ fn job_in(matches: &ArgMatches<'_>) -> Option<Job>
     } else {
         None
     }
-}
-
-/// Returns the job that the words name, as this command reads them. Errors: those of `read_command`.
-fn job_by<'a, S: AsStr>(command: &mut Command<'a>, words: &'a [S]) -> Result<Job, Error>
-    requires { app_of command.old ≡ script_app }
-    ensures job { IfOk result (Names (map S.text words.entry.now)) }
-    ensures capacity { IfOk result CanBeDone }
-    ensures fault { ReadsCommand (map S.text words.entry.now) result }
-{
-    let matches = command.try_get_matches_from_mut(words)?;
-    match job_in(&matches) {
-        Some(job) => Ok(job),
-        // The command requires one of its subcommands, and their options' parsers test the ranges. That isn't known
-        // here.
-        None => Err(command.error(ErrorKind::InvalidSubcommand, "no such job")?),
-    }
-}
-
-/// Returns the job that the words of a command line name. The first word is the program's own name.
-///
-/// A capacity is in `[1, 1024]`, by default 1024; a number of stores in `[1, 16]`, by default 3; a limit in
-/// `[1, 1_000_000]`, by default 100,000; a number of runs in `[1, 1_000_000]`. The schedule of a race with a
-/// seed is `Shuffled`.
-/// Errors: `clap`'s own, if the words name no job, or ask for help or the version; one of its kinds is out of
-/// memory.
-/// Takes memory. Doesn't wait.
-/// Own rule: docs/COMMANDS.md#options-of-every-job.
-pub fn read_command<'a, S: AsStr>(alloc: Global, words: &'a [S]) -> Result<Job, Error>
-    // Proved (scripts, command-line): The job is the one that `clap`'s matches of the words name. If they
-    //   name none, an error is returned.
-    ensures job { IfOk result (Names (map S.text words.entry.now)) }
-    // Proved (scripts, command-ranges): A capacity is from 1 to 1024, a number of stores from 1 to 16, and a
-    //   limit or a number of runs from 1 to 1,000,000.
-    ensures capacity { IfOk result CanBeDone }
-    // Proved (scripts, command-line)
-    ensures fault { ReadsCommand (map S.text words.entry.now) result }
-{
-    let mut command = script_command(alloc)?;
-    job_by(&mut command, words)
 }

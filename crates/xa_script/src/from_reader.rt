@@ -1,5 +1,5 @@
 //! Does a job from a reader to a writer, with its lines looked at as they are read.
-ghost use Rattle.std.specs.Prelude.{◌≡◌};
+ghost use Rattle.std.specs.Prelude.{◌≡◌, ◌||◌, false, Some};
 ghost use Rattle.std.specs.Io.Buffered.{writer_contents};
 ghost use Rattle.xa_script.specs.CommandLine.{CanBeDone, ReadsInput};
 ghost use Rattle.xa_script.specs.Jobs.{HasDone, IsLookedAt};
@@ -133,6 +133,19 @@ pub fn looked_at(
     Ok(status)
 }
 
+/// Returns whether a line was faulty: false if lines weren't looked at, and None if memory was refused for looking.
+fn faults_seen<I: Read + Drop, R: Eprint + Alloc<A = Global>>(
+    watch: &Watch<'_, I, R>,
+    manner: &Manner<'_>,
+) -> Option<bool>
+    ensures { manner.now.verbose || manner.now.strict ≡ false → result ≡ Some false }
+{
+    if !manner.verbose && !manner.strict {
+        return Some(false);
+    }
+    watch.has_faults().ok()
+}
+
 /// Does a job from a reader to a writer, with its lines looked at as they are read, and returns the exit status.
 fn carry_out_to<
     I: Read + Drop,
@@ -150,15 +163,16 @@ fn carry_out_to<
     requires done { CanBeDone job }
     requires input { ReadsInput job }
     // Proved (scripts, jobs-as-asked): `run`, `race`, `judge`, `explore` and `stops` write what the job and `--json`
-    //   ask for, of all that the input holds, and end with the status for that. No other option changes a byte of it;
-    //   `--text` writes its literals as texts afterwards. `--strict` alone changes a status.
-    ensures { IsLookedAt manner.now.strict (HasDone W.contents job manner.now.json base.now allowances.now
+    //   ask for, of all that the input holds. They return the status for that, or a write fault in its place, which is
+    //   returned after a flush that failed. No other option changes a byte of it; `--text` writes its literals as texts
+    //   afterwards. `--strict` alone changes a status. Only with it or `--verbose` may memory be refused afterwards.
+    ensures { IsLookedAt manner.now.strict (manner.now.verbose || manner.now.strict) (HasDone W.contents job manner.now.json base.now allowances.now
         (I.remaining input) (writer_contents W.contents output.old)) output.new result }
 {
     let (kind, most) = lines_of(job);
     let mut watch = Watch::new(rt, input, kind, most, manner.verbose, manner.strict);
     let done = carry_out_job(rt, &mut watch, output, job, manner, allowances, base);
-    looked_at(manner.strict, watch.has_faults().ok(), done)
+    looked_at(manner.strict, faults_seen(&watch, manner), done)
 }
 
 /// Does a job that isn't to audit, from a reader to a writer, and returns the exit status.

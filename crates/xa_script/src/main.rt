@@ -6,8 +6,8 @@
 //! Functions that use the process or its streams promise nothing of these, since no contract can name them. Tests
 //! of the built program show what they do. Down from `carry_out_to` (`src/from_reader.rt`), which does a job from a
 //! reader to a writer, those that make the job's output or its status have contracts. `src/carrying_out.rt` opens what
-//! a job reads. Read `src/from_reader.rt` next, then `src/jobs.rt`, `src/command.rt`, `src/subcommands.rt` and
-//! `src/help.rt`.
+//! a job reads. Read `src/from_reader.rt` next, then `src/jobs.rt`, `src/command_line.rt`, `src/command.rt`,
+//! `src/subcommands.rt` and `src/help.rt`.
 #![tactic(auto)]
 
 ghost use Rattle.std.specs.Prelude.{◌≡◌};
@@ -18,10 +18,12 @@ mod allowing;
 mod auditing;
 mod carrying_out;
 mod command;
+mod command_line;
 mod exploring;
 mod files;
 mod following;
 mod foreign;
+mod found;
 mod from_reader;
 mod help;
 mod hint;
@@ -60,11 +62,12 @@ mod watch;
 use carrying_out::carry_out;
 use clap::Error;
 use clap::error::ErrorKind;
-pub use command::{Job, read_command};
-pub use histories::{Histories, read_histories};
+pub use command::Job;
+pub use command_line::{CommandLine, read_line};
+pub use histories::Histories;
 pub use laws::texts_are_read_back;
-pub use manner::{Manner, read_manner};
-pub use records::{Records, read_records};
+pub use manner::Manner;
+pub use records::Records;
 pub use schedule::Schedule;
 use std::alloc::Global;
 use std::env::Env;
@@ -104,31 +107,17 @@ fn status<
         Ok(words) => words,
         Err(error) => return refuse_words(rt, &error),
     };
-    let words = words.as_slice();
-    // Each of these four reads the whole command line. If several fail, the first of them says why.
-    match (
-        read_command(rt.alloc(), words),
-        read_manner(rt.alloc(), words),
-        read_histories(rt.alloc(), words),
-        read_records(rt.alloc(), words),
-    ) {
-        (Ok(job), Ok(manner), Ok(histories), Ok(records)) => ended(
-            rt,
-            &manner,
-            carry_out(rt, job, &manner, &histories, &records),
-        ),
-        (Err(error), _, _, _) => refuse(rt, &error),
-        (_, Err(error), _, _) => refuse(rt, &error),
-        (_, _, Err(error), _) => refuse(rt, &error),
-        (_, _, _, Err(error)) => refuse(rt, &error),
+    match read_line(rt.alloc(), words.as_slice()) {
+        Ok(line) => ended(rt, &line.manner, carry_out(rt, &line)),
+        Err(error) => refuse(rt, &error),
     }
 }
 
 /// Reports the fault of a job, if it had one, and with `--verbose` what to do if its history is full. Returns the exit
 /// status.
 fn ended<R: Eprint>(rt: &R, manner: &Manner<'_>, done: Result<u8, ScriptFault>) -> u8
-    // Proved (scripts, status-of-a-job): The program's exit status is the job's own, or the one after its fault,
-    //   whatever the options are.
+    // Proved (scripts, status-of-a-job): The exit status that is made of how a job ended is the job's own, or the one
+    //   after its fault, whatever the options are.
     ensures { result ≡ status_of_job done }
 {
     match done {

@@ -1,14 +1,9 @@
 //! How a job is done.
-ghost use Rattle.std.specs.Prelude.{◌≡◌, IfOk, map, codes};
-ghost use Rattle.clap.specs.Words.{app_of, found_of, first_value, one_text};
-ghost use Rattle.xa_script.specs.CommandLine.{script_app, IsFlagOf};
-ghost use Rattle.xa_script.specs.Manner.{IsManner, HasManner};
+ghost use Rattle.clap.specs.Words.{found_of, rows_of};
+ghost use Rattle.xa_script.specs.Manner.{IsManner};
 
-use crate::subcommands::script_command;
-use clap::error::ErrorKind;
-use clap::{ArgMatches, Command, Error};
-use std::alloc::Global;
-use std::convert::AsStr;
+use crate::found::{flag_in, text_in};
+use clap::ArgMatches;
 
 /// How a job is done: the options of every job that reads one input, `--json`, and four of `judge`. `audit` has
 /// `--verbose`, `--text`, `--json` and `--quiet` of these.
@@ -34,27 +29,16 @@ pub struct Manner<'a> {
     pub follow: bool,
 }
 
-/// Returns whether the option of this name, which has no value, is given.
-pub fn flag_in(found: &ArgMatches<'_>, name: &str) -> bool
-    ensures { IsFlagOf (one_text (found_of found.now) name.now) result }
-{
-    // A job that has no such option has no value of it.
-    found.get_one::<bool>(name).unwrap_or(false)
-}
-
-/// The manner that the options which were found give.
-fn manner_in<'a>(found: &ArgMatches<'a>) -> Manner<'a>
-    ensures { IsManner (first_value (found_of found.now) (codes "file"))
-        (first_value (found_of found.now) (codes "allow"))
-        (first_value (found_of found.now) (codes "from"))
-        (one_text (found_of found.now) (codes "verbose")) (one_text (found_of found.now) (codes "strict"))
-        (one_text (found_of found.now) (codes "text")) (one_text (found_of found.now) (codes "quiet"))
-        (one_text (found_of found.now) (codes "json")) (one_text (found_of found.now) (codes "follow")) result }
+/// Returns the manner that the options which were found give.
+///
+/// Takes no memory. Doesn't wait.
+pub fn manner_in<'a>(found: &ArgMatches<'a>) -> Manner<'a>
+    ensures { IsManner (rows_of (found_of found.now)) result }
 {
     Manner {
-        file: found.get_str("file"),
-        allow: found.get_str("allow"),
-        from: found.get_str("from"),
+        file: text_in(found, "file"),
+        allow: text_in(found, "allow"),
+        from: text_in(found, "from"),
         verbose: flag_in(found, "verbose"),
         strict: flag_in(found, "strict"),
         text: flag_in(found, "text"),
@@ -62,30 +46,4 @@ fn manner_in<'a>(found: &ArgMatches<'a>) -> Manner<'a>
         json: flag_in(found, "json"),
         follow: flag_in(found, "follow"),
     }
-}
-
-/// Returns the manner that the words name, as this command reads them. Errors: those of `read_command`.
-fn manner_by<'a, S: AsStr>(command: &mut Command<'a>, words: &'a [S]) -> Result<Manner<'a>, Error>
-    requires { app_of command.old ≡ script_app }
-    ensures { IfOk result (HasManner (map S.text words.entry.now)) }
-{
-    let matches = command.try_get_matches_from_mut(words)?;
-    match matches.subcommand() {
-        Some((_, found)) => Ok(manner_in(found)),
-        // The command requires a subcommand. That isn't known here.
-        None => Err(command.error(ErrorKind::InvalidSubcommand, "no such job")?),
-    }
-}
-
-/// Returns how the words of a command line want its job done. The first word is the program's own name.
-///
-/// Errors: as `read_command`. Takes memory. Doesn't wait.
-/// Own rule: docs/COMMANDS.md#options-of-every-job.
-pub fn read_manner<'a, S: AsStr>(alloc: Global, words: &'a [S]) -> Result<Manner<'a>, Error>
-    // Proved (scripts, options-of-jobs): The files and flags of each job are those that `clap`'s matches of
-    //   the words name.
-    ensures { IfOk result (HasManner (map S.text words.entry.now)) }
-{
-    let mut command = script_command(alloc)?;
-    manner_by(&mut command, words)
 }
