@@ -1,11 +1,14 @@
 //! Loads a server that speaks MySQL's protocol, and counts what it answers; or is an echo, which answers each packet
 //! with an OK.
 //!
-//!     load cycles|puts|gets|selects CONNECTIONS SECONDS PORT
+//!     load cycles|puts|gets CONNECTIONS SECONDS PORT [sql]
+//!     load moves|selects|hot CONNECTIONS SECONDS PORT
 //!     load echo PORT
 //!
-//! A cycle is five statements: XA START, a write, XA END, XA PREPARE, XA COMMIT. `selects` and a trailing word `sql`
-//! use a table db.t of a SQL database. Prints how many there were in a second.
+//! A cycle is five statements: XA START, a write, XA END, XA PREPARE, XA COMMIT. With the word `sql` it writes and reads
+//! a table db.t. The second line's are statements of SQL over db.account(id, balance): cycles whose write is an UPDATE
+//! of the connection's own balance, SELECTs of it, and transactions that update one balance, which all connections want.
+//! Prints how many there were in a second; of `hot` only those that committed.
 use std::io::{Read, Write};
 use std::net::{TcpListener, TcpStream};
 use std::sync::atomic::{AtomicBool, AtomicU64, Ordering};
@@ -84,14 +87,24 @@ fn must(client: &mut Client, text: &str) {
     assert!(client.ask(text), "{} is refused", text);
 }
 
-fn turn(client: &mut Client, what: &str, is_sql: bool, number: usize, turn: u64) {
-    let write = if is_sql {
+/// A transaction that updates the balance which all want; whether it was committed.
+fn hot(client: &mut Client) -> bool {
+    must(client, "START TRANSACTION");
+    let is_done = client.ask("UPDATE db.account SET balance = balance + 1 WHERE id = 'row 0'");
+    client.ask(if is_done { "COMMIT" } else { "ROLLBACK" }) && is_done
+}
+
+/// Does what is asked once; whether it counts.
+fn turn(client: &mut Client, what: &str, is_sql: bool, number: usize, turn: u64) -> bool {
+    let write = if what == "moves" {
+        format!("UPDATE db.account SET balance = balance + 1 WHERE id = 'row {}'", number)
+    } else if is_sql {
         format!("REPLACE INTO db.t VALUES ('row {}','{}')", number, turn)
     } else {
         format!("PUT 'row {}','{}'", number, turn)
     };
     match what {
-        "cycles" => {
+        "cycles" | "moves" => {
             let xid = format!("'{} {}'", number, turn);
             for text in [
                 &format!("XA START {}", xid),
@@ -104,9 +117,12 @@ fn turn(client: &mut Client, what: &str, is_sql: bool, number: usize, turn: u64)
             }
         }
         "puts" => must(client, &write),
+        "selects" => must(client, &format!("SELECT balance FROM db.account WHERE id = 'row {}'", number)),
+        "hot" => return hot(client),
         "gets" if is_sql => must(client, &format!("SELECT v FROM db.t WHERE k='row {}'", number)),
         _ => must(client, &format!("GET 'row {}'", number)),
     }
+    true
 }
 
 fn echo(port: u16) {
@@ -129,13 +145,23 @@ fn answer(mut stream: TcpStream) -> std::io::Result<()> {
     Ok(())
 }
 
+const USAGE: &str = "usage: load cycles|puts|gets CONNECTIONS SECONDS PORT [sql]\n       \
+                     load moves|selects|hot CONNECTIONS SECONDS PORT\n       load echo PORT";
+
+/// A number among the words. If there is none, it prints the usage, and ends with status 2.
+fn number<T: std::str::FromStr>(words: &[String], at: usize) -> T {
+    words.get(at).and_then(|it| it.parse().ok()).unwrap_or_else(|| {
+        eprintln!("{}", USAGE);
+        std::process::exit(2)
+    })
+}
+
 fn main() {
     let words: Vec<String> = std::env::args().skip(1).collect();
-    if words[0] == "echo" {
-        return echo(words[1].parse().unwrap());
+    if words.first().map_or(false, |it| it == "echo") {
+        return echo(number(&words, 1));
     }
-    let (connections, seconds, port): (usize, u64, u16) =
-        (words[1].parse().unwrap(), words[2].parse().unwrap(), words[3].parse().unwrap());
+    let (connections, seconds, port): (usize, u64, u16) = (number(&words, 1), number(&words, 2), number(&words, 3));
     let is_sql = words.get(4).map_or(false, |it| it == "sql");
     let (done, is_over, start) =
         (Arc::new(AtomicU64::new(0)), Arc::new(AtomicBool::new(false)), Arc::new(Barrier::new(connections + 1)));
@@ -147,10 +173,10 @@ fn main() {
             std::thread::spawn(move || {
                 let mut client = Client::connect(port);
                 start.wait();
-                let mut count = 0;
+                let (mut tried, mut count) = (0, 0);
                 while !is_over.load(Ordering::Relaxed) {
-                    turn(&mut client, &what, is_sql, number, (u64::from(run) << 32) + count);
-                    count += 1;
+                    count += u64::from(turn(&mut client, &what, is_sql, number, (u64::from(run) << 32) + tried));
+                    tried += 1;
                 }
                 done.fetch_add(count, Ordering::Relaxed);
             })

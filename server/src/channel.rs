@@ -1,10 +1,13 @@
 //! A client's connection: whole packets in, packets out. What comes in is bounded, and half a packet is waited for only
 //! so long.
+use crate::options::{number, seconds};
 use crate::packets::{length_in, Malformed, Out, HEADER};
 use crate::system;
 use crate::tls::{Keys, Tls};
+use clap::Args;
 use std::io::{self, ErrorKind, Read, Write};
 use std::net::{Shutdown, TcpStream};
+use std::os::unix::io::{AsRawFd, RawFd};
 use std::os::unix::net::UnixStream;
 use std::sync::Arc;
 use std::time::{Duration, Instant};
@@ -44,6 +47,15 @@ pub enum Stream {
     Unix(UnixStream),
 }
 
+impl AsRawFd for Stream {
+    fn as_raw_fd(&self) -> RawFd {
+        match self {
+            Stream::Tcp(it) => it.as_raw_fd(),
+            Stream::Unix(it) => it.as_raw_fd(),
+        }
+    }
+}
+
 impl Stream {
     /// Without delay, and with a limit to how long is waited for a client that takes no answers.
     pub fn prepare(&self, patience: Duration) -> io::Result<()> {
@@ -78,7 +90,6 @@ impl Stream {
         }
     }
 
-    #[cfg_attr(not(feature = "tls"), allow(dead_code))]
     pub fn write(&self, bytes: &[u8]) -> io::Result<usize> {
         match self {
             Stream::Tcp(it) => (&*it).write(bytes),
@@ -95,12 +106,17 @@ impl Stream {
 }
 
 /// How long is waited, and how long a packet may be.
-#[derive(Clone, Copy, Debug)]
+#[derive(Clone, Copy, Debug, Args)]
 pub struct Limits {
-    /// For a login, for the rest of a packet, and for a client to take its answers.
+    /// How long a login, the rest of a packet, and a client that takes no answers are waited for
+    #[arg(long, value_name = "SECONDS", default_value = "10", value_parser = seconds(0.1))]
     pub patience: Duration,
-    /// For the next command; zero is for ever.
+    /// How long the next command is waited for; 0: for ever
+    #[arg(long, value_name = "SECONDS", default_value = "0", value_parser = seconds(0.0))]
     pub idle: Duration,
+    /// The longest packet that is read, 1024 to 16777214
+    #[arg(long = "max-packet", value_name = "BYTES", default_value = "65536")]
+    #[arg(value_parser = number::<usize>(1_024, 16_777_214))]
     pub longest: usize,
 }
 
@@ -243,15 +259,11 @@ impl Channel {
                     self.held.extend(&self.piece[..length]);
                     return Ok(Came::Bytes);
                 }
-                Err(fault)
-                    if matches!(fault.kind(), ErrorKind::WouldBlock | ErrorKind::TimedOut | ErrorKind::Interrupted) =>
-                {
-                    ()
-                }
-                Err(fault) if fault.kind() == ErrorKind::InvalidData => {
-                    return Err(End::Wrong(format!("no TLS: {}", fault)))
-                }
-                Err(_) => return Err(self.left()),
+                Err(fault) => match fault.kind() {
+                    ErrorKind::WouldBlock | ErrorKind::TimedOut | ErrorKind::Interrupted => (),
+                    ErrorKind::InvalidData => return Err(End::Wrong(format!("no TLS: {}", fault))),
+                    _ => return Err(self.left()),
+                },
             }
         }
     }

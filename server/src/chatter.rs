@@ -1,12 +1,14 @@
-//! What clients say beside statements of the store: of themselves, of their settings, and of transactions that aren't
-//! XA.
+//! What clients say beside statements of the store and of SQL: of their settings, of other connections, and of
+//! transactions that aren't XA.
 //!
-//! Settings are answered OK without effect, except autocommit and READ ONLY: whatever character set is named the bytes
-//! stay as they are, and whatever level is asked for is had, since every transaction is as isolated as SERIALIZABLE
-//! asks. A name that isn't known is no statement, so that a client learns of it.
-use crate::answers::{Table, MOST};
-use crate::packets::{Column, Value, VERSION};
+//! Settings are kept and shown, without effect, except autocommit and READ ONLY: whatever character set is named the
+//! bytes stay as they are, and whatever level is asked for is had, since every transaction is as isolated as
+//! SERIALIZABLE asks. A name that isn't known is refused, so that a client learns of it.
+use crate::answers::Refusal;
+use crate::sql::{refused, At, Given, Number, Reader, Term, Value};
 use crate::tokens::{quoted_at, words, Placed, Word};
+use crate::variables::Variables;
+use std::sync::Arc;
 
 /// A text that is read.
 #[derive(Clone, Debug, PartialEq, Eq)]
@@ -16,23 +18,40 @@ pub enum Other {
     Commit,
     RollBack,
     Set(Settings),
-    Table(Table),
     /// `SHOW NIGBARU STATUS`.
     Status,
     /// A database is named, of which there is none; its name is all that is kept.
     Use(Vec<u8>),
+    /// A connection is to end, or its statement.
+    Kill {
+        connection: u64,
+        is_query: bool,
+    },
+    ShutDown,
     /// Nothing to do, and nothing to show.
     Nothing,
+    Refused(Refusal),
 }
 
-/// The settings that have an effect, with their new values.
-#[derive(Clone, Copy, Debug, Default, PartialEq, Eq)]
+/// A setting that is kept.
+#[derive(Clone, Debug, PartialEq, Eq)]
+pub enum Change {
+    /// Without a value it is what it is usually.
+    Variable(String, Option<Value>),
+    User(String, Value),
+    /// A character set, and maybe a collation.
+    Names(String, Option<String>),
+}
+
+/// The settings that have an effect, with their new values, and all others.
+#[derive(Clone, Debug, Default, PartialEq, Eq)]
 pub struct Settings {
     pub autocommit: Option<bool>,
     /// Whether transactions read alone from now on.
     pub usual: Option<bool>,
     /// Whether the next transaction does.
     pub next: Option<bool>,
+    pub changes: Vec<Change>,
 }
 
 /// What a text may ask for.
@@ -47,87 +66,76 @@ pub struct Facts {
     /// Whether TLS may be asked for, and the version and cipher that this connection has agreed on.
     pub has_tls: bool,
     pub agreed: Option<(String, String)>,
+    pub variables: Arc<Variables>,
 }
 
-/// Variables that may be asked for, and whether each is a number.
-const VARIABLES: [(&str, &str, bool); 46] = [
-    ("auto_increment_increment", "1", true),
-    ("character_set_client", "utf8mb4", false),
-    ("character_set_connection", "utf8mb4", false),
-    ("character_set_database", "utf8mb4", false),
-    ("character_set_results", "utf8mb4", false),
-    ("character_set_server", "utf8mb4", false),
-    ("character_set_system", "utf8mb3", false),
-    ("collation_connection", "utf8mb4_general_ci", false),
-    ("collation_database", "utf8mb4_general_ci", false),
-    ("collation_server", "utf8mb4_general_ci", false),
-    ("foreign_key_checks", "1", true),
-    ("have_ssl", "DISABLED", false),
-    ("hostname", "nigbaru", false),
-    ("init_connect", "", false),
-    ("innodb_lock_wait_timeout", "0", true),
-    ("interactive_timeout", "28800", true),
-    ("license", "", false),
-    ("lock_wait_timeout", "0", true),
-    ("lower_case_table_names", "0", true),
-    ("max_execution_time", "0", true),
-    ("net_buffer_length", "16384", true),
-    ("net_read_timeout", "30", true),
-    ("net_write_timeout", "60", true),
-    ("performance_schema", "0", true),
-    ("profiling", "0", true),
-    ("query_cache_size", "0", true),
-    ("query_cache_type", "OFF", false),
-    ("session_track_gtids", "OFF", false),
-    ("session_track_schema", "0", true),
-    ("session_track_state_change", "0", true),
-    ("session_track_system_variables", "", false),
-    ("sql_auto_is_null", "0", true),
-    ("sql_mode", "STRICT_TRANS_TABLES", false),
-    ("sql_safe_updates", "0", true),
-    ("sql_select_limit", "-1", true),
-    ("system_time_zone", "UTC", false),
-    ("time_zone", "SYSTEM", false),
-    ("transaction_isolation", "SERIALIZABLE", false),
-    ("transaction_read_only", "0", true),
-    ("tx_isolation", "SERIALIZABLE", false),
-    ("tx_read_only", "0", true),
-    ("unique_checks", "1", true),
-    ("version", VERSION, false),
-    ("version_comment", "Nigbaru", false),
-    ("version_compile_os", "Linux", false),
-    ("wait_timeout", "28800", true),
-];
+impl Facts {
+    pub fn database(&self) -> Option<&str> {
+        self.database.as_deref().and_then(|it| std::str::from_utf8(it).ok())
+    }
+
+    /// The value of a variable of the server's; none where there is no such one.
+    pub fn setting(&self, name: &str) -> Option<Value> {
+        let number = |it: usize| Some(Value::Number(Number::whole(it as i128)));
+        match name.to_ascii_lowercase().as_str() {
+            "autocommit" => number(self.autocommit.into()),
+            "have_ssl" if self.has_tls => Some(Value::Text(b"YES".to_vec())),
+            "transaction_read_only" | "tx_read_only" => number(self.is_read_only.into()),
+            "max_allowed_packet" => number(self.longest),
+            name => self.variables.get(name),
+        }
+    }
+
+    /// The same as SHOW VARIABLES has it: a text, and of what is on or off this word.
+    pub fn shown(&self, name: &str) -> Option<Value> {
+        let switches = ["autocommit", "tx_read_only", "foreign_key_checks", "unique_checks", "sql_auto_is_null"];
+        Some(match self.setting(name)? {
+            Value::Number(number) if switches.contains(&name) => {
+                Value::Text(if number.digits == 0 { b"OFF".to_vec() } else { b"ON".to_vec() })
+            }
+            Value::Number(number) => Value::Text(number.text().into_bytes()),
+            value => value,
+        })
+    }
+}
 
 /// Words of a text, taken from the left.
 struct Words<'a> {
     text: &'a [u8],
     words: &'a [Placed],
+    facts: &'a Facts,
+    /// What is bound to the `?`; in a text that isn't prepared they are no terms.
+    given: Option<&'a [Given]>,
+    parameters: usize,
+    /// Why it is refused, although it can be read.
+    refusal: Option<Refusal>,
 }
 
 /// How long a text may be, so that its words take no more memory than a few megabytes.
 const LONGEST: usize = 65_536;
 
-/// What a text is; none if it is nothing that is known.
-pub fn read(text: &[u8], facts: &Facts) -> Option<Other> {
+/// What a text is, and how many `?` it has; none if it is nothing that is known.
+pub fn read(text: &[u8], facts: &Facts, given: Option<&[Given]>) -> Option<(Other, usize)> {
     if text.len() > LONGEST {
         return None;
     }
     let found = words(text);
-    let mut it = Words { text, words: &found };
+    let mut it = Words { text, words: &found, facts, given, parameters: 0, refusal: None };
     let other = match it.run()? {
         "set" => it.set()?,
-        "select" => Other::Table(it.select(facts)?),
-        "show" => it.show(facts)?,
+        "show" if it.sees("nigbaru") && it.sees("status") => Other::Status,
         "begin" => it.begin()?,
         "start" if it.sees("transaction") => it.start()?,
         "commit" => it.ending().map(|()| Other::Commit)?,
         "rollback" => it.ending().map(|()| Other::RollBack)?,
-        "do" if !it.words.is_empty() => it.rest(Other::Nothing),
+        "do" => it.terms()?,
+        "kill" => it.kill()?,
+        "shutdown" => Other::ShutDown,
         "use" if it.words.len() == 1 => Other::Use(it.written()?),
         _ => return None,
     };
-    Some(other).filter(|_| it.words.is_empty())
+    let (refusal, parameters) = (it.refusal.take().map(Other::Refused), it.parameters);
+    Some((refusal.unwrap_or(other), parameters)).filter(|_| it.words.is_empty())
 }
 
 impl<'a> Words<'a> {
@@ -173,9 +181,53 @@ impl<'a> Words<'a> {
         sees
     }
 
-    fn rest(&mut self, other: Other) -> Other {
-        self.words = &[];
-        other
+    // terms
+
+    fn term(&mut self) -> Option<Term> {
+        let mut it = Reader::new(self.text, self.words, self.given);
+        it.parameters = self.parameters;
+        let term = it.term().ok()?;
+        (self.words, self.parameters) = (it.words(), it.parameters);
+        Some(term)
+    }
+
+    /// The value of a term, or NULL and a refusal that is kept.
+    fn value(&mut self, term: &Term, part: &'static str) -> Value {
+        let at = At { facts: self.facts, database: self.facts.database(), tables: &[], rows: &[], part };
+        let none = |_: &Term| Err(refused(1111, "HY000", "Invalid use of group function"));
+        term.value(&at, &none).unwrap_or_else(|refusal| {
+            self.refusal.get_or_insert(refusal);
+            Value::Null
+        })
+    }
+
+    fn refuse(&mut self, refusal: Refusal) {
+        self.refusal.get_or_insert(refusal);
+    }
+
+    /// What stands behind DO.
+    fn terms(&mut self) -> Option<Other> {
+        loop {
+            let term = self.term()?;
+            self.value(&term, "DO");
+            if !self.sees_sign(b',') {
+                return Some(Other::Nothing);
+            }
+        }
+    }
+
+    fn kill(&mut self) -> Option<Other> {
+        let _ = self.sees("hard") || self.sees("soft");
+        let is_query = self.sees("query");
+        if !is_query {
+            self.sees("connection");
+        }
+        let term = self.term()?;
+        let connection = match self.value(&term, "KILL") {
+            Value::Number(number) => u64::try_from(number.digits).unwrap_or(0),
+            _ => 0,
+        };
+        Some(Other::Kill { connection, is_query })
     }
 
     // transactions
@@ -227,9 +279,13 @@ impl<'a> Words<'a> {
         let mut settings = Settings::default();
         loop {
             if self.is_names() {
-                self.names()?;
+                let change = self.names()?;
+                settings.changes.push(change);
             } else {
                 let is_session = self.sees("session") || self.sees("local");
+                if self.sees("global") {
+                    self.refuse_global();
+                }
                 if self.sees("transaction") {
                     return self.characteristics(is_session);
                 }
@@ -241,24 +297,28 @@ impl<'a> Words<'a> {
         }
     }
 
+    fn refuse_global(&mut self) {
+        let text = "This server doesn't take SET GLOBAL; it takes SET of the connection's own variables";
+        self.refuse(refused(1235, "42000", text));
+    }
+
     /// Whether NAMES, CHARSET, CHARACTER SET or CHAR SET come next; they are taken.
     fn is_names(&mut self) -> bool {
         self.sees("names") || self.sees("charset") || (self.sees("character") || self.sees("char")) && self.sees("set")
     }
 
     /// The name of a character set, and maybe of a collation, quoted or not.
-    fn names(&mut self) -> Option<()> {
+    fn names(&mut self) -> Option<Change> {
         self.sees_sign(b'=');
-        self.name()?;
-        if self.sees("collate") {
-            self.name()?;
-        }
-        Some(())
+        let charset = self.name()?;
+        let collation = if self.sees("collate") { Some(self.name()?) } else { None };
+        Some(Change::Names(charset, collation))
     }
 
-    fn name(&mut self) -> Option<()> {
+    fn name(&mut self) -> Option<String> {
         match self.next()? {
-            Word::Run(_) | Word::Quoted(_) => Some(()),
+            Word::Run(run) => Some(run.trim_matches('`').to_string()),
+            Word::Quoted(data) => Some(String::from_utf8_lossy(data).into_owned()),
             Word::Sign(_) => None,
         }
     }
@@ -268,13 +328,11 @@ impl<'a> Words<'a> {
         let mut settings = Settings::default();
         loop {
             if self.sees("isolation") && self.sees("level") {
-                let is_level = match self.run()? {
-                    "serializable" => true,
-                    "repeatable" => self.sees("read"),
-                    "read" => self.sees("committed") || self.sees("uncommitted"),
-                    _ => false,
-                };
-                Some(()).filter(|()| is_level)?;
+                let level = self.level()?;
+                if is_session {
+                    let value = Some(Value::Text(level.as_bytes().to_vec()));
+                    settings.changes.push(Change::Variable("tx_isolation".to_string(), value));
+                }
             } else if self.sees("read") {
                 let access = Some(self.access()?);
                 *(if is_session { &mut settings.usual } else { &mut settings.next }) = access;
@@ -287,232 +345,87 @@ impl<'a> Words<'a> {
         }
     }
 
+    fn level(&mut self) -> Option<&'static str> {
+        match self.run()? {
+            "serializable" => Some("SERIALIZABLE"),
+            "repeatable" if self.sees("read") => Some("REPEATABLE-READ"),
+            "read" if self.sees("committed") => Some("READ-COMMITTED"),
+            "read" if self.sees("uncommitted") => Some("READ-UNCOMMITTED"),
+            _ => None,
+        }
+    }
+
     /// `name = value`. What is `@@transaction_read_only` without SESSION is the next transaction's.
     fn assignment(&mut self, is_session: bool, settings: &mut Settings) -> Option<()> {
         let (mut is_users, mut is_next) = (false, false);
         if !is_session && self.sees_sign(b'@') {
             is_users = !self.sees_sign(b'@');
-            is_next = !self.sees("session") && !self.sees("local");
+            let is_global = !is_users && self.sees("global");
+            if is_global {
+                self.refuse_global();
+            }
+            is_next = !self.sees("session") && !self.sees("local") && !is_global;
             if !is_users && !is_next && !self.sees_sign(b'.') {
                 return None;
             }
         }
-        let name = self.run()?;
+        let name = self.name()?;
         self.sees_sign(b':');
         if !self.sees_sign(b'=') {
             return None;
         }
-        match name {
-            _ if is_users => self.expression(),
-            "autocommit" => self.switch(true).map(|it| settings.autocommit = Some(it)),
+        if is_users {
+            let term = self.term()?;
+            let value = self.value(&term, "SET");
+            settings.changes.push(Change::User(name, value));
+            return Some(());
+        }
+        let value = self.setting()?;
+        match name.as_str() {
+            "autocommit" => settings.autocommit = self.switch(&name, value, true),
             "transaction_read_only" | "tx_read_only" => {
-                let access = Some(self.switch(false)?);
+                let access = self.switch(&name, value, false);
                 *(if is_next { &mut settings.next } else { &mut settings.usual }) = access;
-                Some(())
             }
-            _ => self.expression().filter(|()| VARIABLES.iter().any(|(it, _, _)| *it == name)),
+            _ => settings.changes.push(Change::Variable(name, value)),
+        }
+        Some(())
+    }
+
+    /// What a variable is set to: a term, a word, or nothing for DEFAULT.
+    fn setting(&mut self) -> Option<Option<Value>> {
+        if self.sees("default") {
+            return Some(None);
+        }
+        if self.sees("on") {
+            return Some(Some(Value::Text(b"ON".to_vec())));
+        }
+        match self.term()? {
+            Term::Column(of) if of.table.is_none() => Some(Some(Value::Text(of.name.into_bytes()))),
+            term => Some(Some(self.value(&term, "SET"))),
         }
     }
 
     /// A value that is on or off; `usual` stands for DEFAULT.
-    fn switch(&mut self, usual: bool) -> Option<bool> {
-        match self.run()? {
-            "1" | "on" | "true" => Some(true),
-            "0" | "off" | "false" => Some(false),
-            "default" => Some(usual),
-            _ => None,
-        }
-    }
-
-    /// Passes over a value: all up to a comma that no bracket holds.
-    fn expression(&mut self) -> Option<()> {
-        let (mut depth, mut length) = (0usize, 0);
-        for it in self.words {
-            match it.word {
-                Word::Sign(b',') if depth == 0 => break,
-                Word::Sign(b'(') => depth += 1,
-                Word::Sign(b')') => depth = depth.checked_sub(1)?,
-                Word::Sign(b';') => return None,
-                _ => (),
-            }
-            length += 1;
-        }
-        self.words = &self.words[length..];
-        Some(()).filter(|()| length > 0 && depth == 0)
-    }
-
-    // questions
-
-    /// A row of constants and variables: `SELECT item [AS name], .. [FROM DUAL] [LIMIT n]`.
-    fn select(&mut self, facts: &Facts) -> Option<Table> {
-        let (mut columns, mut row) = (Vec::new(), Vec::new());
-        loop {
-            let begin = self.words.first()?.begin;
-            let before = self.words;
-            let (value, is_number) = self.item(facts)?;
-            let end = before[before.len() - self.words.len() - 1].end;
-            let name = match self.alias() {
-                Some(alias) => alias,
-                None => String::from_utf8_lossy(&self.text[begin..end]).into_owned(),
-            };
-            columns.push(if is_number { Column::number(&name) } else { Column::text(&name, MOST) });
-            row.push(value);
-            if !self.sees_sign(b',') {
-                break;
-            }
-        }
-        if self.sees("from") && !self.sees("dual") {
-            return None;
-        }
-        if self.sees("limit") {
-            self.integer()?;
-        }
-        Some(Table { columns, rows: vec![row] })
-    }
-
-    /// The name behind AS, which may be left out. Its letters are as they were written.
-    fn alias(&mut self) -> Option<String> {
-        let said = self.sees("as");
-        let first = self.words.first()?;
-        let name = match &first.word {
-            Word::Quoted(data) => String::from_utf8_lossy(data).into_owned(),
-            Word::Run(run) if said || !["from", "limit"].contains(&run.as_str()) => {
-                String::from_utf8_lossy(&self.text[first.begin..first.end]).trim_matches('`').to_string()
-            }
-            _ => return None,
+    fn switch(&mut self, name: &str, value: Option<Value>, usual: bool) -> Option<bool> {
+        let is = |text: &[u8], words: [&str; 2]| words.iter().any(|it| text.eq_ignore_ascii_case(it.as_bytes()));
+        let said = match value {
+            None => return Some(usual),
+            Some(Value::Text(text)) if is(&text, ["on", "true"]) => return Some(true),
+            Some(Value::Text(text)) if is(&text, ["off", "false"]) => return Some(false),
+            Some(Value::Number(number)) if number == Number::whole(1) => return Some(true),
+            Some(Value::Number(number)) if number == Number::whole(0) => return Some(false),
+            Some(Value::Text(text)) => String::from_utf8_lossy(&text).into_owned(),
+            Some(Value::Number(number)) => number.text(),
+            Some(Value::Null) => "NULL".to_string(),
         };
-        self.next();
-        Some(name)
-    }
-
-    fn integer(&mut self) -> Option<i64> {
-        let is_negative = self.sees_sign(b'-');
-        let number: i64 = self.run().filter(|run| run.bytes().all(|byte| byte.is_ascii_digit()))?.parse().ok()?;
-        Some(if is_negative { -number } else { number })
-    }
-
-    /// What is asked for, and whether it is a number.
-    fn item(&mut self, facts: &Facts) -> Option<(Value, bool)> {
-        if self.sees_sign(b'@') {
-            return self.variable(facts);
-        }
-        match &self.words.first()?.word {
-            Word::Quoted(data) => {
-                self.next();
-                Some((Value::Text(data.clone()), false))
-            }
-            Word::Run(run) if !run.starts_with(|it: char| it.is_ascii_digit()) => {
-                self.next();
-                let has_brackets = self.sees_sign(b'(');
-                if has_brackets && !self.sees_sign(b')') {
-                    return None;
-                }
-                function(run, has_brackets, facts)
-            }
-            _ => self.integer().map(|number| (Value::Number(number), true)),
-        }
-    }
-
-    /// `@@name`, or `@name`, which has no value.
-    fn variable(&mut self, facts: &Facts) -> Option<(Value, bool)> {
-        if !self.sees_sign(b'@') {
-            return self.run().map(|_| (Value::Null, false));
-        }
-        let mut name = self.run()?;
-        if ["session", "global", "local"].contains(&name) && self.sees_sign(b'.') {
-            name = self.run()?;
-        }
-        value_of(name, facts)
-    }
-
-    /// SHOW, for what clients look at first.
-    fn show(&mut self, facts: &Facts) -> Option<Other> {
-        if self.sees("nigbaru") && self.sees("status") {
-            return Some(Other::Status);
-        }
-        let _ = self.sees("session") || self.sees("global") || self.sees("full");
-        let names: &[&str] = match self.run()? {
-            "databases" | "schemas" => &["Database"],
-            "tables" => &["Tables"],
-            "warnings" | "errors" => &["Level", "Code", "Message"],
-            "engines" => &["Engine", "Support", "Comment"],
-            "collation" => &["Collation", "Charset", "Id", "Default"],
-            "status" => {
-                let agreed = |of: fn(&(String, String)) -> &String| {
-                    facts.agreed.as_ref().map_or(Value::from(""), |it| Value::from(of(it).as_str()))
-                };
-                return self.listed(&[("Ssl_cipher", agreed(|it| &it.1)), ("Ssl_version", agreed(|it| &it.0))]);
-            }
-            "variables" => return self.variables(facts),
-            _ => return None,
-        };
-        let columns = names.iter().map(|name| Column::text(name, MOST)).collect();
-        Some(self.rest(Other::Table(Table { columns, rows: Vec::new() })))
-    }
-
-    fn variables(&mut self, facts: &Facts) -> Option<Other> {
-        let names = VARIABLES.iter().map(|(name, _, _)| *name).chain(["autocommit", "max_allowed_packet"]);
-        let value = |name: &str| match value_of(name, facts) {
-            Some((Value::Number(number), _)) => Value::from(number.to_string().as_str()),
-            Some((value, _)) => value,
-            None => Value::Null,
-        };
-        self.listed(&names.map(|name| (name, value(name))).collect::<Vec<_>>())
-    }
-
-    /// Names and values, or those like a pattern. With WHERE all are shown that it names in quotes.
-    fn listed(&mut self, all: &[(&str, Value)]) -> Option<Other> {
-        let patterns: Vec<&[u8]> = self
-            .words
-            .iter()
-            .filter_map(|it| if let Word::Quoted(data) = &it.word { Some(&data[..]) } else { None })
-            .collect();
-        let is_shown = |name: &str| {
-            let name = name.to_ascii_lowercase();
-            patterns.is_empty()
-                || patterns.iter().any(|pattern| is_like(name.as_bytes(), &pattern.to_ascii_lowercase()))
-        };
-        let rows = all
-            .iter()
-            .filter(|(name, _)| is_shown(name))
-            .map(|(name, value)| vec![Value::from(*name), value.clone()])
-            .collect();
-        let columns = vec![Column::text("Variable_name", MOST), Column::text("Value", MOST)];
-        Some(self.rest(Other::Table(Table { columns, rows })))
-    }
-}
-
-fn function(name: &str, has_brackets: bool, facts: &Facts) -> Option<(Value, bool)> {
-    match (name, has_brackets) {
-        ("connection_id", true) => Some((Value::Number(facts.connection as i64), true)),
-        ("database" | "schema", true) => Some((facts.database.clone().map_or(Value::Null, Value::Text), false)),
-        ("user" | "current_user" | "session_user" | "system_user", true) | ("current_user", false) => {
-            Some((Value::from("nigbaru"), false))
-        }
-        ("version", true) => Some((Value::from(VERSION), false)),
-        ("last_insert_id", true) => Some((Value::Number(0), true)),
-        ("true", false) => Some((Value::Number(1), true)),
-        ("false", false) => Some((Value::Number(0), true)),
-        ("null", false) => Some((Value::Null, false)),
-        _ => None,
-    }
-}
-
-fn value_of(name: &str, facts: &Facts) -> Option<(Value, bool)> {
-    match name {
-        "autocommit" => Some((Value::Number(i64::from(facts.autocommit)), true)),
-        "have_ssl" if facts.has_tls => Some((Value::from("YES"), false)),
-        "transaction_read_only" | "tx_read_only" => Some((Value::Number(i64::from(facts.is_read_only)), true)),
-        "max_allowed_packet" => Some((Value::Number(facts.longest as i64), true)),
-        _ => {
-            let (_, value, is_number) = VARIABLES.iter().find(|(it, _, _)| *it == name)?;
-            Some((if *is_number { Value::Number(value.parse().ok()?) } else { Value::from(*value) }, *is_number))
-        }
+        self.refuse(refused(1231, "42000", format!("Variable '{}' can't be set to the value of '{}'", name, said)));
+        None
     }
 }
 
 /// Whether a name fits a pattern of LIKE. It goes back to the last `%` alone, so no pattern takes long.
-fn is_like(name: &[u8], pattern: &[u8]) -> bool {
+pub fn is_like(name: &[u8], pattern: &[u8]) -> bool {
     let (mut at, mut place) = (0, 0);
     let mut back = None;
     while at < name.len() {
@@ -542,31 +455,36 @@ fn is_like(name: &[u8], pattern: &[u8]) -> bool {
 mod tests {
     use super::*;
 
-    const FACTS: Facts = Facts {
-        connection: 7,
-        database: None,
-        autocommit: true,
-        is_read_only: false,
-        longest: 65_536,
-        has_tls: false,
-        agreed: None,
-    };
-    const NOTHING: Settings = Settings { autocommit: None, usual: None, next: None };
-
-    fn said(text: &str) -> Option<Other> {
-        read(text.as_bytes(), &FACTS)
+    fn facts() -> Facts {
+        Facts {
+            connection: 7,
+            database: None,
+            autocommit: true,
+            is_read_only: false,
+            longest: 65_536,
+            has_tls: false,
+            agreed: None,
+            variables: Arc::default(),
+        }
     }
 
-    fn row(text: &str) -> Vec<(String, Value)> {
-        match said(text) {
-            Some(Other::Table(table)) => table
-                .columns
-                .iter()
-                .map(|it| String::from_utf8(it.name.clone()).unwrap())
-                .zip(table.rows[0].clone())
-                .collect(),
+    /// What a text is; of settings those that have an effect.
+    fn said(text: &str) -> Option<Other> {
+        match read(text.as_bytes(), &facts(), None) {
+            Some((Other::Set(settings), 0)) => Some(Other::Set(Settings { changes: Vec::new(), ..settings })),
+            found => found.map(|(other, _)| other),
+        }
+    }
+
+    fn refused(text: &str) -> u16 {
+        match read(text.as_bytes(), &facts(), None) {
+            Some((Other::Refused(it), _)) => it.number,
             other => panic!("{}: {:?}", text, other),
         }
+    }
+
+    fn set(settings: Settings) -> Option<Other> {
+        Some(Other::Set(settings))
     }
 
     #[test]
@@ -593,7 +511,7 @@ mod tests {
             "SET SQL_AUTO_IS_NULL = 0",
             "SET SESSION sql_mode=(SELECT CONCAT(@@sql_mode,',x'))",
         ] {
-            assert_eq!(said(text), Some(Other::Set(NOTHING)), "{}", text);
+            assert_eq!(said(text), set(Settings::default()), "{}", text);
         }
     }
 
@@ -610,14 +528,9 @@ mod tests {
             ("SET @@transaction_read_only = 1", None, Some(true)),
             ("SET @transaction_read_only = 1", None, None),
         ] {
-            assert_eq!(said(text), Some(Other::Set(Settings { usual, next, ..NOTHING })), "{}", text);
+            assert_eq!(said(text), set(Settings { usual, next, ..Settings::default() }), "{}", text);
         }
-        for text in [
-            "SET TRANSACTION READ",
-            "SET tx_read_only = 2",
-            "SET GLOBAL TRANSACTION READ ONLY",
-            "SET SESSION TRANSACTION READ ONLY,",
-        ] {
+        for text in ["SET TRANSACTION READ", "SET SESSION TRANSACTION READ ONLY,"] {
             assert_eq!(said(text), None, "{}", text);
         }
     }
@@ -641,23 +554,29 @@ mod tests {
                 "SET autocommit={}, sql_mode = concat(@@sql_mode,',STRICT_TRANS_TABLES')",
                 "SET sql_mode='', autocommit={}",
             ] {
-                let settings = Settings { autocommit: Some(value), ..NOTHING };
-                assert_eq!(said(&form.replace("{}", word)), Some(Other::Set(settings)), "{}", form);
+                let settings = Settings { autocommit: Some(value), ..Settings::default() };
+                assert_eq!(said(&form.replace("{}", word)), set(settings), "{}", form);
             }
         }
         for text in [
-            "SET autocommit=2",
             "SET autocommit",
             "SET autocommit=",
             "SET autocommit=0; BEGIN",
-            "SET unknown = 1",
-            "SET GLOBAL autocommit=1",
             "SET",
             "SET NAMES",
             "SET TRANSACTION",
             "SET x = (1",
         ] {
             assert_eq!(said(text), None, "{}", text);
+        }
+        for (text, number) in [
+            ("SET autocommit=2", 1231),
+            ("SET tx_read_only = 2", 1231),
+            ("SET GLOBAL autocommit=1", 1235),
+            ("SET GLOBAL TRANSACTION READ ONLY", 1235),
+            ("DO nothing", 1054),
+        ] {
+            assert_eq!(refused(text), number, "{}", text);
         }
     }
 
@@ -697,44 +616,6 @@ mod tests {
     }
 
     #[test]
-    fn rows_of_constants() {
-        assert_eq!(row("SELECT 1"), [("1".to_string(), Value::Number(1))]);
-        assert_eq!(row("/* ping */ SELECT 1 FROM DUAL LIMIT 1"), [("1".to_string(), Value::Number(1))]);
-        assert_eq!(row("select CONNECTION_ID()"), [("CONNECTION_ID()".to_string(), Value::Number(7))]);
-        assert_eq!(
-            row("select DATABASE(), USER() limit 1"),
-            [("DATABASE()".to_string(), Value::Null), ("USER()".to_string(), Value::from("nigbaru"))]
-        );
-        assert_eq!(
-            row("select @@max_allowed_packet, @@session.autocommit AS c limit 1"),
-            [("@@max_allowed_packet".to_string(), Value::Number(65_536)), ("c".to_string(), Value::Number(1))]
-        );
-        assert_eq!(
-            row("SELECT 'a' AS `B`, -5 x, @y"),
-            [
-                ("B".to_string(), Value::from("a")),
-                ("x".to_string(), Value::Number(-5)),
-                ("@y".to_string(), Value::Null)
-            ]
-        );
-        for text in [
-            "select @@nothing",
-            "SELECT",
-            "SELECT 1 FROM t",
-            "SELECT *",
-            "SELECT 1;SELECT 2",
-            "SELECT sleep(5)",
-            "",
-            ";",
-            "SELECT 1 FROM DUAL WHERE 1",
-            "SELECT @@",
-            "SELECT 1,",
-        ] {
-            assert_eq!(said(text), None, "{}", text);
-        }
-    }
-
-    #[test]
     fn patterns() {
         for (name, pattern) in [
             ("a", "a"),
@@ -766,29 +647,44 @@ mod tests {
     }
 
     #[test]
-    fn other_questions() {
+    fn what_is_kept() {
+        let kept = |text: &str| match read(text.as_bytes(), &facts(), None) {
+            Some((Other::Set(settings), 0)) => settings.changes,
+            other => panic!("{}: {:?}", text, other),
+        };
+        let text = |it: &str| Value::Text(it.as_bytes().to_vec());
+        let number = |it| Value::Number(Number::whole(it));
+        assert_eq!(
+            kept("SET @a = 1 + 2, sql_mode = concat(@@sql_mode, ',x'), NAMES latin1 COLLATE 'y', wait_timeout=DEFAULT"),
+            [
+                Change::User("a".to_string(), number(3)),
+                Change::Variable("sql_mode".to_string(), Some(text("STRICT_TRANS_TABLES,x"))),
+                Change::Names("latin1".to_string(), Some("y".to_string())),
+                Change::Variable("wait_timeout".to_string(), None),
+            ]
+        );
+        assert_eq!(kept("SET sql_mode = ANSI"), [Change::Variable("sql_mode".to_string(), Some(text("ANSI")))]);
+        let bound = [Given { value: Some(b"v".to_vec()), is_number: false }];
+        match read(b"SET @a = ?", &facts(), Some(&bound)) {
+            Some((Other::Set(it), 1)) => assert_eq!(it.changes, [Change::User("a".to_string(), text("v"))]),
+            other => panic!("{:?}", other),
+        }
+        assert_eq!(read(b"DO ?, 1, ?", &facts(), Some(&[])), Some((Other::Nothing, 2)));
+        assert_eq!(read(b"DO ?", &facts(), None), None);
+    }
+
+    #[test]
+    fn other_texts() {
         assert_eq!(said("DO 1"), Some(Other::Nothing));
+        for (text, connection, is_query) in
+            [("KILL 7", 7, false), ("kill connection 8;", 8, false), ("KILL QUERY CONNECTION_ID()", 7, true)]
+        {
+            assert_eq!(said(text), Some(Other::Kill { connection, is_query }), "{}", text);
+        }
         for (text, name) in [("USE Db", "Db"), ("use `my ``Db`", "my `Db"), ("/* c */ use db;", "db")] {
             assert_eq!(said(text), Some(Other::Use(name.as_bytes().to_vec())), "{}", text);
         }
-        assert_eq!((said("USE"), said("USE 'db'"), said("USE a b")), (None, None, None));
+        assert_eq!((said("USE"), said("USE 'db'"), said("USE a b"), said("KILL")), (None, None, None, None));
         assert_eq!(said("show nigbaru status"), Some(Other::Status));
-        for text in [
-            "SHOW DATABASES",
-            "show tables",
-            "SHOW WARNINGS",
-            "SHOW WARNINGS LIMIT 5",
-            "SHOW SESSION STATUS LIKE 'x'",
-            "SHOW VARIABLES LIKE 'lower\\_case\\_%'",
-            "SHOW GLOBAL VARIABLES WHERE variable_name = 'wait_timeout'",
-        ] {
-            assert!(matches!(said(text), Some(Other::Table(_))), "{}", text);
-        }
-        match said("SHOW VARIABLES LIKE 'lower%'") {
-            Some(Other::Table(table)) => {
-                assert_eq!(table.rows, [[Value::from("lower_case_table_names"), Value::from("0")]])
-            }
-            other => panic!("{:?}", other),
-        }
     }
 }

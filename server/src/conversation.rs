@@ -6,9 +6,10 @@ use crate::faults::{Fault, Point, What};
 use crate::guest::Guest;
 use crate::login::{self, Account};
 use crate::options::Options;
-use crate::packets::{self, command, Column, Kind as Type, Malformed};
+use crate::packets::{self, command, Column, Kind as Type, Malformed, Takes};
+use crate::sql::{self, Asked, Sql};
 use crate::statements::{self, Kind, Statement};
-use crate::store::{Connection, Store};
+use crate::store::{lock, Connection, Store};
 use crate::tls::Keys;
 use crate::tokens;
 use std::collections::HashMap;
@@ -22,12 +23,21 @@ const ALL_PREPARED: usize = 256 * 1024;
 /// How many bytes a database's name may have: 64 signs of 4 bytes, as in MySQL.
 const LONGEST_NAME: usize = 256;
 
+/// What a prepared text is.
+#[derive(Clone, Copy, Debug, PartialEq, Eq)]
+enum Form {
+    /// A statement of the store.
+    Statement,
+    Sql,
+    /// One of the other texts.
+    Other,
+}
+
 /// A prepared text, and what was sent for its `?` ahead of its execution.
 struct Prepared {
     text: Vec<u8>,
     parameters: usize,
-    /// Whether it is a statement of the store, and not one of the other texts.
-    is_statement: bool,
+    form: Form,
     kinds: Vec<Type>,
     long: Vec<Option<Vec<u8>>>,
 }
@@ -72,9 +82,9 @@ fn point_of(kind: Kind) -> Point {
     }
 }
 
-fn columns_of(kind: Kind) -> Vec<Column> {
+fn columns_of(store: &Store, kind: Kind) -> Vec<Column> {
     match kind {
-        Kind::Get => value_columns(),
+        Kind::Get => value_columns(store.has_texts),
         Kind::Recover => branch_columns(),
         _ => Vec::new(),
     }
@@ -128,7 +138,13 @@ impl Conversation {
         }
         let login = packets::read_login(&packet)?;
         self.can = login.can;
+        if login.can & packets::can::COMPRESS != 0 {
+            let why = "This server takes no compression: switch it off in the client";
+            refuse(&mut self.channel, refusal_with(1043, why.to_string()))?;
+            return Err(End::Refused("it would compress".to_string()));
+        }
         self.use_database(&login.database);
+        lock(&self.connection.doing).user = login.user.clone();
         self.prove(&login)
     }
 
@@ -157,17 +173,25 @@ impl Conversation {
         let mut packet = Vec::new();
         while !self.store.stop.is_over() {
             self.channel.receive(&mut packet)?;
+            // (a packet may be empty)
+            self.connection.does(packet.strip_prefix(&[command::QUERY]));
             self.command(&packet)?;
+            self.connection.does(None);
         }
         Ok(())
     }
 
     fn answer(&mut self, answer: &Answer, is_binary: bool) -> Result<(), End> {
+        self.write(answer, is_binary, packets::status::NONE);
+        self.channel.send()
+    }
+
+    /// Writes an answer, with flags beside those of the client's state.
+    fn write(&mut self, answer: &Answer, is_binary: bool, flags: u16) {
         if let Answer::Refused(it) = answer {
             self.connection.counts.count_refusal(it.number);
         }
-        answer.write(&mut self.channel.out, self.guest.status(), is_binary);
-        self.channel.send()
+        answer.write(&mut self.channel.out, self.guest.status() | flags, is_binary);
     }
 
     // commands
@@ -175,10 +199,7 @@ impl Conversation {
     fn command(&mut self, packet: &[u8]) -> Result<(), End> {
         let (first, rest) = packet.split_first().ok_or_else(|| End::Wrong("a command without a byte".to_string()))?;
         match *first {
-            command::QUERY => {
-                let answer = self.query(rest)?;
-                self.answer(&answer, false)
-            }
+            command::QUERY => self.queries(rest),
             command::STMT_EXECUTE => {
                 let answer = self.execute(packet)?;
                 self.answer(&answer, true)
@@ -204,8 +225,22 @@ impl Conversation {
                 let answer = self.reset()?;
                 self.answer(&answer, false)
             }
+            command::PROCESS_INFO => self.queries(b"SHOW PROCESSLIST"),
+            command::PROCESS_KILL => {
+                let connection = packets::statement_number(packet)?.into();
+                let answer = self.other(Other::Kill { connection, is_query: false })?;
+                self.answer(&answer, false)
+            }
+            command::SHUTDOWN => {
+                let answer = self.other(Other::ShutDown)?;
+                self.answer(&answer, false)
+            }
             // No table has a column.
             command::SET_OPTION | command::FIELD_LIST | command::DEBUG => {
+                if let (command::SET_OPTION, [option @ (0 | 1), ..]) = (*first, rest) {
+                    let bit = packets::can::MULTI_STATEMENTS;
+                    self.can = if *option == 0 { self.can | bit } else { self.can & !bit };
+                }
                 let status = self.guest.status();
                 self.channel.out.end_of_rows(status);
                 self.channel.send()
@@ -242,6 +277,7 @@ impl Conversation {
     /// Keeps a database's name, which clients ask for. An empty one is none, and so is one that is too long.
     fn use_database(&mut self, name: &[u8]) {
         self.database = Some(name.to_vec()).filter(|it| (1..=LONGEST_NAME).contains(&it.len()));
+        lock(&self.connection.doing).database = self.database.clone();
     }
 
     /// The client says that it is somebody else, and begins anew.
@@ -264,18 +300,58 @@ impl Conversation {
             longest: self.longest,
             has_tls: self.tls.is_some(),
             agreed: self.channel.agreed(),
+            variables: Arc::clone(&self.guest.variables),
         }
+    }
+
+    /// A text, of which a client that can do so may send several in one. What comes behind one that is refused isn't
+    /// read.
+    fn queries(&mut self, text: &[u8]) -> Result<(), End> {
+        let is_one = self.can & packets::can::MULTI_STATEMENTS == 0 || !text.contains(&b';');
+        let all = if is_one { vec![text] } else { tokens::statements(text) };
+        for (index, text) in all.iter().enumerate() {
+            let answer = self.query(text)?;
+            let is_last = index + 1 == all.len() || matches!(answer, Answer::Refused(_));
+            self.write(&answer, false, if is_last { packets::status::NONE } else { packets::status::MORE });
+            if is_last {
+                break;
+            }
+        }
+        self.channel.send()
     }
 
     /// A text: a statement of the store, or one of the others that are known.
     fn query(&mut self, text: &[u8]) -> Result<Answer, End> {
         match statements::read(text) {
             Ok(statement) => self.statement(&statement),
-            Err(fault) => match chatter::read(text, &self.facts()) {
-                Some(other) => self.other(other),
-                None => Ok(syntax(text, fault).into()),
+            Err(fault) => match chatter::read(text, &self.facts(), None) {
+                Some((other, _)) => self.other(other),
+                None => match sql::read(text, &self.database_name(), None) {
+                    Some(Ok(sql)) => self.sql(&sql),
+                    Some(Err(place)) => Ok(sql::not_taken(text, place).into()),
+                    None => Ok(syntax(text, fault).into()),
+                },
             },
         }
+    }
+
+    /// The database that a refusal names, and that tables are said to be in.
+    fn database_name(&self) -> String {
+        self.database.as_ref().map_or("nigbaru".to_string(), |it| String::from_utf8_lossy(it).into_owned())
+    }
+
+    /// A statement of SQL.
+    fn sql(&mut self, sql: &Sql) -> Result<Answer, End> {
+        self.connection.counts.count(None);
+        let (database, facts) = (self.database_name(), self.facts());
+        let counts_found = self.can & packets::can::FOUND_ROWS != 0;
+        sql::answer(&mut self.guest, &Asked { sql, database: &database, facts: &facts, counts_found })
+    }
+
+    /// The columns that a statement of SQL gives.
+    fn columns(&mut self, sql: &Sql) -> Result<Vec<Column>, Refusal> {
+        let (database, facts) = (self.database_name(), self.facts());
+        sql::columns_of(&mut self.guest, &Asked { sql, database: &database, facts: &facts, counts_found: false })
     }
 
     /// A statement, with the fault that is meant for it.
@@ -376,7 +452,7 @@ impl Conversation {
     // prepared statements
 
     fn prepare(&mut self, text: &[u8]) -> Result<(), End> {
-        let (parameters, columns, is_statement) = match self.preparation(text) {
+        let (parameters, columns, form) = match self.preparation(text) {
             Ok(found) => found,
             Err(refused) => return self.answer(&refused.into(), false),
         };
@@ -389,22 +465,24 @@ impl Conversation {
             return self.answer(&refusal_with(1295, why).into(), false);
         }
         self.last = self.last.wrapping_add(1);
-        let it =
-            Prepared { text: text.to_vec(), parameters, is_statement, kinds: Vec::new(), long: vec![None; parameters] };
+        let it = Prepared { text: text.to_vec(), parameters, form, kinds: Vec::new(), long: vec![None; parameters] };
         self.prepared.insert(self.last, it);
         self.channel.out.prepared(self.last, &columns, parameters as u16, self.guest.status());
         self.channel.send()
     }
 
-    /// Of a text the number of its `?`, what it gives, and whether it is a statement of the store.
-    fn preparation(&self, text: &[u8]) -> Result<(usize, Vec<Column>, bool), Refusal> {
+    /// Of a text the number of its `?`, what it gives, and what it is.
+    fn preparation(&mut self, text: &[u8]) -> Result<(usize, Vec<Column>, Form), Refusal> {
         match statements::count_parameters(text) {
-            Ok((statement, parameters)) => Ok((parameters, columns_of(statement.kind), true)),
-            Err(fault) => match chatter::read(text, &self.facts()) {
-                Some(Other::Table(table)) => Ok((0, table.columns, false)),
-                Some(Other::Status) => Err(refusal(1295)),
-                Some(_) => Ok((0, Vec::new(), false)),
-                None => Err(syntax(text, fault)),
+            Ok((statement, parameters)) => Ok((parameters, columns_of(&self.store, statement.kind), Form::Statement)),
+            Err(fault) => match chatter::read(text, &self.facts(), Some(&[])) {
+                Some((Other::Status, _)) => Err(refusal(1295)),
+                Some((_, parameters)) => Ok((parameters, Vec::new(), Form::Other)),
+                None => match sql::count_parameters(text, &self.database_name()) {
+                    Some(Ok((found, parameters))) => Ok((parameters, self.columns(&found)?, Form::Sql)),
+                    Some(Err(place)) => Err(sql::not_taken(text, place)),
+                    None => Err(syntax(text, fault)),
+                },
             },
         }
     }
@@ -415,13 +493,23 @@ impl Conversation {
             Some(it) => it,
             None => return Ok(refusal(1243).into()),
         };
-        if !it.is_statement {
-            let text = it.text.clone();
-            return self.query(&text);
-        }
-        let read = packets::read_execution(packet, it.parameters, &mut it.kinds, &mut it.long);
+        let takes = if it.form == Form::Statement { Takes::Wholes } else { Takes::AllNumbers };
+        let read = packets::read_execution(packet, it.parameters, &mut it.kinds, &mut it.long, takes);
         it.long.iter_mut().for_each(|sent| *sent = None);
         let bound = match read {
+            Ok(values) if it.form != Form::Statement => {
+                let (text, given, form) = (it.text.clone(), sql::given(values, &it.kinds), it.form);
+                if form == Form::Other {
+                    return match chatter::read(&text, &self.facts(), Some(&given)) {
+                        Some((other, _)) => self.other(other),
+                        None => Ok(refusal(1210).into()),
+                    };
+                }
+                return match sql::read(&text, &self.database_name(), Some(&given)) {
+                    Some(Ok(sql)) => self.sql(&sql),
+                    _ => Ok(refusal(1210).into()),
+                };
+            }
             Ok(values) => statements::bind(&it.text, &values),
             Err(Malformed(_)) => return Ok(refusal(1210).into()),
         };

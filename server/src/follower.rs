@@ -128,7 +128,7 @@ mod tests {
     fn put(pool: &Pool, follower: &Follower, place: usize, text: &str) {
         let mut lent = pool.take(place, Duration::from_secs(60), Need::Statement).unwrap().unwrap();
         follower.before_a_call().unwrap();
-        lent.execute(text).unwrap();
+        lent.ask(nigbaru::Statement::Text(text.as_bytes())).unwrap();
     }
 
     #[test]

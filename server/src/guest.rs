@@ -4,16 +4,23 @@
 //! one phase.
 use crate::answers::{self, refusal, refusal_with, wrong_state, Answer, Refusal, OK};
 use crate::channel::End;
-use crate::chatter::{Other, Settings};
+use crate::chatter::{Change, Other, Settings};
 use crate::login;
 use crate::packets::status;
 use crate::pool::{Lent, Need};
-use crate::statements::{write_literal, Kind, Statement};
+use crate::sql;
+use crate::statements::{self, canonical, Kind, Shape, Statement};
 use crate::status::table_of;
-use crate::store::{lock, Connection, Prepared, Rows, Store};
-use nigbaru::{Error, Reply};
+use crate::store::{lock, Connection, Prepared, Store};
+use crate::variables::Variables;
+use crate::waits::Turn;
+use nigbaru::{Error, Reply, Statement as Asked, Xid};
 use std::sync::Arc;
 use std::time::{Duration, Instant};
+
+mod waiting;
+
+pub use waiting::too_late;
 
 /// How often a branch is tried to be rolled back for which there is no memory, and how long is waited between.
 const TRIES: usize = 100;
@@ -25,6 +32,8 @@ enum State {
     Free,
     Active,
     Idle,
+    /// The store has rolled it back, and the client hasn't yet.
+    RollbackOnly,
 }
 
 impl State {
@@ -33,8 +42,13 @@ impl State {
             State::Free => "NON-EXISTING",
             State::Active => "ACTIVE",
             State::Idle => "IDLE",
+            State::RollbackOnly => "ROLLBACK ONLY",
         }
     }
+}
+
+fn no_savepoint(name: &str) -> Refusal {
+    Refusal { number: 1305, sqlstate: "42000", text: format!("SAVEPOINT {} does not exist", name) }
 }
 
 pub struct Guest {
@@ -49,12 +63,24 @@ pub struct Guest {
     /// Whether transactions read alone, and whether the next one does, if that was said.
     pub is_read_only: bool,
     next: Option<bool>,
+    /// What the client has set without an effect on the store.
+    pub variables: Arc<Variables>,
     /// Of a transaction that has begun, whether it reads alone.
     access: Option<bool>,
     /// Whether a local transaction was asked for.
     has_begun: bool,
     /// The identifier of the local transaction's branch.
-    own: Option<Vec<u8>>,
+    own: Option<Xid>,
+    /// What undoes the changes since the first savepoint, or since a statement of SQL began, the last one first.
+    undo: Vec<Statement>,
+    /// Savepoints, each with the number of changes that came before it.
+    savepoints: Vec<(String, usize)>,
+    /// The statement's place among those who wait for a row, while it does.
+    turn: Option<Turn>,
+    /// Whether nothing is lost if the branch, or what there is in its place, is given up that tries to have a row.
+    is_fresh: bool,
+    /// The identifier of the client's branch that was rolled back.
+    rolled_back: Option<Vec<u8>>,
 }
 
 impl Guest {
@@ -68,16 +94,22 @@ impl Guest {
             autocommit: true,
             is_read_only: false,
             next: None,
+            variables: Arc::default(),
             access: None,
             has_begun: false,
             own: None,
+            undo: Vec::new(),
+            savepoints: Vec::new(),
+            turn: None,
+            is_fresh: false,
+            rolled_back: None,
         }
     }
 
     /// The flags of an answer that is given now.
     pub fn status(&self) -> u16 {
         let autocommit = if self.autocommit { status::AUTOCOMMIT } else { status::NONE };
-        let is_within = self.state != State::Free || self.is_local();
+        let is_within = matches!(self.state, State::Active | State::Idle) || self.is_local();
         autocommit | if is_within { status::IN_TRANSACTION } else { status::NONE }
     }
 
@@ -117,7 +149,7 @@ impl Guest {
         let size = self.store.pool.size();
         let busy = format!(
             "Too many connections: each of the store's {} sessions has a branch that isn't prepared, \
-             or answers a statement",
+             or answers a statement (SHOW NIGBARU STATUS lists them)",
             size
         );
         // (--wait 0 says that nothing waits)
@@ -132,19 +164,25 @@ impl Guest {
         )
     }
 
-    /// Asks the store for a statement of the client's, and answers.
+    /// Asks the store for a statement of the client's, and answers. The refusal of a row names who holds it.
     fn ask_for(&mut self, it: &Statement) -> Result<Answer, End> {
-        self.ask(&it.text, &it.told, Some(it.kind), it.converts)
+        match self.ask(&it.text, it.asked(), Some(it.kind), it.shape)? {
+            Answer::Refused(Refusal { number: 3572, .. }) => {
+                Ok(crate::status::locked(&self.store, &self.connection, it).into())
+            }
+            answer => Ok(answer),
+        }
     }
 
-    /// Asks the store for a text of the server's own.
-    fn ask_own(&mut self, text: &[u8], kind: Option<Kind>) -> Result<Answer, End> {
-        self.ask(text, text, kind, false)
+    /// Asks the store for a statement of the server's own, about its branch.
+    fn ask_own(&mut self, verb: &str, asked: Asked, xid: &Xid, clause: &str) -> Result<Answer, End> {
+        let kind = Some(Kind::Start).filter(|_| matches!(asked, Asked::Start(_)));
+        self.ask(&[verb.as_bytes(), &canonical(xid), clause.as_bytes()].concat(), asked, kind, Shape::Raw)
     }
 
-    /// Asks the store, which is told a statement, and answers. The record has its canonical text. A session that is
-    /// borrowed is kept until `settle`.
-    fn ask(&mut self, text: &[u8], told: &[u8], kind: Option<Kind>, converts: bool) -> Result<Answer, End> {
+    /// Asks the store, and answers. The record has the statement's canonical text. A session that is borrowed is kept
+    /// until `settle`.
+    fn ask(&mut self, text: &[u8], asked: Asked, kind: Option<Kind>, shape: Shape) -> Result<Answer, End> {
         let need = if kind == Some(Kind::Start) { Need::Branch } else { Need::Statement };
         let mut lent = match self.borrow(need)? {
             Ok(lent) => lent,
@@ -155,15 +193,15 @@ impl Guest {
         let reply = match self.hold_history(kind) {
             Err(fault) => Err(fault),
             Ok(()) => match &self.store.record {
-                None => lent.execute(told),
-                Some(record) => record.ask(&mut lent, self.store.follower.as_ref(), text, told, state),
+                None => lent.ask(asked),
+                Some(record) => record.ask(&mut lent, self.store.follower.as_ref(), text, asked, state),
             },
         };
         self.lent = Some(lent);
         if self.store.stop.is_over() && self.store.stop.why().is_some() {
             return Err(End::Over);
         }
-        self.answer(reply, kind, converts, state)
+        self.answer(reply, kind, shape, state)
     }
 
     /// Waits until what is logged and isn't kept yet is little enough for one statement more.
@@ -182,15 +220,15 @@ impl Guest {
         &self,
         reply: Result<Reply, Error>,
         kind: Option<Kind>,
-        converts: bool,
+        shape: Shape,
         state: &str,
     ) -> Result<Answer, End> {
         let is_change = matches!(kind, Some(Kind::Put | Kind::Del));
         match reply {
             Ok(Reply::Ok) => Ok(Answer::Ok(u64::from(is_change))),
-            Ok(Reply::Value(value)) => Ok(answers::value(Some(value))),
-            Ok(Reply::NoRow) => Ok(answers::value(None)),
-            Ok(Reply::List(xids)) => Ok(answers::branches(&xids, converts)),
+            Ok(Reply::Value(value)) => Ok(answers::value(Some(value), self.store.has_texts)),
+            Ok(Reply::NoRow) => Ok(answers::value(None, self.store.has_texts)),
+            Ok(Reply::List(xids)) => Ok(answers::branches(&xids, shape)),
             Err(Error::Refused(1399)) => Ok(wrong_state(state).into()),
             Err(Error::Refused(number)) => Ok(refusal(number as u16).into()),
             Err(Error::NoMemory) => Ok(refusal(1037).into()),
@@ -201,13 +239,13 @@ impl Guest {
     /// Rolls back what is open in the session. Without memory the branch would stay, and whoever has the session next
     /// would be in it, so that is tried again, and a session that can't be cleared is never lent again.
     fn disconnect(&mut self) -> Result<Answer, End> {
-        let mut answer = self.ask_own(b"DISCONNECT", None)?;
+        let mut answer = self.ask(b"DISCONNECT", Asked::Disconnect, None, Shape::Raw)?;
         for _ in 0..TRIES {
             if answer.is_ok() {
                 return Ok(answer);
             }
             std::thread::sleep(BREATH);
-            answer = self.ask_own(b"DISCONNECT", None)?;
+            answer = self.ask(b"DISCONNECT", Asked::Disconnect, None, Shape::Raw)?;
         }
         if !answer.is_ok() {
             self.store.log(self.connection.number, "its branch can't be rolled back, and its session is lost");
@@ -221,13 +259,9 @@ impl Guest {
         if self.is_free() {
             self.access = None;
         }
-        if self.state == State::Free && self.own.is_none() && self.lent.take().is_some() {
-            let mut look = lock(&self.connection.look);
-            if look.branch.is_some() {
-                look.branch = None;
-                look.session = None;
-                look.rows = Rows::new();
-            }
+        self.turn = None;
+        if !matches!(self.state, State::Active | State::Idle) && self.own.is_none() {
+            self.give_back();
         }
     }
 
@@ -235,19 +269,40 @@ impl Guest {
 
     /// A statement of the grammar, answered by the store, but for what a local transaction refuses.
     pub fn statement(&mut self, it: &Statement) -> Result<Answer, End> {
-        let answer = if it.kind.is_row() {
-            self.row(it)
-        } else if it.kind == Kind::Recover {
+        let answer = if it.kind == Kind::Recover {
             self.ask_for(it)
-        } else if !self.is_local() {
-            self.branch(it)
-        } else if let Kind::End | Kind::Prepare = it.kind {
-            Ok(wrong_state(State::Free.name()).into())
+        } else if self.state == State::RollbackOnly {
+            Ok(self.answer_rolled_back(it))
+        } else if it.kind.is_row() {
+            self.row(it)
+        } else if let Some(refused) = self.is_outside(it) {
+            Ok(refused.into())
         } else {
-            Ok(refusal(1400).into())
+            self.branch(it)
         };
         self.settle();
         answer
+    }
+
+    /// The refusal of a statement of XA, but RECOVER, by a local transaction, also by one that would begin here with
+    /// autocommit off. Then a branch may still be ended that this connection has prepared: it is the client's own.
+    fn is_outside(&self, it: &Statement) -> Option<Refusal> {
+        let is_end = matches!(it.kind, Kind::Commit | Kind::OnePhase | Kind::Rollback);
+        if self.is_local() {
+            return Some(match it.kind {
+                _ if it.is_unsupported() => refusal(1398),
+                Kind::End | Kind::Prepare => wrong_state(State::Free.name()),
+                _ => refusal(1400),
+            });
+        }
+        let own = |known: &Prepared| known.connection == self.connection.number;
+        if self.autocommit || self.state != State::Free || !is_end {
+            return None;
+        }
+        let is_own = lock(&self.store.prepared).get(it.subject()).map_or(false, own);
+        let why =
+            "XAER_OUTSIDE autocommit is off: SET autocommit=1, or end the branch in the connection that prepared it";
+        Some(refusal_with(1400, why.to_string())).filter(|_| !is_own)
     }
 
     fn row(&mut self, it: &Statement) -> Result<Answer, End> {
@@ -258,30 +313,55 @@ impl Guest {
         if self.access == Some(true) && it.kind != Kind::Get && self.state != State::Idle {
             return Ok(refusal(1792).into());
         }
-        if let Some(refused) = self.begin_own()? {
+        match self.begin_own()? {
+            Some(refused) => Ok(refused),
+            None => self.wait_for_row(it),
+        }
+    }
+
+    /// Asks for a row, and keeps what undoes that behind a savepoint.
+    fn change_row(&mut self, it: &Statement) -> Result<Answer, End> {
+        if self.savepoints.is_empty() || it.kind == Kind::Get || !self.is_within() {
+            return self.ask_for_row(it);
+        }
+        if let refused @ Answer::Refused(_) = self.remember(it)? {
             return Ok(refused);
         }
+        let answer = self.ask_for_row(it)?;
+        if !answer.is_ok() {
+            self.undo.pop();
+        }
+        Ok(answer)
+    }
+
+    fn ask_for_row(&mut self, it: &Statement) -> Result<Answer, End> {
         let answer = self.ask_for(it)?;
-        let is_within = self.state == State::Active || self.own.is_some();
-        if is_within && !matches!(answer, Answer::Refused(_)) {
-            let mut look = lock(&self.connection.look);
-            *look.rows.entry(it.subject().to_vec()).or_insert(false) |= it.kind != Kind::Get;
+        if self.is_within() && !matches!(answer, Answer::Refused(_)) {
+            self.has_row(it.subject(), it.kind != Kind::Get);
         }
         Ok(answer)
     }
 
     /// XA but RECOVER.
     fn branch(&mut self, it: &Statement) -> Result<Answer, End> {
+        if it.kind == Kind::Start && lock(&self.store.rolled_back).contains(it.subject()) {
+            return Ok(refusal(1440).into());
+        }
         if it.kind == Kind::Prepare && self.state == State::Idle {
             self.tell_prepared(it);
         }
         let answer = self.ask_for(it)?;
         if let Kind::Commit | Kind::Rollback = it.kind {
             if answer.is_ok() && self.state == State::Free {
-                lock(&self.store.prepared).remove(it.subject());
+                let known = lock(&self.store.prepared).remove(it.subject());
+                known.iter().for_each(|known| self.store.waits.call(&known.rows));
             }
         }
         if answer.is_ok() {
+            if it.kind == Kind::Prepare {
+                // (whoever ends the branch calls those who wait for them)
+                lock(&self.connection.look).rows.clear();
+            }
             self.follow(it);
         }
         Ok(answer)
@@ -307,6 +387,9 @@ impl Guest {
         if it.kind == Kind::Start {
             self.set_access(None);
         }
+        if it.kind != Kind::End {
+            self.forget_savepoints();
+        }
         if self.state != State::Free {
             self.show(it.subject(), self.state.name(), it.kind == Kind::Start);
         }
@@ -330,29 +413,37 @@ impl Guest {
         if self.state != State::Free || self.own.is_some() || self.autocommit && !self.has_begun {
             return Ok(None);
         }
+        self.start_own(Need::Branch)
+    }
+
+    /// Starts a branch of the server's own. The store's refusal, if it gives one.
+    fn start_own(&mut self, need: Need) -> Result<Option<Answer>, End> {
+        match self.borrow(need)? {
+            Ok(lent) => self.lent = Some(lent),
+            Err(refused) => return Ok(Some(refused.into())),
+        }
         let random = login::scramble().map_err(|fault| End::Wrong(format!("no random name: {}", fault)))?;
-        let mut name = Vec::new();
-        write_literal(&mut name, &[&b"local "[..], &random].concat());
-        name.extend(b",X'',1");
-        let answer = self.ask_own(&[&b"XA START "[..], &name].concat(), Some(Kind::Start))?;
+        let own = Xid { format_id: 1, gtrid: [&b"local "[..], &random].concat(), bqual: Vec::new() };
+        let answer = self.ask_own("XA START ", Asked::Start(&own), &own, "")?;
         if let Answer::Refused(_) = answer {
             return Ok(Some(answer));
         }
-        self.show(&name, "LOCAL", true);
-        self.own = Some(name);
+        self.show(&canonical(&own), "LOCAL", true);
+        self.own = Some(own);
         Ok(None)
     }
 
     /// Commits the local transaction, if there is one. Where that is refused, it is rolled back.
-    fn commit(&mut self) -> Result<Answer, End> {
+    pub fn commit(&mut self) -> Result<Answer, End> {
         self.has_begun = false;
+        self.forget_savepoints();
         let own = match self.own.take() {
             Some(own) => own,
             None => return Ok(OK),
         };
-        let mut answer = self.ask_own(&[&b"XA END "[..], &own].concat(), None)?;
+        let mut answer = self.ask_own("XA END ", Asked::End(&own), &own, "")?;
         if answer.is_ok() {
-            answer = self.ask_own(&[&b"XA COMMIT "[..], &own, b" ONE PHASE"].concat(), None)?;
+            answer = self.ask_own("XA COMMIT ", Asked::CommitOnePhase(&own), &own, " ONE PHASE")?;
         }
         if !answer.is_ok() {
             self.disconnect()?;
@@ -361,8 +452,9 @@ impl Guest {
     }
 
     /// Rolls the local transaction back: no more of the session's is open than its branch.
-    fn roll_back(&mut self) -> Result<Answer, End> {
+    pub fn roll_back(&mut self) -> Result<Answer, End> {
         self.has_begun = false;
+        self.forget_savepoints();
         match self.own.take() {
             Some(_) => self.disconnect(),
             None => Ok(OK),
@@ -383,11 +475,24 @@ impl Guest {
         if settings.next.is_some() && !self.is_free() {
             return Ok(refusal(1568).into());
         }
+        let mut variables = Arc::clone(&self.variables);
+        for change in &settings.changes {
+            let variables = Arc::make_mut(&mut variables);
+            let done = match change {
+                Change::Variable(name, value) => variables.set(name, value.as_ref()),
+                Change::User(name, value) => variables.set_user(name, value.clone()),
+                Change::Names(charset, collation) => variables.set_names(charset, collation.as_deref()),
+            };
+            if let Err(refused) = done {
+                return Ok(refused.into());
+            }
+        }
         let answer = match settings.autocommit {
             Some(value) => self.set_autocommit(value)?,
             None => OK,
         };
         if answer.is_ok() {
+            self.variables = variables;
             self.next = settings.next.or(self.next);
             self.is_read_only = settings.usual.unwrap_or(self.is_read_only);
         }
@@ -405,6 +510,176 @@ impl Guest {
         Ok(answer)
     }
 
+    // SQL
+
+    /// A statement of SQL that reads or writes rows begins: in the client's branch or local transaction, or in none.
+    /// The refusal where it can't.
+    pub fn begin_sql(&mut self) -> Result<Option<Answer>, End> {
+        if self.access.is_none() {
+            self.set_access(None);
+        }
+        self.begin_own()
+    }
+
+    /// A branch for one statement. The store's refusal, if it gives one.
+    pub fn begin_alone(&mut self) -> Result<Option<Answer>, End> {
+        self.start_own(Need::Statement)
+    }
+
+    /// A statement of SQL that belongs to no transaction begins: what is open is committed, unless it is a branch of
+    /// the client's own.
+    pub fn begin_definition(&mut self) -> Result<Option<Answer>, End> {
+        if self.state != State::Free {
+            return Ok(Some(wrong_state(self.state.name()).into()));
+        }
+        if self.is_read_only {
+            return Ok(Some(sql::reads_alone().into()));
+        }
+        let answer = self.commit()?;
+        Ok(if answer.is_ok() { None } else { Some(answer) })
+    }
+
+    /// A statement of SQL has ended.
+    pub fn end_sql(&mut self) {
+        if self.savepoints.is_empty() {
+            self.undo.clear();
+        }
+        self.settle();
+    }
+
+    /// Whether rows are read and written in a branch now.
+    pub fn is_within(&self) -> bool {
+        self.state == State::Active || self.own.is_some()
+    }
+
+    /// Whether the branch is to read alone.
+    pub fn reads_alone(&self) -> bool {
+        self.access == Some(true)
+    }
+
+    pub fn store(&self) -> Arc<Store> {
+        Arc::clone(&self.store)
+    }
+
+    /// How many entries of the history come before the last answer; none where no session is held.
+    pub fn entries(&self) -> Option<u64> {
+        self.lent.as_ref().map(Lent::entries)
+    }
+
+    /// Reads a row. Within a branch it passes nobody who waits for it.
+    pub fn get(&mut self, key: &[u8]) -> Result<Answer, End> {
+        self.ask_in_turn(&statements::of_row(Kind::Get, key, b""))
+    }
+
+    fn ask_in_turn(&mut self, it: &Statement) -> Result<Answer, End> {
+        if self.is_within() && self.would_pass(it) {
+            return Ok(refusal(3572).into());
+        }
+        self.ask_for_row(it)
+    }
+
+    /// Writes a row in a branch, or deletes it, and keeps what undoes that: the value that it has now.
+    pub fn change(&mut self, key: &[u8], old: Option<&[u8]>, new: Option<&[u8]>) -> Result<Answer, End> {
+        let row = |value: Option<&[u8]>| match value {
+            Some(value) => statements::of_row(Kind::Put, key, value),
+            None => statements::of_row(Kind::Del, key, b""),
+        };
+        let answer = self.ask_in_turn(&row(new))?;
+        if answer.is_ok() && old != new {
+            self.undo.push(row(old));
+        }
+        Ok(answer)
+    }
+
+    /// How many changes can be undone.
+    pub fn changes(&self) -> usize {
+        self.undo.len()
+    }
+
+    /// Undoes all changes but so many. The branch holds their rows, so this isn't refused but for want of memory; then
+    /// the connection ends, and its branch with it.
+    pub fn undo_to(&mut self, count: usize) -> Result<(), End> {
+        while self.undo.len() > count {
+            if let Some(it) = self.undo.pop() {
+                if !self.ask_for(&it)?.is_ok() {
+                    return Err(End::Wrong("a statement can't be undone".to_string()));
+                }
+            }
+        }
+        Ok(())
+    }
+
+    /// Keeps what undoes a PUT or DEL of the client's behind a savepoint. The refusal where the row is locked.
+    fn remember(&mut self, it: &Statement) -> Result<Answer, End> {
+        let key = it.key();
+        let answer = self.ask_for_row(&statements::of_row(Kind::Get, &key, b""))?;
+        if let Answer::Table(table) = &answer {
+            self.undo.push(match table.value() {
+                Some(value) => statements::of_row(Kind::Put, &key, value),
+                None => statements::of_row(Kind::Del, &key, b""),
+            });
+        }
+        Ok(answer)
+    }
+
+    // savepoints
+
+    fn forget_savepoints(&mut self) {
+        self.undo.clear();
+        self.savepoints.clear();
+    }
+
+    fn savepoint(&self, name: &str) -> Option<usize> {
+        self.savepoints.iter().rposition(|(it, _)| it.eq_ignore_ascii_case(name))
+    }
+
+    /// Whether savepoints have a meaning: outside of a transaction each is forgotten at once.
+    fn has_savepoints(&self) -> bool {
+        self.state == State::Active || self.is_local() || !self.autocommit
+    }
+
+    /// The refusal of whatever touches rows, where the work of the client's branch has ended.
+    pub fn is_idle(&self) -> Option<Answer> {
+        let has_ended = matches!(self.state, State::Idle | State::RollbackOnly);
+        Some(wrong_state(self.state.name()).into()).filter(|_| has_ended)
+    }
+
+    pub fn set_savepoint(&mut self, name: String) -> Answer {
+        if self.state == State::Idle {
+            return wrong_state(self.state.name()).into();
+        }
+        if self.has_savepoints() {
+            if let Some(index) = self.savepoint(&name) {
+                self.savepoints.remove(index);
+            }
+            self.savepoints.push((name, self.undo.len()));
+        }
+        OK
+    }
+
+    pub fn release_savepoint(&mut self, name: &str) -> Answer {
+        match self.savepoint(name) {
+            None => no_savepoint(name).into(),
+            Some(index) => {
+                self.savepoints.truncate(index);
+                OK
+            }
+        }
+    }
+
+    /// Undoes what came after a savepoint, which stays. Rows stay locked, as in MySQL.
+    pub fn roll_back_to(&mut self, name: &str) -> Result<Answer, End> {
+        match (self.savepoint(name), self.is_idle()) {
+            (None, _) => Ok(no_savepoint(name).into()),
+            (Some(_), Some(refused)) => Ok(refused),
+            (Some(index), None) => {
+                self.savepoints.truncate(index + 1);
+                self.undo_to(self.savepoints[index].1)?;
+                Ok(OK)
+            }
+        }
+    }
+
     // other texts
 
     pub fn other(&mut self, it: Other) -> Result<Answer, End> {
@@ -418,21 +693,36 @@ impl Guest {
             Other::RollBack => self.roll_back(),
             Other::Set(settings) => self.set(settings),
             Other::Use(_) | Other::Nothing => Ok(OK),
-            Other::Table(table) => Ok(Answer::Table(table)),
+            Other::Refused(it) => Ok(it.into()),
+            Other::Kill { connection, is_query } => Ok(self.store.kill(&self.connection, connection, is_query)),
+            Other::ShutDown => Ok(self.shut_down()),
             Other::Status => Ok(Answer::Table(table_of(&self.store))),
         };
         self.settle();
         answer
     }
 
+    /// Ends the server, unless anybody may come.
+    fn shut_down(&self) -> Answer {
+        if !self.store.has_account {
+            let text = "Access denied; SHUTDOWN needs an account (--user and --password-file)";
+            return refusal_with(1227, text.to_string()).into();
+        }
+        self.store.stop.end();
+        OK
+    }
+
     /// As if the client had just come: its branch is rolled back, unless it is prepared.
     pub fn reset(&mut self) -> Result<Answer, End> {
+        self.forget_rolled_back();
         self.state = State::Free;
         self.autocommit = true;
         self.is_read_only = false;
         self.next = None;
+        self.variables = Arc::default();
         self.own = None;
         self.has_begun = false;
+        self.forget_savepoints();
         let answer = if self.lent.is_some() { self.disconnect() } else { Ok(OK) };
         self.settle();
         answer

@@ -1,7 +1,8 @@
 //! How a client proves who it is.
 use crate::channel::{Channel, End};
-use crate::hash::{sha1, sha256};
 use crate::packets::{self, Login};
+use sha1::{Digest, Sha1};
+use sha2::Sha256;
 use std::fs::File;
 use std::io::{self, Read};
 
@@ -21,6 +22,14 @@ pub fn scramble() -> io::Result<[u8; 20]> {
     File::open("/dev/urandom")?.read_exact(&mut bytes)?;
     bytes.iter_mut().for_each(|byte| *byte = 1 + *byte % 126);
     Ok(bytes)
+}
+
+fn sha1(message: &[u8]) -> [u8; 20] {
+    Sha1::digest(message).into()
+}
+
+fn sha256(message: &[u8]) -> [u8; 32] {
+    Sha256::digest(message).into()
 }
 
 fn masked<const N: usize>(one: [u8; N], other: [u8; N]) -> Vec<u8> {

@@ -1,5 +1,5 @@
 //! Speaks MySQL's client protocol over verified XA row stores in memory. README.md has the options.
-#![deny(unsafe_code)]
+#![forbid(unsafe_code)]
 
 mod answers;
 mod channel;
@@ -8,7 +8,6 @@ mod conversation;
 mod faults;
 mod follower;
 mod guest;
-mod hash;
 mod login;
 mod mirror;
 mod options;
@@ -16,21 +15,20 @@ mod packets;
 mod pool;
 mod port;
 mod record;
+mod sql;
 mod statements;
 mod status;
 mod stop;
 mod store;
-#[allow(unsafe_code)]
 mod system;
-#[cfg(feature = "tls")]
-mod tls;
-#[cfg(not(feature = "tls"))]
-#[path = "no_tls.rs"]
 mod tls;
 mod tokens;
+mod variables;
+mod waits;
 
-use options::{Options, Wanted};
+use options::Options;
 use port::Port;
+use serde_json::{json, Value as Json};
 use std::fs;
 use std::net::Shutdown;
 use std::os::unix::fs::MetadataExt;
@@ -50,35 +48,19 @@ const WRITES: Duration = Duration::from_secs(1);
 const LAST: Duration = Duration::from_secs(10);
 
 fn main() -> ExitCode {
-    let options = match words().and_then(|words| options::read(words.into_iter())) {
-        Ok(Wanted::Serve(options)) => Arc::new(*options),
-        Ok(Wanted::Help) => {
-            print!("{}", options::HELP);
-            return ExitCode::SUCCESS;
-        }
-        Ok(Wanted::Version) => {
-            println!("nigbaru-server {}", env!("CARGO_PKG_VERSION"));
-            return ExitCode::SUCCESS;
-        }
+    let options = match options::read(std::env::args_os()) {
+        Ok(options) => Arc::new(options),
         Err(why) => return give_up(2, &why),
     };
     let watch = match Watch::begin(options.fault.as_deref(), options.stores) {
         Ok(watch) => watch,
         Err(why) => return give_up(2, &why),
     };
-    system::listen_for_signals();
     system::allow_open_files();
     match Server::open(&options, watch) {
         Ok(server) => server.run(),
         Err(why) => give_up(1, &format!("it doesn't start: {}", why)),
     }
-}
-
-/// The words of the command line.
-fn words() -> Result<Vec<String>, String> {
-    let text =
-        |word: std::ffi::OsString| word.into_string().map_err(|word| format!("{} isn't UTF-8", word.to_string_lossy()));
-    std::env::args_os().skip(1).map(text).collect()
 }
 
 fn give_up(status: u8, why: &str) -> ExitCode {
@@ -128,11 +110,7 @@ impl<'a> Watch<'a> {
         }
         self.seen = looks;
         match self.read(path) {
-            Ok(plans) => {
-                let count: usize = plans.iter().map(|plan| plan.faults.len()).sum();
-                say(&format!("the faults are read again: {} of all stores, and counts begin anew", count));
-                Some(plans)
-            }
+            Ok(plans) => Some(plans),
             Err(why) => {
                 say(&format!("the faults stay as they were: {}", why));
                 None
@@ -153,6 +131,7 @@ struct Server<'a> {
 impl<'a> Server<'a> {
     fn open(options: &Arc<Options>, watch: Watch<'a>) -> Result<Server<'a>, String> {
         let stop = Arc::new(Stop::default());
+        stop.listen_for_signals().map_err(|fault| format!("signals can't be listened for: {}", fault))?;
         let (mut stores, mut found) = (Vec::new(), Vec::new());
         for number in 1..=options.stores {
             let store = Arc::new(Store::open(number, options, &stop)?);
@@ -177,10 +156,13 @@ impl<'a> Server<'a> {
     /// Serves until a signal comes, or a file can't be written; the exit status.
     fn run(mut self) -> ExitCode {
         let mut written = Instant::now();
-        while !system::was_signalled() && !self.stop.is_over() {
+        while !self.stop.is_over() {
             thread::sleep(TICK);
             if let Some(plans) = self.watch.changed() {
                 self.set_faults(&plans);
+                // (told once they hold in all stores: who waits for this line sends nothing that isn't counted)
+                let count: usize = plans.iter().map(|plan| plan.faults.len()).sum();
+                say(&format!("the faults are read again: {} of all stores, and counts begin anew", count));
             }
             for store in &self.stores {
                 store.hand_over();
@@ -210,10 +192,10 @@ impl<'a> Server<'a> {
             Some(path) => path,
             None => return Ok(()),
         };
-        let stores: Vec<String> = self.stores.iter().map(|store| status::json_of(store)).collect();
+        let stores: Vec<Json> = self.stores.iter().map(|store| status::json_of(store)).collect();
         let mut next = path.clone().into_os_string();
         next.push(".next");
-        let text = format!("{{\"stores\":[{}]}}\n", stores.join(","));
+        let text = format!("{}\n", json!({ "stores": stores }));
         fs::write(&next, text)
             .and_then(|()| fs::rename(&next, path))
             .map_err(|fault| format!("{}: {}", path.display(), fault))
@@ -222,7 +204,10 @@ impl<'a> Server<'a> {
     /// Accepts nobody further, lets statements end, and writes what is to be written.
     fn end(self) -> ExitCode {
         self.stop.end();
-        self.stores.iter().for_each(|store| store.pool.close());
+        self.stores.iter().for_each(|store| {
+            store.pool.close();
+            store.waits.close();
+        });
         let began = Instant::now();
         // (a unix socket that somebody has removed can't be woken, and isn't waited for)
         while self.threads.iter().any(|it| !it.is_finished()) && began.elapsed() < WRITES {

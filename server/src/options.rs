@@ -2,132 +2,167 @@
 use crate::channel::Limits;
 use crate::login::{Account, NATIVE, SHA2};
 use crate::tls::Keys;
+use clap::builder::NonEmptyStringValueParser;
+use clap::error::{ContextKind, ContextValue, ErrorKind};
+use clap::Parser;
+use std::error::Error;
+use std::ffi::OsString;
 use std::net::IpAddr;
 use std::path::{Component, Path, PathBuf};
 use std::time::Duration;
 
-pub const HELP: &str = "\
-Speaks MySQL's client protocol over stores in memory, so that MySQL's clients drive them.
-
-Usage: nigbaru-server [OPTIONS]
-
-  --stores N             how many stores, 1 to 64, each with a port of its own [1]
-  --port N               the first store's port; the others follow; 0 takes free ones [3306]
-  --host H               where to listen; elsewhere than on loopback only with an account [127.0.0.1]
-  --socket PATH          a unix socket too; with several stores PATH.1, PATH.2 and so on
-  --user U               the one user that is let in
-  --password-file F      its first line is the user's password
-  --auth PLUGIN          the plugin that the greeting names: mysql_native_password or caching_sha2_password [mysql_native_password]
-  --tls-cert FILE        the server's certificate in PEM, for clients that ask for TLS
-  --tls-key FILE         its private key in PEM
-  --fault FILE           faults on purpose; the file is read again when it changes
-  --record FILE          a record for `xa_script judge`; with several stores FILE.1, FILE.2 and so on
-  --record-size BYTES    the record goes on in FILE.1, FILE.2 and so on, each after about so many bytes, 4096 to 16000000
-  --history FILE         what was logged, for `xa_script run`; with several stores FILE.1, FILE.2 and so on
-  --status FILE          what the stores do, in JSON, written anew each second
-  --max-connections N    connections of a store that have logged in [1000]
-  --max-logins N         connections of a store that haven't [as --max-connections]
-  --wait SECONDS         how long a statement waits for one of the store's 16 sessions; 0: not at all [5]
-  --patience SECONDS     how long a login, the rest of a packet, and a client that takes no answers are waited for [10]
-  --idle SECONDS         how long the next command is waited for; 0: for ever [0]
-  --max-packet BYTES     the longest packet that is read, 1024 to 16777214 [65536]
-  --rows N               how many of the last entries of its history a store keeps, 64 to 65536 [1024]
-  --help, --version
-";
-
-#[derive(Clone, Debug)]
+/// Speaks MySQL's client protocol over stores in memory, so that MySQL's clients drive them.
+#[derive(Clone, Debug, Parser)]
+#[command(name = "nigbaru-server", version, args_override_self = true, allow_negative_numbers = true)]
 pub struct Options {
+    /// How many stores, 1 to 64, each with a port of its own
+    #[arg(long, value_name = "N", default_value = "1", value_parser = number::<usize>(1, 64))]
     pub stores: usize,
+    /// The first store's port; the others follow; 0 takes free ones
+    #[arg(long, value_name = "N", default_value = "3306", value_parser = number::<u16>(0, 65_535))]
     pub port: u16,
+    /// Where to listen; elsewhere than on loopback only with an account
+    #[arg(long, value_name = "H", default_value = "127.0.0.1", value_parser = NonEmptyStringValueParser::new())]
     pub host: String,
+    /// A unix socket too; with several stores PATH.1, PATH.2 and so on
+    #[arg(long, value_name = "PATH")]
     pub socket: Option<PathBuf>,
+    /// The one user that is let in
+    #[arg(long, value_name = "U", value_parser = NonEmptyStringValueParser::new())]
+    user: Option<String>,
+    /// Its first line is the user's password
+    #[arg(long, value_name = "F")]
+    password_file: Option<PathBuf>,
+    #[arg(skip)]
     pub account: Option<Account>,
+    /// The plugin that the greeting names: mysql_native_password or caching_sha2_password
+    #[arg(long, value_name = "PLUGIN", default_value = NATIVE, value_parser = plugin)]
     pub auth: &'static str,
+    /// The server's certificate in PEM, for clients that ask for TLS
+    #[arg(long, value_name = "FILE")]
+    tls_cert: Option<PathBuf>,
+    /// Its private key in PEM
+    #[arg(long, value_name = "FILE")]
+    tls_key: Option<PathBuf>,
+    #[arg(skip)]
     pub tls: Option<Keys>,
+    /// Faults on purpose; the file is read again when it changes
+    #[arg(long, value_name = "FILE")]
     pub fault: Option<PathBuf>,
+    /// A record for `xa_script judge`; with several stores FILE.1, FILE.2 and so on
+    #[arg(long, value_name = "FILE")]
     pub record: Option<PathBuf>,
+    /// The record goes on in FILE.1, FILE.2 and so on, each after about so many bytes, 4096 to 16000000
+    // (pieces are a little longer than that, and `judge` reads 16 MiB)
+    #[arg(long, value_name = "BYTES", value_parser = number::<u64>(4_096, 16_000_000))]
     pub record_size: Option<u64>,
+    /// What was logged, for `xa_script run`; with several stores FILE.1, FILE.2 and so on
+    #[arg(long, value_name = "FILE")]
     pub history: Option<PathBuf>,
+    /// What the stores do, in JSON, written anew each second
+    #[arg(long, value_name = "FILE")]
     pub status: Option<PathBuf>,
+    /// Connections of a store that have logged in
+    #[arg(long = "max-connections", value_name = "N", default_value = "1000")]
+    #[arg(value_parser = number::<usize>(1, 100_000))]
     pub connections: usize,
-    pub logins: usize,
+    /// Connections of a store that haven't [default: as --max-connections]
+    #[arg(long, value_name = "N", value_parser = number::<usize>(1, 100_000))]
+    max_logins: Option<usize>,
+    /// How long a statement waits for one of the store's 16 sessions; 0: not at all
+    #[arg(long, value_name = "SECONDS", default_value = "5", value_parser = seconds(0.0))]
     pub wait: Duration,
+    /// GET gives its value as a text, and not as bytes
+    #[arg(long)]
+    pub text_values: bool,
+    /// How long GET, PUT and DEL wait for a row that another branch holds; 0: they are refused at once, with 3572
+    #[arg(long, value_name = "SECONDS", default_value = "0", value_parser = seconds(0.0))]
+    pub lock_wait: Duration,
+    #[command(flatten)]
     pub limits: Limits,
+    /// How many of the last entries of its history a store keeps, 64 to 65536
+    #[arg(long, value_name = "N", default_value = "1024", value_parser = number::<u64>(64, 65_536))]
     pub rows: u64,
 }
 
-pub enum Wanted {
-    Serve(Box<Options>),
-    Help,
-    Version,
-}
+// values
 
-/// The words of the command line by their options.
-struct Words {
-    given: Vec<(String, String)>,
-}
-
-const NAMES: [&str; 21] = [
-    "stores",
-    "port",
-    "host",
-    "socket",
-    "user",
-    "password-file",
-    "auth",
-    "tls-cert",
-    "tls-key",
-    "fault",
-    "record",
-    "record-size",
-    "history",
-    "status",
-    "max-connections",
-    "max-logins",
-    "wait",
-    "patience",
-    "idle",
-    "max-packet",
-    "rows",
-];
-
-impl Words {
-    fn read(words: impl Iterator<Item = String>) -> Result<Words, String> {
-        let (mut given, mut words) = (Vec::new(), words);
-        while let Some(word) = words.next() {
-            let name = word
-                .strip_prefix("--")
-                .filter(|it| !it.is_empty())
-                .ok_or_else(|| format!("{} isn't an option", word))?;
-            let (name, value) = match name.split_once('=') {
-                Some((name, value)) => (name.to_string(), Some(value.to_string())),
-                None => (name.to_string(), None),
-            };
-            if !NAMES.contains(&name.as_str()) {
-                return Err(format!("--{} isn't an option", name));
-            }
-            // (a word that looks like an option isn't the value of the one before it)
-            let value = value
-                .or_else(|| words.next().filter(|it| !it.starts_with("--")))
-                .filter(|it| !it.is_empty())
-                .ok_or_else(|| format!("--{} takes a value", name))?;
-            given.push((name, value));
-        }
-        Ok(Words { given })
+/// A number of a range; what is refused is told behind "takes".
+pub fn number<T: TryFrom<u64>>(least: u64, most: u64) -> impl Fn(&str) -> Result<T, String> + Clone {
+    move |word| {
+        let number = word.parse().ok().filter(|it| (least..=most).contains(it));
+        number.and_then(|it| T::try_from(it).ok()).ok_or_else(|| format!("a number from {} to {}", least, most))
     }
+}
 
-    /// The last value that an option was given.
-    fn text(&self, name: &str) -> Option<&str> {
-        self.given.iter().rev().find(|(it, _)| it == name).map(|(_, value)| value.as_str())
+pub fn seconds(least: f64) -> impl Fn(&str) -> Result<Duration, String> + Clone {
+    move |word| {
+        let seconds = word.parse().ok().filter(|it: &f64| (least..=86_400.0).contains(it));
+        seconds.map(Duration::from_secs_f64).ok_or_else(|| format!("seconds from {} to 86400", least))
+    }
+}
+
+fn plugin(word: &str) -> Result<&'static str, String> {
+    [NATIVE, SHA2].into_iter().find(|it| *it == word).ok_or_else(|| format!("{} or {}", NATIVE, SHA2))
+}
+
+// all of it
+
+/// The options that a command line has. If it asks for help or the version, these are printed, and the process ends.
+pub fn read(words: impl Iterator<Item = OsString>) -> Result<Options, String> {
+    let mut options = match Options::try_parse_from(words) {
+        Ok(options) => options,
+        Err(fault) if fault.use_stderr() => return Err(told(&fault)),
+        Err(asked) => asked.exit(),
+    };
+    options.hold_files_apart()?;
+    if options.port > 0 && usize::from(options.port) + options.stores - 1 > 65_535 {
+        return Err("there are no ports for so many stores".to_string());
+    }
+    if options.record_size.is_some() && options.record.is_none() {
+        return Err("--record-size goes with --record".to_string());
+    }
+    options.account = options.read_account()?;
+    options.tls = options.read_keys()?;
+    Ok(options)
+}
+
+/// What is wrong with a command line, in one line.
+fn told(fault: &clap::Error) -> String {
+    let said = |kind| match fault.get(kind) {
+        Some(ContextValue::String(said)) => said.as_str(),
+        _ => "",
+    };
+    let (option, value) = (said(ContextKind::InvalidArg), said(ContextKind::InvalidValue));
+    // (clap puts the value's name behind the option's)
+    let name = option.split(' ').next().unwrap_or(option);
+    match (fault.kind(), fault.source()) {
+        (ErrorKind::UnknownArgument, _) => format!("{} isn't an option: --help lists them", name),
+        (ErrorKind::InvalidValue, _) => format!("{} takes a value", name),
+        (ErrorKind::ValueValidation, Some(what)) => format!("{} takes {}, not {}", name, what, value),
+        (ErrorKind::InvalidUtf8, _) => "a word of the command line isn't UTF-8".to_string(),
+        _ => fault.to_string(),
+    }
+}
+
+impl Options {
+    /// How many connections of a store may be there that haven't logged in.
+    pub fn logins(&self) -> usize {
+        self.max_logins.unwrap_or(self.connections)
     }
 
     /// No file is named twice, since one would be written over the other.
     fn hold_files_apart(&self) -> Result<(), String> {
-        let names = ["fault", "record", "history", "status", "socket", "password-file"];
-        let plain =
-            |path: &str| Path::new(path).components().filter(|it| *it != Component::CurDir).collect::<PathBuf>();
-        let given: Vec<(&str, PathBuf)> =
-            names.iter().filter_map(|name| Some((*name, plain(self.text(name)?)))).collect();
+        let plain = |path: &PathBuf| path.components().filter(|it| *it != Component::CurDir).collect::<PathBuf>();
+        let named = [
+            ("fault", &self.fault),
+            ("record", &self.record),
+            ("history", &self.history),
+            ("status", &self.status),
+            ("socket", &self.socket),
+            ("password-file", &self.password_file),
+        ];
+        let given: Vec<_> = named.iter().filter_map(|(name, path)| Some((name, plain(path.as_ref()?)))).collect();
         for (index, (name, path)) in given.iter().enumerate() {
             if let Some((other, _)) = given[..index].iter().find(|(_, it)| it == path) {
                 return Err(format!("--{} and --{} name the same file", other, name));
@@ -136,129 +171,39 @@ impl Words {
         Ok(())
     }
 
-    fn path(&self, name: &str) -> Option<PathBuf> {
-        self.text(name).map(PathBuf::from)
-    }
-
-    fn number(&self, name: &str, least: u64, most: u64, usual: u64) -> Result<u64, String> {
-        match self.text(name) {
-            None => Ok(usual),
-            Some(word) => word
-                .parse()
-                .ok()
-                .filter(|it| (least..=most).contains(it))
-                .ok_or_else(|| format!("--{} takes a number from {} to {}, not {}", name, least, most, word)),
+    fn read_keys(&self) -> Result<Option<Keys>, String> {
+        match (&self.tls_cert, &self.tls_key) {
+            (Some(certificate), Some(key)) => Keys::read(certificate, key).map(Some),
+            (None, None) => Ok(None),
+            _ => Err("--tls-cert and --tls-key go together".to_string()),
         }
     }
 
-    fn seconds(&self, name: &str, least: f64, usual: f64) -> Result<Duration, String> {
-        let word = match self.text(name) {
-            None => return Ok(Duration::from_secs_f64(usual)),
-            Some(word) => word,
+    /// Who may log in. Elsewhere than on loopback nobody may without a password.
+    fn read_account(&self) -> Result<Option<Account>, String> {
+        let (user, file) = match (&self.user, &self.password_file) {
+            (Some(user), Some(file)) => (user, file),
+            (None, None) if is_loopback(&self.host) => return Ok(None),
+            (None, None) => {
+                return Err(format!(
+                    "--host {} can be reached from other machines, so it needs --user and --password-file",
+                    self.host
+                ))
+            }
+            _ => return Err("--user and --password-file go together".to_string()),
         };
-        let seconds = word.parse().ok().filter(|it: &f64| (least..=86_400.0).contains(it));
-        seconds
-            .map(Duration::from_secs_f64)
-            .ok_or_else(|| format!("--{} takes seconds from {} to 86400, not {}", name, least, word))
-    }
-}
-
-pub fn read(words: impl Iterator<Item = String>) -> Result<Wanted, String> {
-    let words: Vec<String> = words.collect();
-    if words.iter().any(|it| it == "--help") {
-        return Ok(Wanted::Help);
-    }
-    if words.iter().any(|it| it == "--version") {
-        return Ok(Wanted::Version);
-    }
-    let words = Words::read(words.into_iter())?;
-    words.hold_files_apart()?;
-    let host = words.text("host").unwrap_or("127.0.0.1").to_string();
-    let (stores, port) = (words.number("stores", 1, 64, 1)?, words.number("port", 0, 65_535, 3306)?);
-    if port > 0 && port + stores - 1 > 65_535 {
-        return Err("there are no ports for so many stores".to_string());
-    }
-    let connections = words.number("max-connections", 1, 100_000, 1_000)?;
-    Ok(Wanted::Serve(Box::new(Options {
-        stores: stores as usize,
-        port: port as u16,
-        account: account_of(&words, &host)?,
-        host,
-        auth: auth_of(&words)?,
-        tls: tls_of(&words)?,
-        socket: words.path("socket"),
-        fault: words.path("fault"),
-        record: words.path("record"),
-        record_size: record_size_of(&words)?,
-        history: words.path("history"),
-        status: words.path("status"),
-        connections: connections as usize,
-        logins: words.number("max-logins", 1, 100_000, connections)? as usize,
-        wait: words.seconds("wait", 0.0, 5.0)?,
-        limits: limits_of(&words)?,
-        rows: words.number("rows", 64, 65_536, 1_024)?,
-    })))
-}
-
-fn limits_of(words: &Words) -> Result<Limits, String> {
-    Ok(Limits {
-        patience: words.seconds("patience", 0.1, 10.0)?,
-        idle: words.seconds("idle", 0.0, 0.0)?,
-        longest: words.number("max-packet", 1_024, 16_777_214, 65_536)? as usize,
-    })
-}
-
-fn auth_of(words: &Words) -> Result<&'static str, String> {
-    match words.text("auth") {
-        None => Ok(NATIVE),
-        Some(name) => [NATIVE, SHA2]
-            .into_iter()
-            .find(|it| *it == name)
-            .ok_or_else(|| format!("--auth takes {} or {}", NATIVE, SHA2)),
-    }
-}
-
-/// Pieces are a little longer than their size, and `judge` reads 16 MiB.
-fn record_size_of(words: &Words) -> Result<Option<u64>, String> {
-    match words.text("record-size") {
-        None => Ok(None),
-        Some(_) if words.text("record").is_none() => Err("--record-size goes with --record".to_string()),
-        Some(_) => words.number("record-size", 4_096, 16_000_000, 0).map(Some),
-    }
-}
-
-fn tls_of(words: &Words) -> Result<Option<Keys>, String> {
-    match (words.path("tls-cert"), words.path("tls-key")) {
-        (Some(certificate), Some(key)) => Keys::read(&certificate, &key).map(Some),
-        (None, None) => Ok(None),
-        _ => Err("--tls-cert and --tls-key go together".to_string()),
+        let text = std::fs::read(file).map_err(|fault| format!("--password-file {}: {}", file.display(), fault))?;
+        let line = text.split(|byte| *byte == b'\n').next().unwrap_or(b"");
+        let password = line.strip_suffix(b"\r").unwrap_or(line);
+        if password.is_empty() {
+            return Err(format!("--password-file {} has no password in its first line", file.display()));
+        }
+        Ok(Some(Account { user: user.as_bytes().to_vec(), password: password.to_vec() }))
     }
 }
 
 fn is_loopback(host: &str) -> bool {
     host.parse::<IpAddr>().map_or(host == "localhost", |it| it.is_loopback())
-}
-
-/// Who may log in. Elsewhere than on loopback nobody may without a password.
-fn account_of(words: &Words, host: &str) -> Result<Option<Account>, String> {
-    let (user, file) = match (words.text("user"), words.path("password-file")) {
-        (Some(user), Some(file)) => (user, file),
-        (None, None) if is_loopback(host) => return Ok(None),
-        (None, None) => {
-            return Err(format!(
-                "--host {} can be reached from other machines, so it needs --user and --password-file",
-                host
-            ))
-        }
-        _ => return Err("--user and --password-file go together".to_string()),
-    };
-    let text = std::fs::read(&file).map_err(|fault| format!("--password-file {}: {}", file.display(), fault))?;
-    let line = text.split(|byte| *byte == b'\n').next().unwrap_or(b"");
-    let password = line.strip_suffix(b"\r").unwrap_or(line);
-    if password.is_empty() {
-        return Err(format!("--password-file {} has no password in its first line", file.display()));
-    }
-    Ok(Some(Account { user: user.as_bytes().to_vec(), password: password.to_vec() }))
 }
 
 /// A store's file: the given path, with the store's number behind it where there are several.
@@ -274,19 +219,17 @@ pub fn path_of(path: &Path, store: usize, stores: usize) -> PathBuf {
 #[cfg(test)]
 mod tests {
     use super::*;
+    use std::os::unix::ffi::OsStringExt;
 
     fn options(words: &str) -> Result<Options, String> {
-        match read(words.split_whitespace().map(str::to_string))? {
-            Wanted::Serve(options) => Ok(*options),
-            _ => Err("something else is wanted".to_string()),
-        }
+        read(["nigbaru-server"].into_iter().chain(words.split_whitespace()).map(OsString::from))
     }
 
     #[test]
     fn what_is_usual() {
         let it = options("").unwrap();
         assert_eq!(
-            (it.stores, it.port, it.host.as_str(), it.connections, it.logins),
+            (it.stores, it.port, it.host.as_str(), it.connections, it.logins()),
             (1, 3306, "127.0.0.1", 1_000, 1_000)
         );
         assert_eq!(
@@ -294,7 +237,15 @@ mod tests {
             (Duration::from_secs(5), Duration::from_secs(10), Duration::ZERO, 65_536)
         );
         let it = options("--stores=2 --wait 0 --max-connections 30 --auth caching_sha2_password").unwrap();
-        assert_eq!((it.stores, it.wait, it.connections, it.logins, it.auth), (2, Duration::ZERO, 30, 30, SHA2));
+        assert_eq!((it.stores, it.wait, it.connections, it.logins(), it.auth), (2, Duration::ZERO, 30, 30, SHA2));
+        let waits = |words| options(words).unwrap().lock_wait;
+        assert_eq!((waits(""), waits("--lock-wait 1.5")), (Duration::ZERO, Duration::from_millis(1_500)));
+    }
+
+    #[test]
+    fn the_last_value_counts() {
+        let it = options("--stores 2 --stores 3 --max-logins 5 --max-logins 6").unwrap();
+        assert_eq!((it.stores, it.logins()), (3, 6));
     }
 
     #[test]
@@ -309,6 +260,7 @@ mod tests {
             ("--record r --record-size 16000001", "4096 to 16000000"),
             ("--wait -1", "seconds"),
             ("--wait nan", "seconds"),
+            ("--lock-wait -1", "seconds from 0 to 86400"),
             ("--port", "takes a value"),
             ("--socket=", "--socket takes a value"),
             ("--record= --port 0", "--record takes a value"),
@@ -319,12 +271,18 @@ mod tests {
             ("--record --history h", "takes a value"),
             ("--record r --history ./r", "same file"),
             ("--fault f --status f", "same file"),
-            ("--", "isn't an option"),
+            ("-- x", "isn't an option"),
             ("--=1", "isn't an option"),
+            ("-x", "isn't an option"),
+            ("--stor 1", "isn't an option"),
+            ("--port 65536", "0 to 65535"),
+            ("--rows 1e3", "64 to 65536, not 1e3"),
         ] {
             let why = options(words).unwrap_err();
-            assert!(why.contains(said), "{}: {}", words, why);
+            assert!(why.contains(said) && !why.contains('\n'), "{}: {}", words, why);
         }
+        let words = [&b"nigbaru-server"[..], b"--user", b"\xff"].map(|it| OsString::from_vec(it.to_vec()));
+        assert!(read(words.into_iter()).unwrap_err().contains("isn't UTF-8"));
     }
 
     #[test]

@@ -5,30 +5,40 @@
 pub const HEADER: usize = 4;
 /// The server's name must not hold the word MariaDB, or Connector/J asks for more than MySQL has.
 pub const VERSION: &str = "8.0.36-nigbaru";
-const UTF8MB4: u8 = 45;
-const BINARY: u16 = 63;
+pub const UTF8MB4: u8 = 45;
+pub const BINARY: u16 = 63;
 
 pub mod status {
     pub const NONE: u16 = 0;
     pub const IN_TRANSACTION: u16 = 1;
     pub const AUTOCOMMIT: u16 = 2;
+    /// Another answer follows.
+    pub const MORE: u16 = 8;
 }
 
 pub mod can {
+    /// An UPDATE's count is that of the rows that it finds, and not of those that it changes.
+    pub const FOUND_ROWS: u32 = 2;
     pub const CONNECT_WITH_DB: u32 = 8;
+    /// Not taken: some clients compress without being told that they may.
+    pub const COMPRESS: u32 = 0x20;
     pub const PROTOCOL_41: u32 = 0x200;
     pub const TLS: u32 = 0x800;
     pub const SECURE_CONNECTION: u32 = 0x8000;
+    pub const MULTI_STATEMENTS: u32 = 0x1_0000;
+    pub const MULTI_RESULTS: u32 = 0x2_0000;
     pub const PLUGIN_AUTH: u32 = 0x8_0000;
     pub const CONNECT_ATTRS: u32 = 0x10_0000;
     pub const PLUGIN_AUTH_LENENC: u32 = 0x20_0000;
-    /// Also a long password, found rows, long flags and transactions: 1, 2, 4 and 0x2000, of which nothing depends
-    /// here.
-    pub const ALL: u32 = 7
+    /// Also a long password, long flags and transactions: 1, 4 and 0x2000, of which nothing depends here.
+    pub const ALL: u32 = 5
+        | FOUND_ROWS
         | CONNECT_WITH_DB
         | PROTOCOL_41
         | 0x2000
         | SECURE_CONNECTION
+        | MULTI_STATEMENTS
+        | MULTI_RESULTS
         | PLUGIN_AUTH
         | CONNECT_ATTRS
         | PLUGIN_AUTH_LENENC;
@@ -39,7 +49,10 @@ pub mod command {
     pub const INIT_DB: u8 = 2;
     pub const QUERY: u8 = 3;
     pub const FIELD_LIST: u8 = 4;
+    pub const SHUTDOWN: u8 = 8;
     pub const STATISTICS: u8 = 9;
+    pub const PROCESS_INFO: u8 = 10;
+    pub const PROCESS_KILL: u8 = 12;
     pub const DEBUG: u8 = 13;
     pub const PING: u8 = 14;
     pub const CHANGE_USER: u8 = 17;
@@ -52,17 +65,32 @@ pub mod command {
     pub const RESET_CONNECTION: u8 = 31;
 }
 
-mod kind {
+pub mod kind {
+    pub const OLD_DECIMAL: u8 = 0;
     pub const TINY: u8 = 1;
     pub const SHORT: u8 = 2;
     pub const LONG: u8 = 3;
+    pub const FLOAT: u8 = 4;
+    pub const DOUBLE: u8 = 5;
     pub const NULL: u8 = 6;
     pub const LONGLONG: u8 = 8;
     pub const INT24: u8 = 9;
     pub const VARCHAR: u8 = 15;
+    pub const NEWDECIMAL: u8 = 246;
     pub const TINY_BLOB: u8 = 249;
+    pub const LONG_BLOB: u8 = 251;
+    pub const BLOB: u8 = 252;
     pub const VAR_STRING: u8 = 253;
     pub const STRING: u8 = 254;
+}
+
+/// What is said of a column beside its type.
+pub mod flag {
+    pub const NOT_NULL: u16 = 1;
+    pub const PRIMARY_KEY: u16 = 2;
+    pub const BLOB: u16 = 16;
+    pub const UNSIGNED: u16 = 32;
+    pub const BINARY: u16 = 128;
 }
 
 /// Bytes that are no packet of this protocol; the text says which.
@@ -86,21 +114,48 @@ impl From<&str> for Value {
     }
 }
 
-/// A column of a result set: numbers are LONGLONG, all else VAR_STRING; both are binary.
+/// A column of a result set.
 #[derive(Clone, Debug, PartialEq, Eq)]
 pub struct Column {
     pub name: Vec<u8>,
-    pub is_number: bool,
+    pub kind: u8,
+    pub charset: u16,
     pub length: u32,
+    pub flags: u16,
+    pub decimals: u8,
 }
 
 impl Column {
+    /// A LONGLONG, which is never null.
     pub fn number(name: &str) -> Column {
-        Column { name: name.as_bytes().to_vec(), is_number: true, length: 10 }
+        let flags = flag::NOT_NULL | flag::BINARY;
+        Column { kind: kind::LONGLONG, length: 10, flags, ..Column::text(name, 0) }
     }
 
+    /// A VAR_STRING of bytes.
     pub fn text(name: &str, length: u32) -> Column {
-        Column { name: name.as_bytes().to_vec(), is_number: false, length }
+        let (name, kind) = (name.as_bytes().to_vec(), kind::VAR_STRING);
+        Column { name, kind, charset: BINARY, length, flags: 0, decimals: 0 }
+    }
+
+    /// A VAR_STRING of signs, in which the server says something of itself or of tables.
+    pub fn said(name: &str, length: u32) -> Column {
+        Column { charset: UTF8MB4.into(), ..Column::text(name, 4 * length) }
+    }
+
+    /// Whether its values are whole numbers.
+    pub fn is_whole(&self) -> bool {
+        matches!(self.kind, kind::TINY | kind::SHORT | kind::LONG | kind::LONGLONG)
+    }
+
+    /// How many bytes a number of this column has in a binary row.
+    fn width(&self) -> usize {
+        match self.kind {
+            kind::TINY => 1,
+            kind::SHORT => 2,
+            kind::LONG => 4,
+            _ => 8,
+        }
     }
 }
 
@@ -226,21 +281,23 @@ impl Out {
             it.extend(b"\x03def\0\0\0");
             put_text(it, &column.name);
             it.extend(b"\0\x0c");
-            it.extend(BINARY.to_le_bytes());
+            it.extend(column.charset.to_le_bytes());
             it.extend(column.length.to_le_bytes());
-            it.push(if column.is_number { kind::LONGLONG } else { kind::VAR_STRING });
-            // A number is never null, and both kinds are binary.
-            it.extend(if column.is_number { 129u16 } else { 0 }.to_le_bytes());
-            it.extend([0; 3]);
+            it.push(column.kind);
+            it.extend(column.flags.to_le_bytes());
+            it.extend([column.decimals, 0, 0]);
         });
     }
 
     /// A row as answered to a text.
-    fn text_row(&mut self, row: &[Value]) {
+    fn text_row(&mut self, columns: &[Column], row: &[Value]) {
         self.packet(|it| {
-            for value in row {
+            for (value, column) in row.iter().zip(columns) {
                 match value {
                     Value::Null => it.push(0xfb),
+                    Value::Number(number) if column.flags & flag::UNSIGNED != 0 => {
+                        put_text(it, (*number as u64).to_string().as_bytes())
+                    }
                     Value::Number(number) => put_text(it, number.to_string().as_bytes()),
                     Value::Text(text) => put_text(it, text),
                 }
@@ -249,7 +306,7 @@ impl Out {
     }
 
     /// A row as answered to a prepared statement.
-    fn binary_row(&mut self, row: &[Value]) {
+    fn binary_row(&mut self, columns: &[Column], row: &[Value]) {
         self.packet(|it| {
             it.push(0);
             let nulls = it.len();
@@ -257,7 +314,7 @@ impl Out {
             for (index, value) in row.iter().enumerate() {
                 match value {
                     Value::Null => it[nulls + (index + 2) / 8] |= 1 << ((index + 2) % 8),
-                    Value::Number(number) => it.extend(number.to_le_bytes()),
+                    Value::Number(number) => it.extend(&number.to_le_bytes()[..columns[index].width()]),
                     Value::Text(text) => put_text(it, text),
                 }
             }
@@ -271,9 +328,9 @@ impl Out {
         self.end_of_rows(status);
         for row in rows {
             if is_binary {
-                self.binary_row(row);
+                self.binary_row(columns, row);
             } else {
-                self.text_row(row);
+                self.text_row(columns, row);
             }
         }
         self.end_of_rows(status);
@@ -442,12 +499,36 @@ pub type Kind = (u8, bool);
 /// A parameter's text, a number as its digits, or nothing.
 pub type Parameter = Option<Vec<u8>>;
 
+/// Which parameters are taken: those of the store's statements, or also numbers with a point.
+#[derive(Clone, Copy, Debug, PartialEq, Eq)]
+pub enum Takes {
+    Wholes,
+    AllNumbers,
+}
+
+/// Whether a parameter is a number by its type.
+pub fn is_number((kind, _): Kind) -> bool {
+    let numbers = [
+        kind::OLD_DECIMAL,
+        kind::TINY,
+        kind::SHORT,
+        kind::LONG,
+        kind::FLOAT,
+        kind::DOUBLE,
+        kind::LONGLONG,
+        kind::INT24,
+        kind::NEWDECIMAL,
+    ];
+    numbers.contains(&kind)
+}
+
 /// The values of `count` parameters. Their kinds are those of the time before where the client leaves them out.
 pub fn read_execution(
     packet: &[u8],
     count: usize,
     kinds: &mut Vec<Kind>,
     long: &mut [Option<Vec<u8>>],
+    takes: Takes,
 ) -> Result<Vec<Parameter>, Malformed> {
     let mut it = Bytes::new(packet);
     it.take(5 + 1 + 4)?; // no cursors; once
@@ -469,7 +550,12 @@ pub fn read_execution(
         values.push(match long.get_mut(index).and_then(Option::take) {
             Some(sent) => Some(sent),
             None if nulls[index / 8] >> (index % 8) & 1 != 0 => None,
-            None => read_value(&mut it, kinds[index])?,
+            None => match (takes, kinds[index].0) {
+                (Takes::AllNumbers, kind::OLD_DECIMAL | kind::NEWDECIMAL) => Some(it.text_encoded()?.to_vec()),
+                (Takes::AllNumbers, kind::FLOAT) => Some(f32::from_bits(it.number(4)? as u32).to_string().into_bytes()),
+                (Takes::AllNumbers, kind::DOUBLE) => Some(f64::from_bits(it.number(8)?).to_string().into_bytes()),
+                _ => read_value(&mut it, kinds[index])?,
+            },
         });
     }
     Ok(values)
@@ -557,7 +643,7 @@ mod tests {
         packet.extend(u64::MAX.to_le_bytes());
         packet.extend(b"\x02ab");
         let mut kinds = Vec::new();
-        let read = read_execution(&packet, 6, &mut kinds, &mut []).unwrap();
+        let read = read_execution(&packet, 6, &mut kinds, &mut [], Takes::Wholes).unwrap();
         let texts: Vec<_> =
             read.iter().map(|it| it.as_ref().map(|text| String::from_utf8(text.clone()).unwrap())).collect();
         assert_eq!(
@@ -566,13 +652,14 @@ mod tests {
                 .map(|it| it.map(str::to_string))
         );
         assert_eq!(kinds[1], (kind::TINY, true));
-        assert!(read_execution(&[0x17; 12], 1, &mut Vec::new(), &mut []).is_err());
+        assert!(read_execution(&[0x17; 12], 1, &mut Vec::new(), &mut [], Takes::Wholes).is_err());
     }
 
     #[test]
     fn a_null_in_a_binary_row() {
         let mut out = Out::new();
-        out.binary_row(&[Value::Number(2), Value::Text(b"a".to_vec()), Value::Null]);
+        let columns = [Column::number("n"), Column::text("a", 1), Column::text("b", 1)];
+        out.binary_row(&columns, &[Value::Number(2), Value::Text(b"a".to_vec()), Value::Null]);
         assert_eq!(&out.bytes()[4..], b"\0\x10\x02\0\0\0\0\0\0\0\x01a");
     }
 
@@ -588,7 +675,9 @@ mod tests {
                 .collect();
             draw = draw.wrapping_add(12_345);
             let _ = (read_login(&noise), statement_number(&noise), read_long_data(&noise));
-            let _ = read_execution(&noise, (draw % 5) as usize, &mut Vec::new(), &mut [None]);
+            for takes in [Takes::Wholes, Takes::AllNumbers] {
+                let _ = read_execution(&noise, (draw % 5) as usize, &mut Vec::new(), &mut [None], takes);
+            }
             if !noise.is_empty() {
                 let _ = read_change(&noise, can::ALL);
             }

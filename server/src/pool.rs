@@ -8,7 +8,7 @@
 //!
 //! A session that is lent lies behind a lock of its own, which its connection takes for each statement. So others can
 //! use it between two statements for what changes nothing: to see how the history goes on.
-use nigbaru::{Error, Reply, Session, Store};
+use nigbaru::{Error, Reply, Session, Statement, Store};
 use std::collections::VecDeque;
 use std::sync::atomic::{fence, AtomicBool, AtomicUsize, Ordering};
 use std::sync::{Arc, Mutex, MutexGuard};
@@ -33,6 +33,9 @@ struct Inner {
     places: Vec<Mutex<Place>>,
     /// How many threads wait for a session, which who gives one back looks at.
     waiting: AtomicUsize,
+    /// How many are lent for branches, and whether one is kept for statements.
+    branches: AtomicUsize,
+    keeps_one: AtomicBool,
     /// Whether nobody waits any more.
     is_closed: AtomicBool,
     queue: Mutex<Queue>,
@@ -79,8 +82,9 @@ impl Queue {
         }
     }
 
-    fn next(&self) -> Option<&Arc<Waiter>> {
-        let is_their_turn = self.short.is_empty() || self.passed >= BEFORE_A_BRANCH && !self.long.is_empty();
+    fn next(&self, may_begin: bool) -> Option<&Arc<Waiter>> {
+        let is_their_turn =
+            self.short.is_empty() || may_begin && self.passed >= BEFORE_A_BRANCH && !self.long.is_empty();
         (if is_their_turn { &self.long } else { &self.short }).front()
     }
 
@@ -106,8 +110,16 @@ fn lock<T>(mutex: &Mutex<T>) -> MutexGuard<'_, T> {
 impl Pool {
     pub fn new(store: Store, sessions: usize) -> Pool {
         let places = (0..sessions).map(|_| Mutex::new(Place { session: None, is_lent: false, seen: 0 })).collect();
-        let (waiting, is_closed) = (AtomicUsize::new(0), AtomicBool::new(false));
-        Pool { inner: Arc::new(Inner { store, places, waiting, is_closed, queue: Mutex::default() }) }
+        let inner = Inner {
+            store,
+            places,
+            waiting: AtomicUsize::new(0),
+            branches: AtomicUsize::new(0),
+            keeps_one: AtomicBool::new(false),
+            is_closed: AtomicBool::new(false),
+            queue: Mutex::default(),
+        };
+        Pool { inner: Arc::new(inner) }
     }
 
     /// The session of a place, lent or not.
@@ -125,24 +137,50 @@ impl Pool {
 
     /// A session, that of a place if it is free; none if all are lent for so long.
     pub fn take(&self, place: usize, patience: Duration, need: Need) -> Result<Option<Lent>, Error> {
-        match self.free(place)? {
+        match self.free(place, need)? {
             Some(lent) => Ok(Some(lent)),
             None if patience.is_zero() => Ok(None),
             None => self.wait(place, patience, need),
         }
     }
 
-    fn free(&self, first: usize) -> Result<Option<Lent>, Error> {
+    fn free(&self, first: usize, need: Need) -> Result<Option<Lent>, Error> {
+        let most = self.branches();
+        let next = |count: usize| Some(count + 1).filter(|it| *it <= most);
+        let branches = &self.inner.branches;
+        if need == Need::Branch && branches.fetch_update(Ordering::SeqCst, Ordering::SeqCst, next).is_err() {
+            return Ok(None);
+        }
+        let found = self.free_place(first, need);
+        if need == Need::Branch && !matches!(found, Ok(Some(_))) {
+            branches.fetch_sub(1, Ordering::SeqCst);
+        }
+        found
+    }
+
+    /// For how many branches sessions may be lent.
+    fn branches(&self) -> usize {
+        self.size() - usize::from(self.inner.keeps_one.load(Ordering::SeqCst))
+    }
+
+    fn free_place(&self, first: usize, need: Need) -> Result<Option<Lent>, Error> {
         let count = self.inner.places.len();
         for place in std::iter::once(first % count).chain(0..count) {
             let mut found = lock(&self.inner.places[place]);
             if !found.is_lent {
                 let session = self.session_of(place, &mut found)?;
                 found.is_lent = true;
-                return Ok(Some(Lent { session, number: place as u64 + 1, place, pool: self.clone() }));
+                return Ok(Some(Lent { session, number: place as u64 + 1, place, need, pool: self.clone() }));
             }
         }
         Ok(None)
+    }
+
+    /// While it is so the last session is lent for no branch, but for statements alone: so those that wait for rows
+    /// keep nobody from ending a prepared branch.
+    pub fn keep_one(&self, is_so: bool) {
+        self.inner.keeps_one.store(is_so, Ordering::SeqCst);
+        self.wake();
     }
 
     /// Waits in a queue. Whoever gives a session back wakes who is next. Until that thread runs anybody may take the
@@ -155,7 +193,7 @@ impl Pool {
         loop {
             // Either who gives back sees that somebody waits, or this thread sees the session that was given back.
             fence(Ordering::SeqCst);
-            let found = self.free(place);
+            let found = self.free(place, need);
             let left = deadline.saturating_duration_since(Instant::now());
             if !matches!(found, Ok(None)) || left.is_zero() || self.inner.is_closed.load(Ordering::SeqCst) {
                 self.leave(&waiter, matches!(found, Ok(Some(_))));
@@ -170,22 +208,33 @@ impl Pool {
         let mut queue = self.queue();
         queue.remove(waiter, has_one);
         self.inner.waiting.fetch_sub(1, Ordering::SeqCst);
-        if let Some(next) = queue.next() {
+        if let Some(next) = queue.next(self.may_begin()) {
             if self.inner.places.iter().any(|it| !lock(it).is_lent) {
                 next.thread.unpark();
             }
         }
     }
 
+    fn may_begin(&self) -> bool {
+        self.inner.branches.load(Ordering::SeqCst) < self.branches()
+    }
+
     fn queue(&self) -> MutexGuard<'_, Queue> {
         lock(&self.inner.queue)
     }
 
-    fn give_back(&self, place: usize) {
+    fn give_back(&self, place: usize, need: Need) {
         lock(&self.inner.places[place]).is_lent = false;
+        if need == Need::Branch {
+            self.inner.branches.fetch_sub(1, Ordering::SeqCst);
+        }
+        self.wake();
+    }
+
+    fn wake(&self) {
         fence(Ordering::SeqCst);
         if self.inner.waiting.load(Ordering::SeqCst) > 0 {
-            if let Some(next) = self.queue().next() {
+            if let Some(next) = self.queue().next(self.may_begin()) {
                 next.thread.unpark();
             }
         }
@@ -227,8 +276,8 @@ impl Pool {
     }
 
     /// Brings sessions up to date that idle, before the entries are overwritten that they haven't seen: the last `rows`
-    /// are kept. One that misses most of these, or more, is left alone until somebody needs it, since all rows may have
-    /// to be copied for it. Ends when it has taken as long as it may.
+    /// are kept. One that misses most of these, or more, is left alone until somebody needs it, since it would go on
+    /// from a checkpoint now as well as then. Ends when it has taken as long as it may.
     pub fn refresh(&self, rows: u64, most: Duration) {
         let began = Instant::now();
         let seen = self.seen();
@@ -254,22 +303,28 @@ pub struct Lent {
     session: Shared,
     pub number: u64,
     pub place: usize,
+    need: Need,
     pool: Pool,
 }
 
 impl Lent {
     /// Has a statement answered.
-    pub fn execute(&mut self, text: impl AsRef<[u8]>) -> Result<Reply, Error> {
-        lock(&self.session).execute(text)
+    pub fn ask(&mut self, statement: Statement) -> Result<Reply, Error> {
+        lock(&self.session).ask(statement)
+    }
+
+    /// How many entries of the history come before the last answer.
+    pub fn entries(&self) -> u64 {
+        lock(&self.session).place()
     }
 }
 
 impl Drop for Lent {
     fn drop(&mut self) {
         if std::thread::panicking() {
-            let _ = self.execute("DISCONNECT");
+            let _ = self.ask(Statement::Disconnect);
         }
-        self.pool.give_back(self.place);
+        self.pool.give_back(self.place, self.need);
     }
 }
 
@@ -325,12 +380,37 @@ mod tests {
             queue.push(&Arc::new(Waiter { thread: thread::current(), need }));
         }
         let mut order = Vec::new();
-        while let Some(next) = queue.next().cloned() {
+        while let Some(next) = queue.next(true).cloned() {
             queue.remove(&next, true);
             order.push(next.need);
         }
         let turns: Vec<usize> = (0..order.len()).filter(|at| order[*at] == Need::Branch).collect();
         assert_eq!((turns, order.len()), (vec![16, 33], 42));
+    }
+
+    /// The last session is kept for statements while that is wanted, and lent for a branch when it isn't any more.
+    #[test]
+    fn one_is_kept_for_statements() {
+        let pool = pool(2);
+        let take = |need| pool.take(0, Duration::ZERO, need).unwrap();
+        pool.keep_one(true);
+        let branch = take(Need::Branch).unwrap();
+        assert!(take(Need::Branch).is_none());
+        drop(take(Need::Statement).unwrap());
+        let waiting = {
+            let pool = pool.clone();
+            thread::spawn(move || pool.take(0, Duration::from_secs(30), Need::Branch).unwrap().is_some())
+        };
+        while pool.lent().1 == 0 {
+            thread::yield_now();
+        }
+        assert!(take(Need::Statement).is_some());
+        assert_eq!(pool.lent(), (1, 1));
+        pool.keep_one(false);
+        assert!(waiting.join().unwrap());
+        drop(branch);
+        pool.keep_one(true);
+        assert!(take(Need::Branch).is_some());
     }
 
     /// Whoever came first has it first, but those who need it for a statement come before those who begin a branch.
@@ -390,7 +470,8 @@ mod tests {
     fn sessions_that_idle() {
         let pool = pool(3);
         drop([take(&pool, 0).unwrap(), take(&pool, 1).unwrap()]);
-        let add = |count: usize| (0..count).for_each(|_| drop(take(&pool, 0).unwrap().execute("PUT 'k','v'").unwrap()));
+        let put = Statement::Put(b"k", b"v");
+        let add = |count: usize| (0..count).for_each(|_| drop(take(&pool, 0).unwrap().ask(put).unwrap()));
         let seen = || pool.seen().iter().map(|(_, _, seen)| *seen).collect::<Vec<_>>();
         add(20);
         assert_eq!(seen()[1], 0);
@@ -400,7 +481,7 @@ mod tests {
         add(60);
         pool.refresh(64, Duration::from_secs(60));
         assert_eq!(seen()[1], before);
-        assert_eq!(take(&pool, 1).unwrap().execute("GET 'k'").unwrap(), Reply::Value(b"v".to_vec()));
+        assert_eq!(take(&pool, 1).unwrap().ask(Statement::Get(b"k")).unwrap(), Reply::Value(b"v".to_vec()));
     }
 
     #[test]
@@ -412,7 +493,8 @@ mod tests {
                 thread::spawn(move || {
                     for turn in 0..500 {
                         let mut lent = pool.take(number, Duration::from_secs(60), Need::Branch).unwrap().unwrap();
-                        lent.execute(format!("PUT 'k{}','{}'", number, turn)).unwrap();
+                        let key = format!("k{}", number);
+                        lent.ask(Statement::Put(key.as_bytes(), turn.to_string().as_bytes())).unwrap();
                     }
                 })
             })

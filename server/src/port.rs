@@ -179,11 +179,11 @@ impl Port {
         }
         let connection = self.store.greet(peer, Arc::clone(&stream));
         let mut channel = Channel::new(stream, self.options.limits);
-        let place = match Count::of(&self.store, |it| &it.strangers, self.options.logins) {
+        let place = match Count::of(&self.store, |it| &it.strangers, self.options.logins()) {
             Some(place) => place,
             None => {
-                let _ =
-                    refuse(&mut channel, refusal_with(1040, "Too many connections that haven't logged in".to_string()));
+                let text = "Too many connections that haven't logged in (--max-logins; SHOW NIGBARU STATUS counts)";
+                let _ = refuse(&mut channel, refusal_with(1040, text.to_string()));
                 self.store.log(connection.number, "refused: too many that haven't logged in");
                 return self.store.forget(&connection);
             }
@@ -244,7 +244,10 @@ impl Port {
         let _place = match Count::soon(&self.store, |it| &it.logged_in, self.options.connections) {
             Some(place) => place,
             None => {
-                let text = format!("Too many connections: {} are let in (--max-connections)", self.options.connections);
+                let text = format!(
+                    "Too many connections: {} are let in (--max-connections; SHOW NIGBARU STATUS counts)",
+                    self.options.connections
+                );
                 let _ = refuse(conversation.channel(), refusal_with(1040, text));
                 return End::Refused(format!("{} are connected", self.options.connections));
             }

@@ -5,7 +5,7 @@ use crate::mirror::Mirror;
 use crate::pool::Lent;
 use crate::statements::write_literal;
 use crate::stop::Stop;
-use nigbaru::{Error, Reply};
+use nigbaru::{Error, Reply, Statement};
 use std::fs::{self, File};
 use std::io::{self, BufWriter, Write};
 use std::path::{Path, PathBuf};
@@ -77,13 +77,13 @@ impl Record {
         Some(Box::new(move |session, text| locked(&mirror).apply(session, text)))
     }
 
-    /// Asks the store, which is told a statement, and writes call and return with the statement's canonical text.
+    /// Asks the store, and writes call and return with the statement's canonical text.
     pub fn ask(
         &self,
         session: &mut Lent,
         follower: Option<&Follower>,
         text: &[u8],
-        told: &[u8],
+        asked: Statement,
         state: &str,
     ) -> Result<Reply, Error> {
         if self.is_full.load(Ordering::Relaxed) {
@@ -91,7 +91,7 @@ impl Record {
         }
         let _open = self.gate.read().unwrap_or_else(|poisoned| poisoned.into_inner());
         self.call(session.number, text);
-        let reply = session.execute(told);
+        let reply = session.ask(asked);
         self.returned(session.number, &reply, state);
         reply
     }

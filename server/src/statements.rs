@@ -1,22 +1,46 @@
-//! Reads statements by docs/STATEMENTS.md, and writes each anew: nothing but that ever reaches a store.
+//! Reads statements by docs/STATEMENTS.md. A store is asked by their values, and a record has each written anew, so
+//! that nothing else of a client's text reaches either.
 //!
 //! Besides what that page says, clients may write comments where blanks stand, `_binary` in front of a literal, `0x`
 //! for an empty bqual, and `?` for a literal or a formatID of a prepared statement. A formatID is at most 2^31-1, since
 //! Connector/J can list no greater one.
 use crate::packets::Parameter;
 use crate::tokens::{after_blanks, is_word_byte, quoted_at, run_at, LONGEST};
+use nigbaru::{Statement as Asked, Xid};
 
 const GREATEST: u64 = (1 << 31) - 1; // formatID
-const WORDS: [&str; 20] = [
+const WORDS: [&str; 22] = [
     "XA", "START", "BEGIN", "JOIN", "RESUME", "END", "SUSPEND", "FOR", "MIGRATE", "PREPARE", "COMMIT", "ONE", "PHASE",
-    "ROLLBACK", "RECOVER", "CONVERT", "XID", "GET", "PUT", "DEL",
+    "ROLLBACK", "RECOVER", "CONVERT", "XID", "FORMAT", "GET", "PUT", "DEL", "NULL",
 ];
 const INTRODUCER: &[u8] = b"_binary";
 
-/// A text that isn't a statement: the byte at which it goes wrong.
+/// What a value has to be, as a refusal says it.
+const KEY: &str = "the key is wanted, a text of 1 to 64 bytes";
+const VALUE: &str = "the value is wanted, a text of up to 64 bytes";
+const GTRID: &str = "the gtrid is wanted, a text of up to 64 bytes";
+const BQUAL: &str = "the bqual is wanted, a text of up to 64 bytes";
+const FORMAT: &str = "'RAW' or 'SQL' is wanted";
+const FORMAT_ID: &str = "the formatID is wanted, a number from 0 to 2147483647";
+
+/// A text that isn't a statement: the byte at which it goes wrong, why, and what value is wanted there.
 #[derive(Clone, Copy, Debug, PartialEq, Eq)]
 pub struct Fault {
     pub place: usize,
+    pub why: Why,
+    pub wanted: &'static str,
+}
+
+/// All but the first are of a value where a value may stand.
+#[derive(Clone, Copy, Debug, PartialEq, Eq)]
+pub enum Why {
+    Syntax,
+    TooLong,
+    Null,
+    /// It is empty, or a number where a text is wanted, or the other way round.
+    Unfit,
+    /// A name of a format that isn't known.
+    Format,
 }
 
 #[derive(Clone, Copy, Debug, PartialEq, Eq, Hash, PartialOrd, Ord)]
@@ -33,6 +57,17 @@ pub enum Kind {
     Del,
 }
 
+/// How XA RECOVER is to give identifiers.
+#[derive(Clone, Copy, Debug, PartialEq, Eq)]
+pub enum Shape {
+    /// Their bytes.
+    Raw,
+    /// `CONVERT XID`: in hexadecimal digits.
+    Digits,
+    /// `FORMAT='SQL'`: as a statement may have them.
+    Sql,
+}
+
 impl Kind {
     pub fn is_row(self) -> bool {
         matches!(self, Kind::Get | Kind::Put | Kind::Del)
@@ -45,18 +80,67 @@ pub struct Statement {
     pub kind: Kind,
     /// The statement in its canonical form.
     pub text: Vec<u8>,
-    /// What the store is told: the same statement, with literals in quotes where that is sure to be the same, since the
-    /// store reads these faster.
-    pub told: Vec<u8>,
+    values: Values,
     /// The part of the text that is its identifier or its key.
     subject: (usize, usize),
-    /// `XA RECOVER`: the client wants digits.
-    pub converts: bool,
+    pub shape: Shape,
+}
+
+/// By which values the store is asked.
+#[derive(Clone, Debug, PartialEq, Eq)]
+enum Values {
+    /// Of an identifier; a row's key, and of a PUT its value.
+    Branch(Xid),
+    Row(Vec<u8>, Vec<u8>),
+    /// None: it is XA RECOVER, or has a clause that the store refuses by name.
+    List,
+    Clause,
 }
 
 impl Statement {
     pub fn subject(&self) -> &[u8] {
         &self.text[self.subject.0..self.subject.1]
+    }
+
+    /// Whether it has JOIN, RESUME or SUSPEND, which no branch takes.
+    pub fn is_unsupported(&self) -> bool {
+        self.values == Values::Clause
+    }
+
+    /// What the store is asked.
+    pub fn asked(&self) -> Asked<'_> {
+        match &self.values {
+            Values::Branch(xid) => of_branch(self.kind, xid),
+            Values::Row(key, _) if self.kind == Kind::Get => Asked::Get(key),
+            Values::Row(key, value) if self.kind == Kind::Put => Asked::Put(key, value),
+            Values::Row(key, _) => Asked::Del(key),
+            Values::List => Asked::Recover,
+            Values::Clause => Asked::Text(&self.text),
+        }
+    }
+
+    /// The identifier or the key, with literals in quotes where that is sure to be read as the same.
+    pub fn readable_subject(&self) -> Vec<u8> {
+        let mut text = Vec::new();
+        match &self.values {
+            Values::Branch(xid) => {
+                write_readable(&mut text, &xid.gtrid);
+                text.push(b',');
+                write_readable(&mut text, &xid.bqual);
+                text.extend(format!(",{}", xid.format_id).as_bytes());
+            }
+            Values::Row(key, _) => write_readable(&mut text, key),
+            Values::List | Values::Clause => text.extend(self.subject()),
+        }
+        text
+    }
+
+    /// Of a row statement the key's bytes.
+    pub fn key(&self) -> Vec<u8> {
+        match &self.values {
+            Values::Row(key, _) => key.clone(),
+            _ => Vec::new(),
+        }
     }
 
     /// Of a PUT the value, in canonical form; of others nothing.
@@ -93,7 +177,7 @@ impl Token {
     }
 
     fn of_literal(place: usize, data: Vec<u8>) -> Token {
-        Token { place, literal: Some(data).filter(|data| data.len() <= LONGEST), ..Token::default() }
+        Token { place, literal: Some(data), ..Token::default() }
     }
 }
 
@@ -144,6 +228,7 @@ fn token_at(text: &[u8], place: usize) -> (Token, usize) {
         Some(b',') => (Token::sign(place, ","), place + 1),
         Some(b';') => (Token::sign(place, ";"), place + 1),
         Some(b'?') => (Token::sign(place, "?"), place + 1),
+        Some(b'=') => (Token::sign(place, "="), place + 1),
         Some(b'\'' | b'"') => quoted_at(text, place).map_or(lost, |(data, end)| (Token::of_literal(place, data), end)),
         Some(b'X' | b'x') if text.get(place + 1) == Some(&b'\'') => hexadecimal_at(text, place).unwrap_or(lost),
         Some(byte) if is_word_byte(*byte) => {
@@ -158,7 +243,7 @@ fn token_at(text: &[u8], place: usize) -> (Token, usize) {
 fn hexadecimal_at(text: &[u8], place: usize) -> Option<(Token, usize)> {
     let digits = run_at(text, place + 2);
     let end = place + 2 + digits.len();
-    if text.get(end) != Some(&b'\'') || digits.len() % 2 == 1 || digits.len() > 2 * LONGEST {
+    if text.get(end) != Some(&b'\'') || digits.len() % 2 == 1 {
         return None;
     }
     Some((Token::of_literal(place, of_digits(digits)?), end + 1))
@@ -185,7 +270,10 @@ struct Reader<'a> {
     token: Token,
     end: usize,
     written: Vec<u8>,
-    told: Vec<u8>,
+    /// What its literals stand for, and its formatID; and whether it has a clause that the store refuses.
+    literals: Vec<Vec<u8>>,
+    format_id: i64,
+    has_clause: bool,
 }
 
 /// The statement that a text is.
@@ -208,8 +296,8 @@ pub fn bind(text: &[u8], parameters: &[Parameter]) -> Result<Statement, Fault> {
 impl<'a> Reader<'a> {
     fn new(text: &'a [u8], given: Option<&'a [Parameter]>) -> Reader<'a> {
         let (token, end) = next_token(text, 0);
-        let (written, told) = (Vec::with_capacity(64), Vec::with_capacity(64));
-        Reader { text, given, parameters: 0, token, end, written, told }
+        let (written, literals) = (Vec::with_capacity(64), Vec::with_capacity(2));
+        Reader { text, given, parameters: 0, token, end, written, literals, format_id: 1, has_clause: false }
     }
 
     fn step(&mut self) -> Token {
@@ -219,7 +307,17 @@ impl<'a> Reader<'a> {
     }
 
     fn fail<T>(&self) -> Result<T, Fault> {
-        Err(Fault { place: self.token.place })
+        self.fail_by(Why::Syntax, "")
+    }
+
+    fn fail_by<T>(&self, why: Why, wanted: &'static str) -> Result<T, Fault> {
+        Err(Fault { place: self.token.place, why, wanted })
+    }
+
+    /// Whether a number stands here; with a sign it is no token.
+    fn is_number(&self) -> bool {
+        let rest = &self.text[self.token.place..];
+        self.token.number.is_some() || matches!(rest, [b'-' | b'+', b'0'..=b'9', ..])
     }
 
     /// One of these words, which is written.
@@ -241,14 +339,13 @@ impl<'a> Reader<'a> {
 
     fn write(&mut self, text: &str) {
         self.written.extend(text.as_bytes());
-        self.told.extend(text.as_bytes());
     }
 
-    /// Puts the value that is bound to a `?` in its place.
-    fn parameter(&mut self) {
+    /// Puts the value that is bound to a `?` in its place; whether one stood there.
+    fn parameter(&mut self) -> bool {
         let given = match self.given {
             Some(given) if self.token.word == "?" => given,
-            _ => return,
+            _ => return false,
         };
         let value = given.get(self.parameters).cloned().unwrap_or_else(|| Some(b"0".to_vec()));
         self.parameters += 1;
@@ -256,25 +353,28 @@ impl<'a> Reader<'a> {
             .as_ref()
             .filter(|it| !it.is_empty() && it.len() <= 20 && it.iter().all(u8::is_ascii_digit))
             .map(|it| number_of(it, 10));
-        self.token = Token {
-            place: self.token.place,
-            number,
-            literal: value.filter(|it| it.len() <= LONGEST),
-            ..Token::default()
-        };
+        let word = if value.is_none() { "NULL" } else { "" };
+        self.token = Token { place: self.token.place, word, number, literal: value, ..Token::default() };
+        true
     }
 
     /// A literal of at least so many bytes, written in its canonical form.
-    fn literal(&mut self, least: usize) -> Result<(), Fault> {
-        self.parameter();
+    fn literal(&mut self, least: usize, wanted: &'static str) -> Result<(), Fault> {
+        let is_bound = self.parameter();
         match self.token.literal.take() {
-            Some(data) if data.len() >= least => {
+            Some(data) if (least..=LONGEST).contains(&data.len()) => {
                 write_literal(&mut self.written, &data);
-                tell_literal(&mut self.told, &data);
+                self.literals.push(data);
                 self.step();
                 Ok(())
             }
-            _ => self.fail(),
+            // (for an identifier in a text MariaDB has faults of syntax alone)
+            _ if !is_bound && ![KEY, VALUE].contains(&wanted) => self.fail(),
+            Some(data) if data.len() > LONGEST => self.fail_by(Why::TooLong, wanted),
+            Some(_) => self.fail_by(Why::Unfit, wanted),
+            None if self.token.word == "NULL" => self.fail_by(Why::Null, wanted),
+            None if self.is_number() => self.fail_by(Why::Unfit, wanted),
+            None => self.fail(),
         }
     }
 
@@ -282,26 +382,28 @@ impl<'a> Reader<'a> {
         if self.token.is_no_digits {
             self.token.literal = Some(Vec::new());
         }
-        self.literal(0)
+        self.literal(0, BQUAL)
     }
 
     fn format_id(&mut self) -> Result<(), Fault> {
-        self.parameter();
+        let is_bound = self.parameter();
         match self.token.number {
             Some(number) if number <= GREATEST => {
                 self.write(&number.to_string());
+                self.format_id = number as i64;
                 self.step();
                 Ok(())
             }
+            _ if is_bound && self.token.word == "NULL" => self.fail_by(Why::Null, FORMAT_ID),
+            _ if is_bound => self.fail_by(Why::Unfit, FORMAT_ID),
             _ => self.fail(),
         }
     }
 
     fn xid(&mut self) -> Result<(), Fault> {
-        self.literal(0)?;
+        self.literal(0, GTRID)?;
         if !self.sees(",") {
-            // (the store is told less, which says the same)
-            self.written.extend(b",X'',1");
+            self.write(",X'',1");
             return Ok(());
         }
         self.write(",");
@@ -321,44 +423,47 @@ impl<'a> Reader<'a> {
         if !self.token.word.is_empty() || self.token.place != self.text.len() {
             return self.fail();
         }
-        let (text, told) = (std::mem::take(&mut self.written), std::mem::take(&mut self.told));
-        Ok(Statement { text, told, ..statement })
+        Ok(Statement { text: std::mem::take(&mut self.written), ..statement })
+    }
+
+    /// A statement of the values that were read; its text is still to be written.
+    fn made(&mut self, kind: Kind, subject: (usize, usize)) -> Statement {
+        let mut literals = std::mem::take(&mut self.literals).into_iter();
+        let (first, second) = (literals.next().unwrap_or_default(), literals.next().unwrap_or_default());
+        let values = match kind {
+            Kind::Recover => Values::List,
+            Kind::Get | Kind::Put | Kind::Del => Values::Row(first, second),
+            _ if self.has_clause => Values::Clause,
+            _ => Values::Branch(Xid { format_id: self.format_id, gtrid: first, bqual: second }),
+        };
+        Statement { kind, text: Vec::new(), values, subject, shape: Shape::Raw }
     }
 
     fn row(&mut self, verb: &str) -> Result<Statement, Fault> {
         self.write(verb);
         self.write(" ");
         let begin = self.written.len();
-        self.literal(1)?;
+        self.literal(1, KEY)?;
         let subject = (begin, self.written.len());
         if verb == "PUT" {
             self.word(&[","])?;
             self.write(",");
-            self.literal(0)?;
+            self.literal(0, VALUE)?;
         }
         let kind = match verb {
             "GET" => Kind::Get,
             "PUT" => Kind::Put,
             _ => Kind::Del,
         };
-        Ok(Statement { kind, text: Vec::new(), told: Vec::new(), subject, converts: false })
+        Ok(self.made(kind, subject))
     }
 
     fn xa(&mut self) -> Result<Statement, Fault> {
         let verb = self.word(&["START", "BEGIN", "END", "PREPARE", "COMMIT", "ROLLBACK", "RECOVER"])?;
         if verb == "RECOVER" {
-            let converts = self.sees("CONVERT");
-            if converts {
-                self.word(&["XID"])?;
-            }
+            let shape = self.shape()?;
             self.write("XA RECOVER CONVERT XID");
-            return Ok(Statement {
-                kind: Kind::Recover,
-                text: Vec::new(),
-                told: Vec::new(),
-                subject: (0, 0),
-                converts,
-            });
+            return Ok(Statement { shape, ..self.made(Kind::Recover, (0, 0)) });
         }
         let verb = if verb == "BEGIN" { "START" } else { verb };
         self.write("XA ");
@@ -367,7 +472,30 @@ impl<'a> Reader<'a> {
         let begin = self.written.len();
         self.xid()?;
         let subject = (begin, self.written.len());
-        Ok(Statement { kind: self.suffix(verb)?, text: Vec::new(), told: Vec::new(), subject, converts: false })
+        let kind = self.suffix(verb)?;
+        Ok(self.made(kind, subject))
+    }
+
+    /// What may stand behind XA RECOVER: CONVERT XID, or FORMAT = 'RAW' or 'SQL', as MariaDB has it.
+    fn shape(&mut self) -> Result<Shape, Fault> {
+        if self.sees("CONVERT") {
+            self.word(&["XID"])?;
+            return Ok(Shape::Digits);
+        }
+        if !self.sees("FORMAT") {
+            return Ok(Shape::Raw);
+        }
+        self.word(&["="])?;
+        let named = |name: &[u8]| self.token.literal.as_ref().map_or(false, |it| it.eq_ignore_ascii_case(name));
+        let shape = if named(b"raw") { Some(Shape::Raw) } else { Some(Shape::Sql).filter(|_| named(b"sql")) };
+        match shape {
+            Some(shape) => {
+                self.step();
+                Ok(shape)
+            }
+            None if self.token.literal.is_some() => self.fail_by(Why::Format, FORMAT),
+            None => self.fail(),
+        }
     }
 
     /// What may stand behind an identifier. All but ONE PHASE is read so that the store can refuse it by name.
@@ -378,6 +506,7 @@ impl<'a> Reader<'a> {
                     let word = self.step().word;
                     self.write(" ");
                     self.write(word);
+                    self.has_clause = true;
                 }
                 Ok(Kind::Start)
             }
@@ -390,6 +519,7 @@ impl<'a> Reader<'a> {
             "END" => {
                 if self.sees("SUSPEND") {
                     self.write(" SUSPEND");
+                    self.has_clause = true;
                     if self.sees("FOR") {
                         self.word(&["MIGRATE"])?;
                         self.write(" FOR MIGRATE");
@@ -401,6 +531,45 @@ impl<'a> Reader<'a> {
             _ => Ok(Kind::Rollback),
         }
     }
+}
+
+/// What the store is asked about a branch.
+fn of_branch(kind: Kind, xid: &Xid) -> Asked<'_> {
+    match kind {
+        Kind::Start => Asked::Start(xid),
+        Kind::End => Asked::End(xid),
+        Kind::Prepare => Asked::Prepare(xid),
+        Kind::Commit => Asked::Commit(xid),
+        Kind::OnePhase => Asked::CommitOnePhase(xid),
+        _ => Asked::Rollback(xid),
+    }
+}
+
+/// A statement about a row that the server makes of its own; only a PUT has a value.
+pub fn of_row(kind: Kind, key: &[u8], value: &[u8]) -> Statement {
+    let (verb, value): (&[u8], &[u8]) = match kind {
+        Kind::Get => (b"GET ", b""),
+        Kind::Put => (b"PUT ", value),
+        _ => (b"DEL ", b""),
+    };
+    let mut text = verb.to_vec();
+    write_literal(&mut text, key);
+    let subject = (verb.len(), text.len());
+    if kind == Kind::Put {
+        text.push(b',');
+        write_literal(&mut text, value);
+    }
+    Statement { kind, text, values: Values::Row(key.to_vec(), value.to_vec()), subject, shape: Shape::Raw }
+}
+
+/// The canonical text of an identifier.
+pub fn canonical(xid: &Xid) -> Vec<u8> {
+    let mut text = Vec::new();
+    write_literal(&mut text, &xid.gtrid);
+    text.push(b',');
+    write_literal(&mut text, &xid.bqual);
+    text.extend(format!(",{}", xid.format_id).as_bytes());
+    text
 }
 
 /// Writes a literal in its canonical form.
@@ -417,8 +586,8 @@ pub fn write_literal(to: &mut Vec<u8>, data: &[u8]) {
     }
 }
 
-/// Writes a literal for the store: in quotes if all of its bytes are signs of ASCII that stand for themselves there.
-fn tell_literal(to: &mut Vec<u8>, data: &[u8]) {
+/// Writes a literal in quotes, if all of its bytes are signs of ASCII that stand for themselves there.
+fn write_readable(to: &mut Vec<u8>, data: &[u8]) {
     if data.iter().all(|byte| matches!(byte, b' '..=b'~') && !matches!(byte, b'\'' | b'\\')) {
         to.push(b'\'');
         to.extend(data);
@@ -432,24 +601,51 @@ fn tell_literal(to: &mut Vec<u8>, data: &[u8]) {
 mod tests {
     use super::*;
 
-    /// What the store is told reads as the same statement, and has quotes around plain signs alone.
+    fn xid(format_id: i64, gtrid: &[u8], bqual: &[u8]) -> Xid {
+        Xid { format_id, gtrid: gtrid.to_vec(), bqual: bqual.to_vec() }
+    }
+
+    /// The store is asked by values; by the text alone where it is to refuse a clause.
     #[test]
-    fn what_the_store_is_told() {
-        for (text, told) in [
-            ("xa begin 0x61", "XA START 'a'".to_string()),
-            ("XA END 'a',''", "XA END 'a','',1".to_string()),
-            ("put 'it''s','v w'", "PUT 0x69742773,'v w'".to_string()),
-            ("GET X'5c'", "GET 0x5c".to_string()),
-            ("DEL '\u{e4}'", "DEL 0xc3a4".to_string()),
-            ("XA COMMIT '~','\n',7 ONE PHASE", "XA COMMIT '~',0x0a,7 ONE PHASE".to_string()),
+    fn what_the_store_is_asked() {
+        let (first, second) = (xid(1, b"a", b""), xid(7, b"~", b"\n"));
+        for (text, asked) in [
+            ("xa begin 0x61", Asked::Start(&first)),
+            ("XA END 'a',''", Asked::End(&first)),
+            ("XA PREPARE 'a','',1", Asked::Prepare(&first)),
+            ("XA COMMIT 'a'", Asked::Commit(&first)),
+            ("XA COMMIT '~','\n',7 ONE PHASE", Asked::CommitOnePhase(&second)),
+            ("XA ROLLBACK X'7e',0x0a,0x7", Asked::Rollback(&second)),
+            ("XA RECOVER", Asked::Recover),
+            ("XA RECOVER CONVERT XID", Asked::Recover),
+            ("put 'it''s','v w'", Asked::Put(b"it's", b"v w")),
+            ("PUT 'k',''", Asked::Put(b"k", b"")),
+            ("GET X'5c'", Asked::Get(b"\\")),
+            ("DEL '\u{e4}'", Asked::Del(b"\xc3\xa4")),
+            ("XA START 'a' JOIN", Asked::Text(b"XA START 0x61,X'',1 JOIN")),
+            ("XA END '~','\n',7 SUSPEND FOR MIGRATE", Asked::Text(b"XA END 0x7e,0x0a,7 SUSPEND FOR MIGRATE")),
         ] {
-            assert_eq!(String::from_utf8(read(text.as_bytes()).unwrap().told).unwrap(), told, "{}", text);
+            assert_eq!(read(text.as_bytes()).unwrap().asked(), asked, "{}", text);
         }
         for byte in 0..=255 {
             let given = [Some(vec![byte]), Some(vec![b'a', byte])];
-            let bound = bind(b"PUT ?,?", &given).unwrap();
-            let again = read(&bound.told).unwrap();
-            assert_eq!((again.text, again.told), (bound.text, bound.told), "{}", byte);
+            assert_eq!(bind(b"PUT ?,?", &given).unwrap().asked(), Asked::Put(&[byte], &[b'a', byte]));
+        }
+    }
+
+    /// What is shown reads as the same identifier or key, and has quotes around plain signs alone.
+    #[test]
+    fn subjects_as_they_are_shown() {
+        for (verb, subject, shown) in [
+            ("GET ", "X'5c'", "0x5c"),
+            ("DEL ", "'it''s'", "0x69742773"),
+            ("GET ", "0x762077", "'v w'"),
+            ("XA END ", "'~','\n',7", "'~',0x0a,7"),
+            ("XA END ", "0x61", "'a','',1"),
+        ] {
+            let it = read(format!("{}{}", verb, subject).as_bytes()).unwrap();
+            assert_eq!(String::from_utf8(it.readable_subject()).unwrap(), shown, "{}", subject);
+            assert_eq!(read(format!("{}{}", verb, shown).as_bytes()).unwrap(), it, "{}", subject);
         }
     }
 
@@ -509,8 +705,43 @@ mod tests {
         ] {
             assert_eq!(canonical(text), Err(place), "{}", text);
         }
-        let long = format!("GET '{}'", "k".repeat(65));
-        assert_eq!(canonical(&long), Err(4));
+    }
+
+    /// Faults of values, each with its place; what is no value is one of syntax.
+    #[test]
+    fn why_values_are_refused() {
+        let faults = |text: &str| read(text.as_bytes()).map_err(|it| (it.place, it.why, it.wanted)).unwrap_err();
+        for long in
+            ["'{}'".replace("{}", &"k".repeat(65)), format!("X'{}'", "41".repeat(65)), format!("0x{}", "4".repeat(129))]
+        {
+            assert_eq!(faults(&format!("GET {}", long)), (4, Why::TooLong, KEY), "{}", long);
+            assert_eq!(faults(&format!("PUT 'k',{}", long)), (8, Why::TooLong, VALUE), "{}", long);
+            assert_eq!(faults(&format!("XA END 'a',{}", long)), (11, Why::Syntax, ""), "{}", long);
+        }
+        for (text, place, why, wanted) in [
+            ("GET ''", 4, Why::Unfit, KEY),
+            ("GET 7", 4, Why::Unfit, KEY),
+            ("PUT 'k',-7.5", 8, Why::Unfit, VALUE),
+            ("XA START 7", 9, Why::Syntax, ""),
+            ("DEL null", 4, Why::Null, KEY),
+            ("XA START 'a','b',NULL", 17, Why::Syntax, ""),
+            ("XA START 'a','b','7'", 17, Why::Syntax, ""),
+            ("XA START 'a','b',2147483648", 17, Why::Syntax, ""),
+            ("GET k", 4, Why::Syntax, ""),
+            ("GET nulls", 4, Why::Syntax, ""),
+            ("NULL", 0, Why::Syntax, ""),
+            ("PUT 'k' NULL", 8, Why::Syntax, ""),
+        ] {
+            assert_eq!(faults(text), (place, why, wanted), "{}", text);
+        }
+    }
+
+    #[test]
+    fn statements_of_the_servers_own() {
+        for (kind, text) in [(Kind::Get, "GET 'a/''b'"), (Kind::Put, "PUT 'a/''b','v'"), (Kind::Del, "DEL 'a/''b'")] {
+            assert_eq!(of_row(kind, b"a/'b", b"v"), read(text.as_bytes()).unwrap());
+        }
+        assert_eq!(of_row(Kind::Put, b"k", b""), read(b"PUT 'k',X''").unwrap());
     }
 
     #[test]
@@ -531,14 +762,15 @@ mod tests {
         };
         assert_eq!(bound([Some("a'"), Some(""), Some("7")]).unwrap().text, b"XA START 0x6127,X'',7");
         let long = "a".repeat(65);
-        for values in [
-            [Some("a"), Some("b"), Some("x")],
-            [Some("a"), Some("b"), Some("-1")],
-            [Some("a"), Some("b"), Some("2147483648")],
-            [Some(&long[..]), Some("b"), Some("1")],
-            [None, Some("b"), Some("1")],
+        for (values, place, why) in [
+            ([Some("a"), Some("b"), Some("x")], 13, Why::Unfit),
+            ([Some("a"), Some("b"), Some("-1")], 13, Why::Unfit),
+            ([Some("a"), Some("b"), Some("2147483648")], 13, Why::Unfit),
+            ([Some("a"), Some("b"), None], 13, Why::Null),
+            ([Some(&long[..]), Some("b"), Some("1")], 9, Why::TooLong),
+            ([Some("a"), None, Some("1")], 11, Why::Null),
         ] {
-            assert!(bound(values).is_err(), "{:?}", values);
+            assert_eq!(bound(values).map_err(|it| (it.place, it.why)), Err((place, why)), "{:?}", values);
         }
     }
 

@@ -1,10 +1,12 @@
 //! What a store does just now, for who watches: as a table of SHOW NIGBARU STATUS, and in JSON.
-use crate::answers::Table;
+use crate::answers::{refusal_with, Refusal, Table};
 use crate::packets::{Column, Value};
 use crate::pool::Need;
-use crate::statements::write_literal;
-use crate::store::{lock, Rows, Store, KINDS};
-use nigbaru::{Reply, Xid};
+use crate::statements::{canonical, read, Kind, Statement};
+use crate::store::{lock, Connection, Rows, Store, KINDS};
+use crate::waits::Waiter;
+use nigbaru::Reply;
+use serde_json::{json, Value as Json};
 use std::collections::BTreeMap;
 use std::fmt::Write;
 use std::sync::atomic::Ordering;
@@ -31,17 +33,17 @@ pub struct Seen {
     entries: u64,
     is_out: bool,
     branches: Vec<Branch>,
+    waits: Vec<Wait>,
     statements: [u64; KINDS.len()],
     refusals: BTreeMap<u16, u64>,
 }
 
-fn canonical(xid: &Xid) -> Vec<u8> {
-    let mut text = Vec::new();
-    write_literal(&mut text, &xid.gtrid);
-    text.push(b',');
-    write_literal(&mut text, &xid.bqual);
-    text.extend(format!(",{}", xid.format_id).as_bytes());
-    text
+/// A statement that waits for a row.
+struct Wait {
+    connection: u64,
+    key: Vec<u8>,
+    holder: String,
+    age: Duration,
 }
 
 fn text(bytes: &[u8]) -> String {
@@ -82,14 +84,20 @@ pub fn look(store: &Store) -> Seen {
         entries: store.pool.entries(),
         is_out: store.outage().is_some(),
         branches,
+        waits: store.waits.all().iter().map(|it| wait_of(store, it)).collect(),
         statements,
         refusals,
     }
 }
 
+fn wait_of(store: &Store, it: &Waiter) -> Wait {
+    let holder = holder_of(store, &it.connection, &it.key, it.alone);
+    Wait { connection: it.connection.number, key: it.key.clone(), holder, age: it.since.elapsed() }
+}
+
 fn prepared(store: &Store) -> Vec<Branch> {
     let listed = match store.pool.take(0, Duration::ZERO, Need::Statement) {
-        Ok(Some(mut lent)) => match lent.execute("XA RECOVER") {
+        Ok(Some(mut lent)) => match lent.ask(nigbaru::Statement::Recover) {
             Ok(Reply::List(xids)) => Some(xids.iter().map(canonical).collect::<Vec<_>>()),
             _ => None,
         },
@@ -115,6 +123,50 @@ fn prepared(store: &Store) -> Vec<Branch> {
     xids.into_iter().map(branch).collect()
 }
 
+/// A key, or an identifier, in quotes where all bytes are plain signs of ASCII.
+fn readable(verb: &str, canonical: &[u8]) -> String {
+    match read(&[verb.as_bytes(), canonical].concat()) {
+        Ok(it) => text(&it.readable_subject()),
+        Err(_) => text(canonical),
+    }
+}
+
+fn readable_key(key: &[u8]) -> String {
+    readable("GET ", key)
+}
+
+/// What holds a row that somebody wants. A holder that has had its row for no time may not have told yet.
+fn holder_of(store: &Store, asker: &Connection, key: &[u8], alone: bool) -> String {
+    let is_in_the_way = |rows: &Rows| rows.get(key).map_or(false, |it| *it || alone);
+    let mut holders = BTreeMap::new();
+    for (xid, known) in lock(&store.prepared).iter().filter(|(_, known)| is_in_the_way(&known.rows)) {
+        holders.insert(xid.clone(), ("PREPARED", known.connection));
+    }
+    for other in lock(&store.connections).values().filter(|other| other.number != asker.number) {
+        let look = lock(&other.look);
+        if let Some((xid, state)) = look.branch.as_ref().filter(|_| is_in_the_way(&look.rows)) {
+            holders.insert(xid.clone(), (state, other.number));
+        }
+    }
+    let told = |(xid, (state, connection)): (&Vec<u8>, &(&str, u64))| match *state {
+        "LOCAL" => format!("the local transaction of connection {}", connection),
+        state => format!("{} ({}, connection {})", readable("XA END ", xid), state, connection),
+    };
+    let others = match holders.len() {
+        0 | 1 => String::new(),
+        count => format!(" and {} more", count - 1),
+    };
+    holders.iter().next().map_or("another branch".to_string(), told) + &others
+}
+
+/// A row is refused: which, and what holds it.
+pub fn locked(store: &Store, asker: &Connection, it: &Statement) -> Refusal {
+    let holder = holder_of(store, asker, it.subject(), it.kind != Kind::Get);
+    let key = readable_key(it.subject());
+    let what = "roll back, or send it again when that has ended";
+    refusal_with(3572, format!("row locked by another branch: {} is held by {}; {}", key, holder, what))
+}
+
 impl Branch {
     fn told(&self) -> String {
         let mut told = self.state.to_string();
@@ -131,7 +183,7 @@ impl Branch {
             let _ = write!(told, ", {:.1} s", age.as_secs_f64());
         }
         for (key, is_exclusive) in self.rows.iter().take(SHOWN) {
-            let _ = write!(told, ", {} {}", if *is_exclusive { "holds" } else { "shares" }, text(key));
+            let _ = write!(told, ", {} {}", if *is_exclusive { "holds" } else { "shares" }, readable_key(key));
         }
         if self.rows.len() > SHOWN {
             let _ = write!(told, ", and {} rows more", self.rows.len() - SHOWN);
@@ -159,49 +211,49 @@ pub fn table_of(store: &Store) -> Table {
         row("refusals", &number.to_string(), count.to_string());
     }
     for branch in &seen.branches {
-        row("branch", &branch.xid, branch.told());
+        row("branch", &readable("XA END ", branch.xid.as_bytes()), branch.told());
     }
-    Table { columns: vec![Column::text("name", 64), Column::text("of", 512), Column::text("value", 4096)], rows }
+    for it in &seen.waits {
+        let told = format!("for {}, held by {}, {:.1} s", readable_key(&it.key), it.holder, it.age.as_secs_f64());
+        row("waits", &format!("connection {}", it.connection), told);
+    }
+    Table { columns: vec![Column::said("name", 64), Column::said("of", 512), Column::said("value", 4096)], rows }
 }
 
-/// A store as an object of JSON. All texts in it are canonical, so nothing needs an escape.
-pub fn json_of(store: &Store) -> String {
+/// A store as an object of JSON.
+pub fn json_of(store: &Store) -> Json {
     let seen = look(store);
-    let mut it = format!(
-        "{{\"name\":\"{}\",\"out\":{},\"connections\":{},\"strangers\":{},\"lent\":{},\"waiting\":{},\
-         \"entries\":{},\"statements\":{{",
-        store.name, seen.is_out, seen.connections, seen.strangers, seen.lent, seen.waiting, seen.entries
-    );
-    it += &KINDS
-        .iter()
-        .zip(seen.statements)
-        .map(|(kind, count)| format!("\"{}\":{}", kind, count))
-        .collect::<Vec<_>>()
-        .join(",");
-    it += "},\"refusals\":{";
-    it +=
-        &seen.refusals.iter().map(|(number, count)| format!("\"{}\":{}", number, count)).collect::<Vec<_>>().join(",");
-    it += "},\"branches\":[";
-    it += &seen.branches.iter().map(branch_json).collect::<Vec<_>>().join(",");
-    it += "]}";
-    it
+    json!({
+        "name": store.name,
+        "out": seen.is_out,
+        "connections": seen.connections,
+        "strangers": seen.strangers,
+        "lent": seen.lent,
+        "waiting": seen.waiting,
+        "entries": seen.entries,
+        "statements": KINDS.into_iter().zip(seen.statements).collect::<BTreeMap<_, _>>(),
+        "refusals": seen.refusals,
+        "branches": seen.branches.iter().map(branch_json).collect::<Vec<_>>(),
+        "waits": seen.waits.iter().map(wait_json).collect::<Vec<_>>(),
+    })
 }
 
-fn branch_json(it: &Branch) -> String {
-    let number = |number: Option<u64>| number.map_or("null".to_string(), |number| number.to_string());
-    let age = it.age.map_or("null".to_string(), |age| format!("{:.3}", age.as_secs_f64()));
-    let rows: Vec<String> = it
-        .rows
-        .iter()
-        .map(|(key, is_exclusive)| format!("\"{}\":\"{}\"", text(key), if *is_exclusive { "HOLDS" } else { "SHARES" }))
-        .collect();
-    format!(
-        "{{\"xid\":\"{}\",\"state\":\"{}\",\"connection\":{},\"session\":{},\"age\":{},\"rows\":{{{}}}}}",
-        it.xid,
-        it.state,
-        number(it.connection),
-        number(it.session),
-        age,
-        rows.join(",")
-    )
+fn seconds(age: Duration) -> f64 {
+    age.as_millis() as f64 / 1e3
+}
+
+fn wait_json(it: &Wait) -> Json {
+    json!({ "connection": it.connection, "key": text(&it.key), "holder": it.holder, "age": seconds(it.age) })
+}
+
+fn branch_json(it: &Branch) -> Json {
+    let rows = it.rows.iter().map(|(key, is_exclusive)| (text(key), if *is_exclusive { "HOLDS" } else { "SHARES" }));
+    json!({
+        "xid": it.xid,
+        "state": it.state,
+        "connection": it.connection,
+        "session": it.session,
+        "age": it.age.map(seconds),
+        "rows": rows.collect::<BTreeMap<_, _>>(),
+    })
 }

@@ -1,13 +1,16 @@
 //! A store, and what the server knows of its clients.
+use crate::answers::{refusal, refusal_with, Answer, OK};
 use crate::channel::Stream;
 use crate::faults::{Fault, Faults, Plan, Point};
 use crate::follower::{Follower, Keeper, Lost};
 use crate::options::{path_of, Options};
 use crate::pool::{Pool, SESSIONS};
 use crate::record::{History, Record};
+use crate::sql::Catalog;
 use crate::statements::Kind;
 use crate::stop::Stop;
-use std::collections::{BTreeMap, HashMap};
+use crate::waits::Waits;
+use std::collections::{BTreeMap, BTreeSet, HashMap};
 use std::io::Write;
 use std::net::Shutdown;
 use std::sync::atomic::{AtomicBool, AtomicU64, AtomicUsize, Ordering};
@@ -39,6 +42,19 @@ pub struct Look {
     pub rows: Rows,
 }
 
+/// What a connection is asked, for who lists them.
+pub struct Doing {
+    pub user: Vec<u8>,
+    pub database: Option<Vec<u8>>,
+    /// The text that is answered just now, or its beginning.
+    pub text: Option<Vec<u8>>,
+    /// When that came, or the last one was answered.
+    pub since: Instant,
+}
+
+/// How much of a text is listed.
+const LISTED: usize = 1_024;
+
 pub struct Connection {
     pub number: u64,
     /// Where it comes from.
@@ -46,7 +62,17 @@ pub struct Connection {
     pub stream: Arc<Stream>,
     pub has_logged_in: AtomicBool,
     pub look: Mutex<Look>,
+    pub doing: Mutex<Doing>,
     pub counts: Counts,
+}
+
+impl Connection {
+    /// A text comes, or none any more.
+    pub fn does(&self, text: Option<&[u8]>) {
+        let mut doing = lock(&self.doing);
+        doing.text = text.map(|it| it[..it.len().min(LISTED)].to_vec());
+        doing.since = Instant::now();
+    }
 }
 
 /// How many statements of each kind were answered, and how many were refused with each number.
@@ -119,6 +145,14 @@ pub struct Store {
     pub follower: Option<Follower>,
     pub stop: Arc<Stop>,
     pub wait: Duration,
+    /// Whether its clients log in with a password. Only then may one of them end the server.
+    pub has_account: bool,
+    /// Whether values of rows are texts, and not bytes.
+    pub has_texts: bool,
+    /// How long GET, PUT and DEL wait for a row.
+    pub lock_wait: Duration,
+    /// Who waits for rows.
+    pub waits: Arc<Waits>,
     faults: Mutex<Faults>,
     has_faults: AtomicBool,
     pub connections: Mutex<HashMap<u64, Arc<Connection>>>,
@@ -126,7 +160,11 @@ pub struct Store {
     pub logged_in: AtomicUsize,
     pub strangers: AtomicUsize,
     pub prepared: Mutex<HashMap<Vec<u8>, Prepared>>,
+    /// Branches that were rolled back in a deadlock, as long as their clients have them.
+    pub rolled_back: Mutex<BTreeSet<Vec<u8>>>,
     pub past: Counts,
+    /// The tables of SQL.
+    pub tables: Catalog,
     /// Until when the store is out, if it is.
     outage: Mutex<Option<Instant>>,
 }
@@ -157,6 +195,7 @@ impl Store {
             let last = pool.session(SESSIONS - 1).map_err(|fault| fault.to_string())?;
             Some(Follower::new(last, keepers, options.rows))
         };
+        let waits = Waits::open(pool.clone()).map_err(|fault| format!("nobody can wait for rows: {}", fault))?;
         Ok(Store {
             name: format!("store {}", number),
             began: Instant::now(),
@@ -167,6 +206,10 @@ impl Store {
             follower,
             stop: Arc::clone(stop),
             wait: options.wait,
+            has_account: options.account.is_some(),
+            has_texts: options.text_values,
+            lock_wait: options.lock_wait,
+            waits,
             faults: Mutex::default(),
             has_faults: AtomicBool::new(false),
             connections: Mutex::default(),
@@ -174,7 +217,9 @@ impl Store {
             logged_in: AtomicUsize::new(0),
             strangers: AtomicUsize::new(0),
             prepared: Mutex::default(),
+            rolled_back: Mutex::default(),
             past: Counts::default(),
+            tables: Catalog::default(),
             outage: Mutex::new(None),
         })
     }
@@ -201,6 +246,7 @@ impl Store {
             stream,
             has_logged_in: AtomicBool::new(false),
             look: Mutex::new(Look { session: None, branch: None, since: Instant::now(), rows: Rows::new() }),
+            doing: Mutex::new(Doing { user: Vec::new(), database: None, text: None, since: Instant::now() }),
             counts: Counts::default(),
         });
         lock(&self.connections).insert(number, Arc::clone(&connection));
@@ -210,6 +256,28 @@ impl Store {
     pub fn forget(&self, connection: &Connection) {
         lock(&self.connections).remove(&connection.number);
         self.past.take_over(&connection.counts);
+    }
+
+    /// Ends a connection, as if its client had gone; its own has the answer still. KILL QUERY ends the wait of
+    /// a statement for a row; any other is answered to its end.
+    pub fn kill(&self, asker: &Connection, number: u64, is_query: bool) -> Answer {
+        if number == asker.number {
+            if !is_query {
+                asker.stream.shutdown(Shutdown::Read);
+            }
+            return refusal(1317).into();
+        }
+        match lock(&self.connections).get(&number) {
+            None => refusal_with(1094, format!("Unknown thread id: {}", number)).into(),
+            Some(_) if is_query => {
+                self.waits.interrupt(number);
+                OK
+            }
+            Some(it) => {
+                it.stream.shutdown(Shutdown::Both);
+                OK
+            }
+        }
     }
 
     /// How many statements were answered, over all connections.

@@ -127,6 +127,25 @@ pub fn words(text: &[u8]) -> Vec<Placed> {
     found
 }
 
+/// The statements of a text, which a `;` ends that stands in no quotes and no comment. A text without words is one.
+pub fn statements(text: &[u8]) -> Vec<&[u8]> {
+    let (mut found, mut is_open, mut from, mut has_words) = (Vec::new(), false, 0, false);
+    let mut begin = next_word(text, 0, &mut is_open);
+    while begin < text.len() {
+        let (word, end) = word_at(text, begin);
+        let is_end = !is_open && word == Word::Sign(b';');
+        if is_end && has_words {
+            found.push(&text[from..begin]);
+        }
+        (from, has_words) = if is_end { (end, false) } else { (from, true) };
+        begin = next_word(text, end, &mut is_open);
+    }
+    if has_words || found.is_empty() {
+        found.push(&text[from..]);
+    }
+    found
+}
+
 /// Where the next word begins from a place on. `is_open` is whether a `/*!` isn't closed.
 fn next_word(text: &[u8], mut place: usize, is_open: &mut bool) -> usize {
     loop {

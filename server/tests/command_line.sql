@@ -12,7 +12,7 @@ XA COMMIT 'transfer','debit';
 GET 'alice';
 XA COMMIT 'transfer','debit';
 XA START 'transfer' JOIN;
-SELECT * FROM accounts;
+GRANT ALL ON accounts;
 START TRANSACTION;
 PUT 'bob','10';
 XA START 'inside';

@@ -16,8 +16,8 @@ from pathlib import Path
 
 HERE = Path(__file__).resolve().parent
 # Those that take longest begin first.
-FIRST = ["test_manager_that_is_killed", "mutated", "killed_at_a_fault", "faults_at_the", "test_go", "ten_thousand",
-         "thousand", "silence", "reads_nothing", "Bitronix", "Java"]
+FIRST = ["test_manager_that_is_killed", "mutated", "killed_at_a_fault", "faults_at_the", "test_go", "Programs",
+         "ten_thousand", "thousand", "silence", "reads_nothing", "Bitronix", "Java"]
 PATIENCE = 1800  # seconds for one test
 
 

@@ -115,6 +115,7 @@ class Case(unittest.TestCase):
         return self.ends.enter_context(server.client(store))
 
     def ok(self, client, *texts):
+        answer = None
         for text in texts:
             answer = client.ask(text)
             self.assertEqual(answer.kind, "ok", f"{text}: {answer}")

@@ -1,8 +1,10 @@
-"""MariaDB's command line: what it prints for a script, a line of which is refused, and what it asks at a terminal."""
+"""Command lines. MariaDB's: what it prints for a script, a line of which is refused, and what it asks at a terminal.
+That of `server/bench`: its usage."""
 import os
 import pty
 import subprocess
 import time
+import unittest
 
 from support import HERE, Case, wait_for
 
@@ -63,3 +65,18 @@ class CommandLine(Case):
             self.assertLess(time.monotonic(), deadline, said)
             said += os.read(end, 65536)
         return said
+
+
+class Bench(unittest.TestCase):
+    def test_usage(self):
+        """Words that can't be read are refused with the usage and status 2, before anything is started."""
+        cases = [(["--help"], 0, "SECONDS"), (["--frob"], 2, "--frob"), (["0"], 2, "0 isn't"),
+                 (["soon"], 2, "soon isn't a number from 1 to 3600"),
+                 (["1", "4", "2001"], 2, "2001 isn't a number from 1 to 2000")]
+        for words, status, wanted in cases:
+            with self.subTest(words=words):
+                ran = subprocess.run([HERE.parent / "bench", *words], stdout=subprocess.PIPE, stderr=subprocess.STDOUT,
+                                     text=True, timeout=60)
+                self.assertEqual(ran.returncode, status)
+                self.assertTrue(ran.stdout.startswith("usage: bench"), ran.stdout)
+                self.assertIn(wanted, ran.stdout)

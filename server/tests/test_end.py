@@ -97,9 +97,9 @@ class Status(Case):
         self.assertEqual(rows["history", "entries"], "7")  # four of the branch that is prepared, three of the other
         self.assertEqual((rows["statements", "XA START"], rows["statements", "PUT"], rows["refusals", "3572"]),
                          ("2", "3", "1"))
-        self.assertRegex(rows["branch", "0x61,0x62,7"], r"\APREPARED, connection 1, [0-9.]+ s, holds 0x6b\Z")
-        self.assertRegex(rows["branch", "0x63,X'',1"], r"\AACTIVE, connection 1 from 127.0.0.1:\d+, session \d+, "
-                         r"[0-9.]+ s, shares 0x6c, holds 0x6d\Z")
+        self.assertRegex(rows["branch", "'a','b',7"], r"\APREPARED, connection 1, [0-9.]+ s, holds 'k'\Z")
+        self.assertRegex(rows["branch", "'c','',1"], r"\AACTIVE, connection 1 from 127.0.0.1:\d+, session \d+, "
+                         r"[0-9.]+ s, shares 'l', holds 'm'\Z")
         self.ok(one, "XA END 'c'", "XA ROLLBACK 'c'", "XA ROLLBACK 'a','b',7")
         self.assertEqual([row for row in self.seen(two) if row[0] == b"branch"], [])
         self.ok(one, "BEGIN", "PUT 'k','v'")
@@ -110,7 +110,7 @@ class Status(Case):
         client = self.client(self.serve(record=False))
         self.ok(client, "XA START 'a'", *(f"PUT '{number:04}','v'" for number in range(1_002)))
         (told,) = [row[2].decode() for row in self.seen(client) if row[0] == b"branch"]
-        self.assertEqual((told.count(", holds "), told.endswith(", holds 0x30393939, and 2 rows more")), (1_000, True))
+        self.assertEqual((told.count(", holds "), told.endswith(", holds '0999', and 2 rows more")), (1_000, True))
 
     def test_as_a_file(self):
         folder = Path(self.ends.enter_context(tempfile.TemporaryDirectory()))

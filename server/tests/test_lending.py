@@ -11,7 +11,8 @@ from support import PROGRAM, Case, wait_for
 from wire import Client
 
 CONNECTIONS, CYCLES = 30, 60
-HELD = "Too many connections: each of the store's 16 sessions has a branch that isn't prepared, or answers a statement"
+HELD = ("Too many connections: each of the store's 16 sessions has a branch that isn't prepared, or answers a statement"
+        " (SHOW NIGBARU STATUS lists them)")
 
 
 def memory(server):

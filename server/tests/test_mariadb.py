@@ -12,7 +12,7 @@ from wire import Client
 
 STAYS = "a prepared branch is listed"  # MariaDB's stays with its session, whose flag says so until the end
 TOO_LONG = "'" + "x" * 65 + "'"
-# Each case: who says what. Rules in which the two differ are in docs/HISTORIES.md#records-of-mariadb; none of these
+# Each case: who says what. Rules in which the two differ are in docs/RECORDS.md#records-of-mariadb; none of these
 # meets one.
 CASES = {
     "a branch in one phase": ["1 XA START 'a'", "1 XA END 'a'", "1 XA COMMIT 'a' ONE PHASE", "1 XA RECOVER"],

@@ -103,6 +103,9 @@ class Noise(Case):
     def setUp(self):
         super().setUp()
         self.server = self.serve(record=False)
+        # (a packet that is changed may be a KILL, mostly of a number of a few bits)
+        for _ in range(300):
+            self.server.client().close()
         self.witness = self.client(self.server)
         self.good = Good(self.server)
         self.good.start()

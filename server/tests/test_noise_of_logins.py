@@ -6,7 +6,7 @@ import tempfile
 from pathlib import Path
 
 from support import LONG, Case
-from test_tls import REQUEST, certificate, has_tls
+from test_tls import REQUEST, certificate
 from wire import CAN, Client, Closed
 
 COUNT = 20_000 if LONG else 2_000
@@ -28,11 +28,8 @@ class Logins(Case):
         folder = Path(self.ends.enter_context(tempfile.TemporaryDirectory()))
         secret = folder / "secret"
         secret.write_text("secret\n")
-        words = ["--user", "root", "--password-file", secret]
-        if has_tls():
-            cert, key = certificate(folder)
-            words += ["--tls-cert", cert, "--tls-key", key]
-        server = self.serve(*words)
+        cert, key = certificate(folder)
+        server = self.serve("--user", "root", "--password-file", secret, "--tls-cert", cert, "--tls-key", key)
         witness = self.ends.enter_context(Client(server.port, b"root", b"secret"))
         ends = {"closed": 0, 1045: 0}
         for _ in range(COUNT):
@@ -42,7 +39,7 @@ class Logins(Case):
                 ends[end] = ends.get(end, 0) + 1
             self.assertEqual(witness.command(b"\x0e").kind, "ok")
         # Without the password nobody is let in, whatever is sent.
-        self.assertEqual(set(ends), {"closed", 1045, 1153})
+        self.assertEqual(set(ends), {"closed", 1043, 1045, 1153})
         self.assertGreater(min(ends["closed"], ends[1045]), COUNT // 20)
         self.assertEqual(server.verdicts(), ["EMPTY"])
 

@@ -11,6 +11,7 @@ from support import PROGRAM, PYTHON, SERVER, Case, wait_for
 ROOT = Path(__file__).resolve().parents[2]
 FAULTS = {"close-before", "close-after", "stall", "stall-after", "error", "outage"}
 PAGE = (ROOT / "docs" / "CLIENTS.md").read_text()
+FAULTS_PAGE = (ROOT / "server" / "README.md").read_text()
 BLOCKS = re.findall(r"^```\w+\n(.*?)^```$", PAGE, re.MULTILINE | re.DOTALL)
 DRIVER = "/usr/share/java/mariadb-java-client.jar"
 
@@ -48,13 +49,10 @@ class Page(Case):
         self.assertEqual("".join(f"{line}\n" for line in server.log), says)
 
     def test_java(self):
-        """The program starts a server of its own, from the folder that NIGBARU names."""
-        home = self.folder / "nigbaru"
-        program = home / "server/target/release/nigbaru-server"
-        program.parent.mkdir(parents=True)
-        program.symlink_to(Path(SERVER).resolve())
+        """The program starts a server of its own, which it finds on PATH."""
+        (self.folder / "nigbaru-server").symlink_to(Path(SERVER).resolve())
         self.write("XaTest.java")
-        said = self.run_here(*block("java -cp ").split(), NIGBARU=str(home))
+        said = self.run_here(*block("java -cp ").split(), PATH=f"{self.folder}:{os.environ['PATH']}")
         self.assertTrue(said.endswith(block("3 tests passed")), said)
 
     def test_command_line(self):
@@ -96,13 +94,16 @@ class Page(Case):
         self.assertEqual(one.ask("XA RECOVER").rows, [])
 
     def test_crash_points(self):
-        """Each line of the page that names a fault is one that the server takes, and each kind of fault has one."""
+        """Each line of the page that names a fault is one that the server takes, and each kind of fault has one. The
+        server's page has the kinds."""
         part = PAGE.partition("\n## Crash points\n")[2].partition("\n## ")[0]
         lines = [it for row in part.split("\n") if row.startswith("| ")
                  for it in re.findall(r"`([A-Z][A-Z0-9 ]* [0-9]+ [a-z][^`]*)`", row)]
-        self.assertGreater(len(lines), 15)
+        self.assertGreater(len(lines), 12)
         self.client(self.serve(faults=lines, stores=2))
         self.assertEqual({re.search(r"[0-9] ([a-z-]+)", line)[1] for line in lines}, FAULTS)
+        table = FAULTS_PAGE.partition("\n## Faults on purpose\n")[2].partition("\n## ")[0]
+        self.assertEqual(set(re.findall(r"^\| `([a-z-]+)", table, re.MULTILINE)), FAULTS)
 
     def test_the_table_of_clients(self):
         """Each of Debian's packages that it names has the version that is installed."""

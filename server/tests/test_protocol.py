@@ -9,7 +9,7 @@ import time
 from pathlib import Path
 
 from support import PROGRAM, SERVER, Case, wait_for
-from test_statements import any_text
+from test_statements import FAULTS, any_text
 from wire import CAN, Client, proof_of
 
 SHA2 = b"caching_sha2_password"
@@ -33,7 +33,7 @@ class Protocol(Case):
             self.assertEqual(self.affected(text), count, text)
 
     def test_a_fault_quotes(self):
-        for text, said in (("SELECT * FROM accounts", "syntax fault at byte 0 near 'SELECT * FROM accounts'"),
+        for text, said in (("GRANT ALL ON accounts", "syntax fault at byte 0 near 'GRANT ALL ON accounts'"),
                            ("XA START", "syntax fault at byte 8, where the text ends"), ("GET 'k' now", "near 'now'")):
             self.assertIn(said, self.refused(self.one, text, 1064, "42000").text)
         for text, shown in (("x" * 60, "x" * 60), ("x" * 61, "x" * 60 + ".."), ("x" * 60_000, "x" * 60 + "..")):
@@ -42,7 +42,7 @@ class Protocol(Case):
     def test_settings(self):
         for text in ("SET NAMES 'latin1'", "SET NAMES utf8 COLLATE utf8_general_ci", "SET CHARACTER SET 'any'",
                      "SET SESSION TRANSACTION READ ONLY", "SET TRANSACTION ISOLATION LEVEL READ COMMITTED", "DO 1",
-                     "USE db", "SET sql_mode='ANSI', @x = (1, 2)", "START TRANSACTION READ WRITE",
+                     "USE db", "SET sql_mode='ANSI', @x = (1 + 2)", "START TRANSACTION READ WRITE",
                      "START TRANSACTION WITH CONSISTENT SNAPSHOT", "COMMIT"):
             self.ok(self.one, text)
         self.assertEqual(self.one.ask("SELECT CONNECTION_ID()").rows, [(b"1",)])
@@ -69,21 +69,21 @@ class Protocol(Case):
                      "START TRANSACTION WITH CONSISTENT SNAPSHOT",
                      "START TRANSACTION WITH CONSISTENT SNAPSHOT, READ ONLY"):
             self.ok(self.one, text, "ROLLBACK")
-        for text in ("DO 1", "DO SLEEP(0)", "USE db", "SET @@session.autocommit = ON", "SET autocommit=1",
+        for text in ("DO 1", "DO 1, 'a'", "USE db", "SET @@session.autocommit = ON", "SET autocommit=1",
                      "SET LOCAL autocommit = TRUE", "SET @a := 1",
                      "SET sql_mode = DEFAULT, @@session.time_zone = '+00:00'"):
             self.ok(self.one, text)
         for text in ("SET", "SET NAMES", "SET CHARACTER SET", "SET TRANSACTION", "SET TRANSACTION ISOLATION LEVEL",
                      "SET TRANSACTION ISOLATION LEVEL ANY", "SET autocommit", "DO", "START TRANSACTION READ",
-                     "START TRANSACTION READ ONLY,", "START TRANSACTION READ ONLY, READ WRITE", "SET NAMES utf8,",
-                     "SET nothing_known = 1"):
+                     "START TRANSACTION READ ONLY,", "START TRANSACTION READ ONLY, READ WRITE", "SET NAMES utf8,"):
             self.refused(self.one, text, 1064, "42000")
+        self.refused(self.one, "SET nothing_known = 1", 1193, "HY000")
 
     def test_what_can_be_bound(self):
         """As docs/CLIENTS.md has it: types of parameters, and their bytes, of a statement that the server prepares."""
         put, _, _ = self.one.prepare("PUT 'k',?")
         for kind, data, value in ((253, b"\x02ab", b"ab"), (252, b"\0", b""), (8, struct.pack("<q", -7), b"-7"),
-                                  (3, struct.pack("<i", 7), b"7"), (1, b"\x07", b"7"), (6, b"", 1064),
+                                  (3, struct.pack("<i", 7), b"7"), (1, b"\x07", b"7"), (6, b"", 1048),
                                   (5, struct.pack("<d", 7.5), 1210), (4, struct.pack("<f", 7.5), 1210),
                                   (246, b"\x037.5", 1210), (12, b"\x04\xea\x07\x0b\x1b", 1210)):
             self.one.send(b"\x17" + struct.pack("<IBI", put, 0, 1) + b"\0\x01" + bytes((kind, 0)) + data)
@@ -93,12 +93,18 @@ class Protocol(Case):
             else:
                 self.assertEqual((answer.kind, self.value(self.one, "k")), ("ok", value), kind)
         start, _, _ = self.one.prepare("XA START 'a','b',?")
-        for value, number in ((2 ** 31, 1064), (-1, 1064), (b"x", 1064), (7, None)):
+        for value, number in ((2 ** 31, 1366), (-1, 1366), (b"x", 1366), (7, None)):
             self.assertEqual(self.one.execute(start, value).number, number, value)
         self.ok(self.one, "XA END 'a','b',7", "XA ROLLBACK 'a','b',7")
         self.assertEqual(self.one.execute(start, b"2147483647").kind, "ok")
-        for text in ("PUT 'k',7", "PUT 7,'v'", "GET 7", "XA START 'a','b','7'", "PUT 'k',7.5", "PUT 'k',NULL"):
-            self.refused(self.one, text, 1064, "42000")
+        for text, number, sqlstate, said in (
+                ("PUT 'k',7", 1366, "HY000", "Incorrect value at byte 8, where the value is wanted"),
+                ("PUT 7,'v'", 1366, "HY000", "Incorrect value at byte 4, where the key is wanted"),
+                ("GET -7", 1366, "HY000", "at byte 4"), ("PUT 'k',7.5", 1366, "HY000", "at byte 8"),
+                ("PUT 'k',NULL", 1048, "23000", "NULL at byte 8"), ("GET ''", 1366, "HY000", "at byte 4"),
+                (f"DEL '{'k' * 65}'", 1406, "22001", "Data too long at byte 4, where the key is wanted"),
+                ("XA START 'a','b','7'", 1064, "42000", "syntax fault at byte 17")):
+            self.assertIn(said, self.refused(self.one, text, number, sqlstate).text)
 
     def test_a_transaction_that_only_reads(self):
         self.ok(self.one, "PUT 'k','v'", "START TRANSACTION READ ONLY")
@@ -151,7 +157,7 @@ class Protocol(Case):
         self.one.send(b"\x09")
         self.assertRegex(self.one.packet(),
                          rb"\AUptime: \d+  Threads: 1  Questions: 0  Store: store 1  Connection: 1\Z")
-        for command in (b"\x0a", b"\x0c\x01\0\0\0", b"\x1c\x01\0\0\0\x01\0\0\0", b"\x07"):
+        for command in (b"\x1c\x01\0\0\0\x01\0\0\0", b"\x07"):
             self.assertEqual(self.one.command(command).number, 1047)
 
     def test_the_same_reading_as_the_program(self):
@@ -163,11 +169,11 @@ class Protocol(Case):
         begun, expected = 0, []
         for text, said in zip(texts, raw):
             answer = self.one.ask(text)
-            fault = re.fullmatch(rb"1 ERROR 1064 \(42000\): (syntax fault at byte \d+)", said)
-            self.assertEqual(answer.number == 1064, fault is not None, (text, answer, said))
+            fault = re.fullmatch(rb"1 ERROR 1064 \(42000\): syntax fault (at byte \d+)", said)
+            self.assertEqual(answer.number in FAULTS, fault is not None, (text, answer, said))
             if fault:
-                self.assertTrue(answer.text.startswith(fault[1].decode()
-                                                       + ("," if len(text) == int(fault[1].split()[-1]) else " near ")),
+                how = " near " if answer.number == 1064 and len(text) > int(fault[1].split()[-1]) else ", where "
+                self.assertTrue(answer.text.startswith(f"{FAULTS[answer.number]} {fault[1].decode()}{how}"),
                                 (text, answer, said))
                 continue
             expected.append(said)
@@ -340,7 +346,7 @@ class CommandLine(Case):
                             (["--user", "u", "--password-file", folder / "none"], "--password-file /"),
                             (["--socket="], "--socket takes a value"),
                             (["--record", "r", "--history", "./r"], "same file"),
-                            (["--record", b"\xff"], "isn't UTF-8"), (["--stores", "0"], "1 to 64"),
+                            (["--user", b"\xff"], "isn't UTF-8"), (["--stores", "0"], "1 to 64"),
                             (["--port", "65535", "--stores", "2"], "no ports"), (["--nothing"], "isn't an option")):
             status, text = self.said(*words)
             self.assertEqual(status, 2, text)

@@ -35,11 +35,11 @@ class PyMySQL(Case):
     def test_databases(self):
         """There are none, but the name that a client has given is told."""
         one = self.connect(database="db", autocommit=True)
-        self.assertEqual(self.rows(one, "SELECT DATABASE()"), ((b"db",),))
+        self.assertEqual(self.rows(one, "SELECT DATABASE()"), (("db",),))
         one.select_db("Other")
-        self.assertEqual(self.rows(one, "SELECT DATABASE()"), ((b"Other",),))
+        self.assertEqual(self.rows(one, "SELECT DATABASE()"), (("Other",),))
         self.rows(one, "USE `third one`")
-        self.assertEqual(self.rows(one, "SELECT DATABASE()"), ((b"third one",),))
+        self.assertEqual(self.rows(one, "SELECT DATABASE()"), (("third one",),))
         one.select_db("x" * 257)
         self.assertEqual(self.rows(one, "SELECT DATABASE()"), ((None,),))
         self.assertEqual(self.rows(self.connect(autocommit=True), "SELECT DATABASE()"), ((None,),))
@@ -60,7 +60,7 @@ class PyMySQL(Case):
         self.rows(one, "PUT 'k','v'")
         for connection, text, number in ((two, "XA START 'a'", 1440), (one, "XA START 'b'", 1399),
                                          (two, "XA COMMIT 'b'", 1397), (two, "PUT 'k','w'", 3572),
-                                         (two, "SELECT * FROM t", 1064)):
+                                         (two, "SELECT * FROM t", 1146), (two, "NONSENSE", 1064)):
             with self.assertRaises(pymysql.MySQLError) as caught:
                 self.rows(connection, text)
             self.assertEqual(caught.exception.args[0], number, text)

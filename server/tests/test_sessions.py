@@ -48,11 +48,38 @@ class Sessions(Case):
         self.refused(self.two, "PUT 'k','w'", 3572, "HY000")
         answer = self.refused(self.one, "XA PREPARE 'a'", 1399, "XAE07")
         self.assertEqual(answer.text, "XAER_RMFAIL state ACTIVE")
-        self.refused(self.one, "SELECT 1 FROM t", 1064, "42000")
-        self.refused(self.one, "SET unknown = 1", 1064, "42000")
+        self.refused(self.one, "NONSENSE", 1064, "42000")
+        self.refused(self.one, "SET unknown = 1", 1193, "HY000")
         self.refused(self.one, "DISCONNECT", 1064, "42000")
         answer = self.refused(self.one, "XA START 'a','',2147483648", 1064, "42000")
         self.assertTrue(answer.text.startswith("syntax fault at byte 16"), answer)
+
+    def test_a_refused_row_names_its_holder(self):
+        def said(key, holder, text="PUT {},'w'"):
+            answer = self.refused(self.two, text.format(key), 3572, "HY000")
+            self.assertEqual(answer.text, f"row locked by another branch: {key} is held by {holder}; "
+                                          "roll back, or send it again when that has ended")
+
+        self.ok(self.one, "XA START 'a','b',7", "PUT 'k','v'", "PUT X'00ff','v'")
+        said("'k'", "'a','b',7 (ACTIVE, connection 1)")
+        said("0x00ff", "'a','b',7 (ACTIVE, connection 1)")
+        self.ok(self.one, "XA END 'a','b',7")
+        said("'k'", "'a','b',7 (IDLE, connection 1)", "DEL {}")
+        self.ok(self.one, "XA PREPARE 'a','b',7")
+        self.ok(self.two, "XA START 'r'")
+        said("'k'", "'a','b',7 (PREPARED, connection 1)", "GET {}")
+        self.ok(self.two, "XA END 'r'", "XA ROLLBACK 'r'", "XA COMMIT 'a','b',7")
+        three = self.client(self.server)
+        for client, xid in ((self.one, "'one'"), (three, "'three'")):
+            self.ok(client, f"XA START {xid}")
+            self.assertEqual(self.value(client, "k"), b"v")
+        self.ok(self.two, "XA START 'two'")
+        self.assertEqual(self.value(self.two, "k"), b"v")
+        said("'k'", "'one','',1 (ACTIVE, connection 1) and 1 more")
+        self.ok(self.one, "XA END 'one'", "XA ROLLBACK 'one'")
+        said("'k'", "'three','',1 (ACTIVE, connection 3)")
+        self.ok(self.one, "BEGIN", "PUT 'l','v'")
+        said("'l'", "the local transaction of connection 1")
 
     def test_disconnected_branch(self):
         self.ok(self.one, "XA START 'a'", "PUT 'k','v'")
@@ -139,11 +166,13 @@ class Sessions(Case):
             self.assertEqual(self.one.execute(get, b"k").rows, [(value,)])
         self.assertEqual(self.one.execute(put, b"k", 7).kind, "ok")
         self.assertEqual(self.one.execute(get, b"k").rows, [(b"7",)])
-        for wrong in (b"v" * 65, None):
-            self.assertEqual(self.one.execute(put, b"k", wrong).number, 1064)
-        self.assertEqual(self.one.execute(get, b"").number, 1064)
+        for wrong, number in ((b"v" * 65, 1406), (None, 1048)):
+            answer = self.one.execute(put, b"k", wrong)
+            self.assertEqual(answer.number, number)
+            self.assertIn("at byte 6, where the value is wanted, a text of up to 64 bytes", answer.text)
+        self.assertEqual(self.one.execute(get, b"").number, 1366)
         self.assertEqual(self.one.execute(99).number, 1243)
-        self.assertEqual(self.one.prepare("SELECT ?").number, 1064)
+        self.assertEqual(self.one.prepare("SAVEPOINT ?").number, 1235)
         self.assertEqual(self.one.prepare("GET ?" + " " * 4096).number, 1295)
         self.assertEqual(self.one.ask("GET ?").number, 1064)
 
@@ -163,8 +192,9 @@ class Sessions(Case):
         self.assertEqual(self.one.ask("select @@max_allowed_packet, @@autocommit AS c").rows, [(b"65536", b"1")])
         self.assertEqual(self.one.ask("select @@max_allowed_packet, @@autocommit AS c").names,
                          ["@@max_allowed_packet", "c"])
-        for text in ("select @@nothing", "SET autocommit=2", "SELECT 1 FROM t", "", ";", "SET autocommit=0; BEGIN"):
-            self.assertEqual(self.one.ask(text).number, 1064, text)
+        for text, number in (("select @@nothing", 1193), ("SET autocommit=2", 1231), ("SELECT t", 1054), ("", 1064),
+                             (";", 1064), ("SET autocommit=0; BEGIN", 1064)):
+            self.assertEqual(self.one.ask(text).number, number, text)
         self.assertEqual(self.one.command(b"\x0e").kind, "ok")
         self.assertEqual(self.one.command(b"\x02db").kind, "ok")
         self.assertEqual(self.one.command(b"\x63").number, 1047)

@@ -48,7 +48,9 @@ def any_text(draw):
     return (text + draw.choice(BLANKS)).lstrip(" \t\r").encode("latin-1")
 
 
-FAULT = re.compile(r"syntax fault at byte (\d+)(?:, where the text ends| near '.*')", re.DOTALL)
+# How the server names a fault. The program calls all of them faults of syntax, at the same bytes.
+FAULTS = {1048: "NULL", 1064: "syntax fault", 1366: "Incorrect value", 1406: "Data too long"}
+FAULT = re.compile(r"(.*) at byte (\d+)(?:, where the text ends|, where the .* is wanted, a .*| near '.*')", re.DOTALL)
 
 
 class Statements(Case):
@@ -79,9 +81,11 @@ class Statements(Case):
         """Where the server says that a text goes wrong, if it does. The client's branch is rolled back."""
         answer = client.ask(text)
         self.assertEqual(client.command(b"\x1f").kind, "ok")
-        if answer.number != 1064:
+        if answer.number not in FAULTS:
             return None
-        return int(FAULT.fullmatch(answer.text)[1])
+        found = FAULT.fullmatch(answer.text)
+        self.assertEqual(found[1], FAULTS[answer.number], text)
+        return int(found[2])
 
     def answers_to(self, asked):
         """The program's answers, without the rows of lists, which are empty here."""

@@ -27,12 +27,6 @@ def certificate(folder, kind="rsa"):
     return cert, key
 
 
-def has_tls():
-    ran = subprocess.run([SERVER, "--tls-cert", "/none", "--tls-key", "/none"], stderr=subprocess.PIPE, text=True)
-    return "without TLS" not in ran.stderr
-
-
-@unittest.skipUnless(has_tls(), "the server is built without TLS")
 class Tls(Case):
     def setUp(self):
         super().setUp()
@@ -71,7 +65,7 @@ class Tls(Case):
             cursor.execute("GET 'k'")
             self.assertEqual(cursor.fetchone(), (b"\0\n'\xff\\",))
             cursor.execute("SHOW STATUS LIKE 'ssl_cipher'")
-            self.assertRegex(cursor.fetchone()[1].decode(), "AES|CHACHA")
+            self.assertRegex(cursor.fetchone()[1], "AES|CHACHA")
             # (an answer that is longer than a record, and a packet that comes in many)
             for number in range(300):
                 cursor.execute(f"XA START '{number:060}'")

@@ -14,11 +14,13 @@ class Closed(Exception):
 
 
 class Answer:
-    """What came back: `kind`, and of an error number, sqlstate and text, of a table names and rows."""
+    """What came back: `kind`, and of an error number, sqlstate and text, of a table names and rows, of what is done how
+    many rows were affected."""
 
-    def __init__(self, kind, status=None, number=None, sqlstate=None, text=None, columns=None, rows=None):
+    def __init__(self, kind, status=None, number=None, sqlstate=None, text=None, columns=None, rows=None,
+                 affected=None):
         self.kind, self.status, self.number, self.sqlstate, self.text = kind, status, number, sqlstate, text
-        self.columns, self.rows = columns, rows
+        self.columns, self.rows, self.affected = columns, rows, affected
 
     @property
     def names(self):
@@ -45,6 +47,18 @@ def text_at(packet, place):
     length = int.from_bytes(packet[place + 1:place + 1 + size], "little") if size else first
     begin = place + 1 + size
     return packet[begin:begin + length], begin + length
+
+
+def number_at(packet, place):
+    """A number that says its own length, and where it ends."""
+    size = {0xFC: 2, 0xFD: 3, 0xFE: 8}.get(packet[place], 0)
+    if not size:
+        return packet[place], place + 1
+    return int.from_bytes(packet[place + 1:place + 1 + size], "little"), place + 1 + size
+
+
+# How a number of each type is packed in a binary row.
+PACKED = {1: "<b", 2: "<h", 3: "<i", 8: "<q"}
 
 
 class Client:
@@ -117,7 +131,9 @@ class Client:
 
     def read(self, packet, is_binary=False):
         if packet[0] == 0:
-            return Answer(OK, status=int.from_bytes(packet[3:5], "little"))
+            affected, place = number_at(packet, 1)
+            _, place = number_at(packet, place)
+            return Answer(OK, status=int.from_bytes(packet[place:place + 2], "little"), affected=affected)
         if packet[0] == 0xFF:
             return Answer(ERROR, number=int.from_bytes(packet[1:3], "little"), sqlstate=packet[4:9].decode(),
                           text=packet[9:].decode())
@@ -154,9 +170,9 @@ class Client:
         for index, (_, kind, _) in enumerate(columns):
             if nulls >> index + 2 & 1:
                 row.append(None)
-            elif kind == 8:
-                row.append(struct.unpack_from("<q", packet, place)[0])
-                place += 8
+            elif kind in PACKED:
+                row.append(struct.unpack_from(PACKED[kind], packet, place)[0])
+                place += struct.calcsize(PACKED[kind])
             else:
                 value, place = text_at(packet, place)
                 row.append(value)

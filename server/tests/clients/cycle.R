@@ -17,7 +17,7 @@ row <- asked(db, "XA RECOVER")
 say("listed", row$formatID, row$gtrid_length, row$bqual_length, hex(row$data))
 done(db, paste("XA COMMIT", xid))
 say("value", hex(asked(db, "GET 'k'")$value))
-for (text in c("XA END 'none'", "SELECT * FROM t")) {
+for (text in c("XA END 'none'", "NONSENSE")) {
     tryCatch(done(db, text), error = function(refused) say("refused", dbGetException(db)$errorNum))
 }
 invisible(dbBegin(db))

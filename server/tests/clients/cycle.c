@@ -60,7 +60,7 @@ static void cycle(MYSQL *db)
     done(db, "XA COMMIT X'6700','b',7");
     show_value(db, "value", "GET 'k'");
     done(db, "XA END 'none'");
-    done(db, "SELECT * FROM t");
+    done(db, "NONSENSE");
     mysql_autocommit(db, 0);
     done(db, "PUT 'l','local'");
     mysql_commit(db);

@@ -48,7 +48,7 @@ func cycle(db *sql.DB) {
 	fmt.Println("listed", number, gtrid, bqual, hex.EncodeToString(data))
 	ask("XA COMMIT " + xid)
 	fmt.Println("value", value(one, "GET 'k'"))
-	for _, text := range []string{"XA END 'none'", "SELECT * FROM t"} {
+	for _, text := range []string{"XA END 'none'", "NONSENSE"} {
 		_, err := one.ExecContext(ctx, text)
 		if refused, is := err.(*mysql.MySQLError); is {
 			fmt.Println("refused", refused.Number)

@@ -19,7 +19,7 @@ async function cycle() {
   console.log("listed", row.formatID, row.gtrid_length, row.bqual_length, row.data.toString("hex"));
   await ask(`XA COMMIT ${xid}`);
   console.log("value", (await ask("GET 'k'"))[0].value.toString("hex"));
-  for (const text of ["XA END 'none'", "SELECT * FROM t"]) {
+  for (const text of ["XA END 'none'", "NONSENSE"]) {
     await ask(text).catch((refused) => console.log("refused", refused.errno));
   }
   await new Promise((resolve) => connection.beginTransaction(resolve));

@@ -16,7 +16,7 @@ print "listed $number $gtrid $bqual ", unpack("H*", $data), "\n";
 $db->do("XA COMMIT $xid");
 my ($value) = $db->selectrow_array("GET 'k'");
 print "value ", unpack("H*", $value), "\n";
-for my $text ("XA END 'none'", "SELECT * FROM t") {
+for my $text ("XA END 'none'", "NONSENSE") {
     eval { $db->do($text); 1 } or print "refused ", $db->err, "\n";
 }
 $db->begin_work;

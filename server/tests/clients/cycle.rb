@@ -11,7 +11,7 @@ row = db.query("XA RECOVER").first
 puts "listed #{row["formatID"]} #{row["gtrid_length"]} #{row["bqual_length"]} #{hex[row["data"]]}"
 db.query("XA COMMIT #{xid}")
 puts "value #{hex[db.query("GET 'k'").first["value"]]}"
-["XA END 'none'", "SELECT * FROM t"].each do |text|
+["XA END 'none'", "NONSENSE"].each do |text|
   db.query(text)
 rescue Mysql2::Error => refused
   puts "refused #{refused.error_number}"

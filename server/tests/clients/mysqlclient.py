@@ -16,7 +16,7 @@ print("listed", number, gtrid, bqual, data.hex())
 cursor.execute("XA COMMIT %s,%s,%s", xid)
 cursor.execute("GET 'k'")
 print("value", cursor.fetchone()[0].hex())
-for text in ("XA END 'none'", "SELECT * FROM t"):
+for text in ("XA END 'none'", "NONSENSE"):
     try:
         cursor.execute(text)
     except MySQLdb.Error as refused:

@@ -13,7 +13,7 @@ $row = $db->query("XA RECOVER")->fetch_row();
 echo "listed $row[0] $row[1] $row[2] ", bin2hex($row[3]), "\n";
 $db->query("XA COMMIT $xid");
 echo "value ", bin2hex($db->query("GET 'k'")->fetch_row()[0]), "\n";
-foreach (["XA END 'none'", "SELECT * FROM t"] as $text) {
+foreach (["XA END 'none'", "NONSENSE"] as $text) {
     try {
         $db->query($text);
     } catch (mysqli_sql_exception $refused) {

@@ -24,7 +24,7 @@ cursor.execute(f"XA END {XID}")
 cursor.execute(f"XA PREPARE {XID}")
 cursor.execute(f"XA COMMIT {XID}")
 print("value", value("k"))
-for text in ("XA END 'none'", "SELECT * FROM t"):
+for text in ("XA END 'none'", "NONSENSE"):
     try:
         cursor.execute(text)
     except pyodbc.Error as refused:

@@ -12,7 +12,7 @@ $row = $db->query("XA RECOVER")->fetch(PDO::FETCH_NUM);
 echo "listed $row[0] $row[1] $row[2] ", bin2hex($row[3]), "\n";
 $db->exec("XA COMMIT $xid");
 echo "value ", bin2hex($db->query("GET 'k'")->fetchColumn()), "\n";
-foreach (["XA END 'none'", "SELECT * FROM t"] as $text) {
+foreach (["XA END 'none'", "NONSENSE"] as $text) {
     try {
         $db->exec($text);
     } catch (PDOException $refused) {
