@@ -2,7 +2,7 @@
 network and no setuptools.
 
 It reads those lines of pyproject.toml that are a name and a text, or a list of texts. Two wheels of the same files are
-the same bytes.
+the same bytes. scripts/release makes a wheel with programs and a library in it by `write_whole_wheel`.
 """
 from __future__ import annotations
 
@@ -14,13 +14,19 @@ import re
 import tarfile
 import zipfile
 from pathlib import Path
-from typing import Any, Dict, Iterable, List, Optional, Tuple
+from typing import Any, Dict, Iterable, Optional, Sequence, Tuple
 
 HERE = Path(__file__).resolve().parent
 PACKAGE = "nigbaru"
+BUILT = f"{PACKAGE}/built"  # what was built for one platform
 FIELD = re.compile(r'^([\w-]+) = (".*"|\[.*\])$', re.MULTILINE)
-WHEEL = "Wheel-Version: 1.0\nGenerator: wheel_of\nRoot-Is-Purelib: true\nTag: py3-none-any\n"
-Files = List[Tuple[str, bytes]]
+ANY = "py3-none-any"
+WHEEL = "Wheel-Version: 1.0\nGenerator: wheel_of\nRoot-Is-Purelib: {pure}\nTag: {tag}\n"
+COMMANDS = """[console_scripts]
+nigbaru-server = nigbaru.programs:nigbaru_server
+xa_script = nigbaru.programs:xa_script
+"""
+Files = Sequence[Tuple[str, bytes]]
 
 
 def project() -> Dict[str, Any]:
@@ -52,19 +58,28 @@ def sources_of_package() -> Files:
     return [(path.relative_to(HERE).as_posix(), path.read_bytes()) for path in found]
 
 
-def write_wheel(folder: str, files: Files) -> str:
-    """Writes a wheel of these files of the package, and gives its name."""
+def write_wheel(folder: str, files: Files, tag: str = ANY, more: Files = ()) -> str:
+    """Writes a wheel of these files of the package, with more files of its description, and gives its name."""
     fields = project()
     whole = f"{fields['name']}-{fields['version']}"
     info = f"{whole}.dist-info"
-    files = [*files, (f"{info}/METADATA", metadata(fields)), (f"{info}/WHEEL", WHEEL.encode())]
-    name = f"{whole}-py3-none-any.whl"
+    kind = WHEEL.format(pure=str(tag == ANY).lower(), tag=tag)
+    files = [*files, *((f"{info}/{name}", data) for name, data in more), (f"{info}/METADATA", metadata(fields)),
+             (f"{info}/WHEEL", kind.encode())]
+    name = f"{whole}-{tag}.whl"
     with zipfile.ZipFile(Path(folder) / name, "w", zipfile.ZIP_DEFLATED) as wheel:
         for path, data in [*files, (f"{info}/RECORD", record(files, info))]:
             entry = zipfile.ZipInfo(path)  # its time is 1980, whenever it is made
-            entry.compress_type, entry.external_attr = zipfile.ZIP_DEFLATED, 0o100644 << 16
+            mode = 0o100755 if path.startswith(f"{BUILT}/") else 0o100644
+            entry.compress_type, entry.external_attr = zipfile.ZIP_DEFLATED, mode << 16
             wheel.writestr(entry, data)
     return name
+
+
+def write_whole_wheel(folder: str, built: Iterable[Path], tag: str) -> str:
+    """Writes a wheel for one platform, with these programs and libraries in it, and gives its name."""
+    files = [(f"{BUILT}/{path.name}", path.read_bytes()) for path in built]
+    return write_wheel(folder, [*sources_of_package(), *files], tag, [("entry_points.txt", COMMANDS.encode())])
 
 
 def build_wheel(wheel_directory: str, config_settings: Optional[Dict[str, Any]] = None,

@@ -8,7 +8,8 @@ fn link(archive: &Path) {
     let file = archive.file_stem().unwrap().to_str().unwrap();
     println!("cargo:rerun-if-changed={}", archive.display());
     println!("cargo:rustc-link-search=native={}", archive.parent().unwrap().display());
-    println!("cargo:rustc-link-lib=static={}", file.strip_prefix("lib").unwrap());
+    let name = file.strip_prefix("lib");
+    println!("cargo:rustc-link-lib=static={}", name.expect("the linker wants an archive to be named libNAME.a"));
 }
 
 fn of_toolchain() -> PathBuf {

@@ -1,7 +1,8 @@
 //! A verified XA row store, called from plain Rust over its C interface (crates/nigbaru_c/include/nigbaru.h).
 //!
 //! A [`Store`] may be shared by threads; each [`Session`] is one thread's at a time, and may be sent to another. No
-//! call takes a lock or waits for another thread. What a statement is, and what it is answered: docs/STATEMENTS.md. The
+//! call takes a lock, but a session that is behind may try for as long as a stopped thread has what it needs:
+//! docs/EMBEDDING.md#threads. What a statement is, and what it is answered: docs/STATEMENTS.md. The
 //! library is proved, this file is tested.
 use std::cell::UnsafeCell;
 use std::ffi::c_void;
@@ -46,6 +47,20 @@ struct RawXid {
     data: [c_char; 128],
 }
 
+impl RawXid {
+    const NONE: RawXid = RawXid { format_id: 0, gtrid_length: 0, bqual_length: 0, data: [0; 128] };
+
+    /// What is too long is cut off; the library refuses its length.
+    fn of(xid: &Xid) -> RawXid {
+        let (gtrid_length, bqual_length) = (xid.gtrid.len() as i64, xid.bqual.len() as i64);
+        let mut raw = RawXid { format_id: xid.format_id, gtrid_length, bqual_length, ..RawXid::NONE };
+        for (to, from) in raw.data.iter_mut().zip(xid.gtrid.iter().chain(&xid.bqual)) {
+            *to = *from as c_char;
+        }
+        raw
+    }
+}
+
 /// How long the text of an entry is at most.
 const LONGEST_TEXT: usize = 304;
 
@@ -68,6 +83,23 @@ extern "C" {
         xids: *mut RawXid,
         room: usize,
     ) -> u32;
+    fn nigbaru_raw_start(session: *mut Handle, xid: *const RawXid, answer: *mut RawAnswer) -> u32;
+    fn nigbaru_raw_end(session: *mut Handle, xid: *const RawXid, answer: *mut RawAnswer) -> u32;
+    fn nigbaru_raw_prepare(session: *mut Handle, xid: *const RawXid, answer: *mut RawAnswer) -> u32;
+    fn nigbaru_raw_commit(session: *mut Handle, xid: *const RawXid, one_phase: bool, answer: *mut RawAnswer) -> u32;
+    fn nigbaru_raw_rollback(session: *mut Handle, xid: *const RawXid, answer: *mut RawAnswer) -> u32;
+    fn nigbaru_raw_recover(session: *mut Handle, answer: *mut RawAnswer, xids: *mut RawXid, room: usize) -> u32;
+    fn nigbaru_raw_get(session: *mut Handle, key: *const u8, key_length: usize, answer: *mut RawAnswer) -> u32;
+    fn nigbaru_raw_put(
+        session: *mut Handle,
+        key: *const u8,
+        key_length: usize,
+        value: *const u8,
+        value_length: usize,
+        answer: *mut RawAnswer,
+    ) -> u32;
+    fn nigbaru_raw_del(session: *mut Handle, key: *const u8, key_length: usize, answer: *mut RawAnswer) -> u32;
+    fn nigbaru_raw_disconnect(session: *mut Handle, answer: *mut RawAnswer) -> u32;
     fn nigbaru_raw_follow(session: *mut Handle, entry: *mut RawEntry) -> u32;
     fn nigbaru_raw_leave(session: *mut Handle) -> u32;
     fn nigbaru_raw_close(store: *mut Handle) -> u32;
@@ -83,8 +115,6 @@ const NO_MEMORY: u32 = 7;
 const SYNTAX: u32 = 8;
 const OUT_OF_RANGE: u32 = 10;
 const BEHIND: u32 = 16;
-
-const RECOVER: &[u8] = b"XA RECOVER";
 
 /// The reply to a statement.
 #[derive(Clone, Debug, PartialEq, Eq)]
@@ -107,6 +137,45 @@ pub struct Xid {
     pub bqual: Vec<u8>,
 }
 
+/// A statement, by its values or as a text.
+#[derive(Clone, Copy, Debug, PartialEq, Eq)]
+pub enum Statement<'a> {
+    /// `XA START`
+    Start(&'a Xid),
+    /// `XA END`
+    End(&'a Xid),
+    /// `XA PREPARE`
+    Prepare(&'a Xid),
+    /// `XA COMMIT`
+    Commit(&'a Xid),
+    /// `XA COMMIT .. ONE PHASE`
+    CommitOnePhase(&'a Xid),
+    /// `XA ROLLBACK`
+    Rollback(&'a Xid),
+    /// `XA RECOVER`
+    Recover,
+    /// `GET` of this key
+    Get(&'a [u8]),
+    /// `PUT` of this key and this value
+    Put(&'a [u8], &'a [u8]),
+    /// `DEL` of this key
+    Del(&'a [u8]),
+    /// `DISCONNECT`: rolls the session's branch back, unless it is prepared
+    Disconnect,
+    /// Whatever the text spells
+    Text(&'a [u8]),
+}
+
+impl Statement<'_> {
+    fn xid(&self) -> Option<&Xid> {
+        match self {
+            Statement::Start(xid) | Statement::End(xid) | Statement::Prepare(xid) => Some(xid),
+            Statement::Commit(xid) | Statement::CommitOnePhase(xid) | Statement::Rollback(xid) => Some(xid),
+            _ => None,
+        }
+    }
+}
+
 /// Why a call did nothing.
 #[derive(Clone, Copy, Debug, PartialEq, Eq)]
 pub enum Error {
@@ -114,7 +183,7 @@ pub enum Error {
     Refused(u32),
     /// The text spells no statement: at this byte, counted from 0, it goes wrong.
     Syntax(u64),
-    /// Rows, sessions, a session's number or a formatID is out of its range.
+    /// Rows, sessions, a session's number, a formatID, or the length of a gtrid, bqual, key or value is out of range.
     OutOfRange,
     /// The session is taken, or all are.
     NoSession,
@@ -252,7 +321,7 @@ impl Store {
             if let Some(state) = self.shared.places[index].take(&[FREE, UNCLEAN]) {
                 let mut session = self.session_at(index);
                 if state == UNCLEAN {
-                    session.execute("DISCONNECT")?;
+                    session.disconnect()?;
                 }
                 return Ok(session);
             }
@@ -262,7 +331,7 @@ impl Store {
 
     /// Takes the session of a number, from 1 on. It has the branch with which it was [left](Session::leave).
     pub fn take(&self, number: u64) -> Result<Session, Error> {
-        if number < 1 || self.shared.places.len() as u64 <= number - 1 {
+        if number < 1 || (self.shared.places.len() as u64) < number {
             return Err(Error::OutOfRange);
         }
         let index = (number - 1) as usize;
@@ -310,7 +379,7 @@ impl Session {
     /// Sees what other sessions have added, by an `XA RECOVER`. Each statement does so, too. Call this for sessions
     /// that idle, so that they aren't behind later, or before you measure how long a statement takes.
     pub fn catch_up(&mut self) -> Result<(), Error> {
-        match self.answer(RECOVER, &mut [], true) {
+        match self.answer(Statement::Recover, &mut [], true) {
             (LIST, _) => Ok(()),
             (status, answer) => Err(fault(status, &answer)),
         }
@@ -341,27 +410,37 @@ impl Session {
         }
     }
 
-    /// Has a statement answered, in as many tries as it takes. After an error nothing of it is in the store.
+    /// Has the statement that a text spells answered, in as many tries as it takes. After an error nothing of it is in
+    /// the store.
     pub fn execute(&mut self, text: impl AsRef<[u8]>) -> Result<Reply, Error> {
-        self.reply(text.as_ref(), true)
+        self.ask(Statement::Text(text.as_ref()))
     }
 
-    /// Tries once to have a statement answered.
+    /// Tries once to have it answered.
     pub fn attempt(&mut self, text: impl AsRef<[u8]>) -> Result<Reply, Error> {
-        self.reply(text.as_ref(), false)
+        self.ask_once(Statement::Text(text.as_ref()))
     }
 
-    fn reply(&mut self, text: &[u8], goes_on: bool) -> Result<Reply, Error> {
+    /// Has a statement answered, in as many tries as it takes. After an error nothing of it is in the store.
+    pub fn ask(&mut self, statement: Statement) -> Result<Reply, Error> {
+        self.reply(statement, true)
+    }
+
+    /// Tries once to have it answered.
+    pub fn ask_once(&mut self, statement: Statement) -> Result<Reply, Error> {
+        self.reply(statement, false)
+    }
+
+    fn reply(&mut self, statement: Statement, goes_on: bool) -> Result<Reply, Error> {
         let mut xids = Vec::new();
         loop {
-            let (status, answer) = self.answer(text, &mut xids, goes_on);
+            let (status, answer) = self.answer(statement, &mut xids, goes_on);
             return match status {
                 OK => Ok(Reply::Ok),
                 VALUE => Ok(Reply::Value(answer.value[..answer.length as usize].to_vec())),
                 NONE => Ok(Reply::NoRow),
                 LIST if answer.count as usize > xids.len() => {
-                    let none = RawXid { format_id: 0, gtrid_length: 0, bqual_length: 0, data: [0; 128] };
-                    xids = vec![none; answer.count as usize];
+                    xids = vec![RawXid::NONE; answer.count as usize];
                     continue;
                 }
                 LIST => Ok(Reply::List(xids[..answer.count as usize].iter().map(xid_of).collect())),
@@ -372,23 +451,13 @@ impl Session {
 
     /// The status of the first try; if `goes_on`, the first that is neither `OVERTAKEN` nor `BEHIND`. A session that is
     /// behind needs a checkpoint, which others make: it lets them go on.
-    fn answer(&mut self, text: &[u8], xids: &mut [RawXid], goes_on: bool) -> (u32, RawAnswer) {
-        let mut answer = RawAnswer::NONE;
+    fn answer(&mut self, statement: Statement, xids: &mut [RawXid], goes_on: bool) -> (u32, RawAnswer) {
+        let (mut answer, xid) = (RawAnswer::NONE, statement.xid().map_or(RawXid::NONE, RawXid::of));
         loop {
-            let status = unsafe {
-                nigbaru_raw_attempt(
-                    self.handle(),
-                    text.as_ptr(),
-                    text.len(),
-                    &mut answer,
-                    xids.as_mut_ptr(),
-                    xids.len(),
-                )
-            };
-            match status {
+            match call(self.handle(), statement, &xid, &mut answer, xids) {
                 OVERTAKEN if goes_on => (),
                 BEHIND if goes_on => std::thread::yield_now(),
-                OK..=REFUSED => {
+                status @ OK..=REFUSED => {
                     self.place = answer.place;
                     self.yield_in_time(goes_on);
                     return (status, answer);
@@ -396,6 +465,93 @@ impl Session {
                 status => return (status, answer),
             }
         }
+    }
+}
+
+/// Has the library try a statement once; `xid` is its identifier, if it has one.
+fn call(session: *mut Handle, statement: Statement, xid: &RawXid, answer: &mut RawAnswer, xids: &mut [RawXid]) -> u32 {
+    let (list, room) = (xids.as_mut_ptr(), xids.len());
+    unsafe {
+        match statement {
+            Statement::Start(_) => nigbaru_raw_start(session, xid, answer),
+            Statement::End(_) => nigbaru_raw_end(session, xid, answer),
+            Statement::Prepare(_) => nigbaru_raw_prepare(session, xid, answer),
+            Statement::Commit(_) => nigbaru_raw_commit(session, xid, false, answer),
+            Statement::CommitOnePhase(_) => nigbaru_raw_commit(session, xid, true, answer),
+            Statement::Rollback(_) => nigbaru_raw_rollback(session, xid, answer),
+            Statement::Recover => nigbaru_raw_recover(session, answer, list, room),
+            Statement::Get(key) => nigbaru_raw_get(session, key.as_ptr(), key.len(), answer),
+            Statement::Put(key, value) => {
+                nigbaru_raw_put(session, key.as_ptr(), key.len(), value.as_ptr(), value.len(), answer)
+            }
+            Statement::Del(key) => nigbaru_raw_del(session, key.as_ptr(), key.len(), answer),
+            Statement::Disconnect => nigbaru_raw_disconnect(session, answer),
+            Statement::Text(text) => nigbaru_raw_attempt(session, text.as_ptr(), text.len(), answer, list, room),
+        }
+    }
+}
+
+/// Each statement by its values: nothing is spelled or read. Each is answered in as many tries as it takes.
+impl Session {
+    /// `XA START`
+    pub fn start(&mut self, xid: &Xid) -> Result<(), Error> {
+        self.ask(Statement::Start(xid)).map(drop)
+    }
+
+    /// `XA END`
+    pub fn end(&mut self, xid: &Xid) -> Result<(), Error> {
+        self.ask(Statement::End(xid)).map(drop)
+    }
+
+    /// `XA PREPARE`
+    pub fn prepare(&mut self, xid: &Xid) -> Result<(), Error> {
+        self.ask(Statement::Prepare(xid)).map(drop)
+    }
+
+    /// `XA COMMIT` of a prepared branch
+    pub fn commit(&mut self, xid: &Xid) -> Result<(), Error> {
+        self.ask(Statement::Commit(xid)).map(drop)
+    }
+
+    /// `XA COMMIT .. ONE PHASE`
+    pub fn commit_one_phase(&mut self, xid: &Xid) -> Result<(), Error> {
+        self.ask(Statement::CommitOnePhase(xid)).map(drop)
+    }
+
+    /// `XA ROLLBACK`
+    pub fn rollback(&mut self, xid: &Xid) -> Result<(), Error> {
+        self.ask(Statement::Rollback(xid)).map(drop)
+    }
+
+    /// `XA RECOVER`: the prepared branches
+    pub fn recover(&mut self) -> Result<Vec<Xid>, Error> {
+        match self.ask(Statement::Recover)? {
+            Reply::List(xids) => Ok(xids),
+            _ => Err(Error::Unexpected(OK)),
+        }
+    }
+
+    /// `GET`: the row's value, if there is such a row
+    pub fn get(&mut self, key: impl AsRef<[u8]>) -> Result<Option<Vec<u8>>, Error> {
+        match self.ask(Statement::Get(key.as_ref()))? {
+            Reply::Value(value) => Ok(Some(value)),
+            _ => Ok(None),
+        }
+    }
+
+    /// `PUT`
+    pub fn put(&mut self, key: impl AsRef<[u8]>, value: impl AsRef<[u8]>) -> Result<(), Error> {
+        self.ask(Statement::Put(key.as_ref(), value.as_ref())).map(drop)
+    }
+
+    /// `DEL`
+    pub fn del(&mut self, key: impl AsRef<[u8]>) -> Result<(), Error> {
+        self.ask(Statement::Del(key.as_ref())).map(drop)
+    }
+
+    /// `DISCONNECT`: rolls the session's branch back, unless it is prepared
+    pub fn disconnect(&mut self) -> Result<(), Error> {
+        self.ask(Statement::Disconnect).map(drop)
     }
 }
 
@@ -413,7 +569,7 @@ impl Session {
 impl Drop for Session {
     fn drop(&mut self) {
         // Without memory the branch stays until the session is taken again.
-        let end = self.end.unwrap_or_else(|| if self.execute("DISCONNECT").is_ok() { FREE } else { UNCLEAN });
+        let end = self.end.unwrap_or_else(|| if self.disconnect().is_ok() { FREE } else { UNCLEAN });
         self.shared.places[self.index].state.store(end, Ordering::Release);
     }
 }

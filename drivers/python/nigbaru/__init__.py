@@ -1,5 +1,5 @@
-"""PEP 249's two-phase calls over `xa_script serve`, or over a server of MySQL's protocol. It needs nothing but the
-standard library."""
+"""PEP 249's two-phase calls over `xa_script serve`, over a server of MySQL's protocol, or over the library in this
+process. It needs nothing but the standard library."""
 from __future__ import annotations
 
 from typing import Optional, Sequence
@@ -10,7 +10,9 @@ from .errors import (DatabaseError, DataError, Error, IntegrityError, InterfaceE
                      OperationalError, ProgrammingError, Warning)
 from .manager import Branch
 from .network import Remote
+from .programs import path_of
 from .server import Server, Word
+from .store import Store
 from .xid import Xid
 
 __version__ = "0.1.0"
@@ -32,6 +34,7 @@ class _Alone(Connection):
 
     def __init__(self, server: Server) -> None:
         super().__init__(server, 1)
+        self._own = server
 
     def close(self) -> None:
         """Ends the store, too."""
@@ -39,10 +42,10 @@ class _Alone(Connection):
             try:
                 super().close()
             finally:
-                self._server.close()
+                self._own.close()
 
 
 __all__ = ["BINARY", "Binary", "Branch", "Connection", "Cursor", "DATETIME", "DataError", "DatabaseError", "Error",
            "IntegrityError", "InterfaceError", "InternalError", "NUMBER", "NotSupportedError", "OperationalError",
-           "ProgrammingError", "ROWID", "Remote", "STRING", "Server", "Warning", "Xid", "__version__", "apilevel",
-           "connect", "paramstyle", "threadsafety"]
+           "ProgrammingError", "ROWID", "Remote", "STRING", "Server", "Store", "Warning", "Xid", "__version__",
+           "apilevel", "connect", "paramstyle", "path_of", "threadsafety"]

@@ -12,6 +12,7 @@ from .xid import Text, Xid, xid_from, xid_of
 if TYPE_CHECKING:
     from .network import Line
     from .server import Server
+    from .store import Seat
 
 # Where a transaction stands. IDLE: its work has ended, and it isn't prepared, since a call between failed. BY_TEXT: XA
 # START was a cursor's statement.
@@ -29,7 +30,7 @@ class Connection:
     DataError, OperationalError, IntegrityError = DataError, OperationalError, IntegrityError
     InternalError, ProgrammingError, NotSupportedError = InternalError, ProgrammingError, NotSupportedError
 
-    def __init__(self, server: Union[Server, Line], session: int) -> None:
+    def __init__(self, server: Union[Server, Line, Seat], session: int) -> None:
         self._server = server
         self._session: Optional[int] = session
         self._xid: Optional[Xid] = None

@@ -10,6 +10,7 @@ from typing import List, Optional, Sequence, Tuple, Union
 from .connection import Connection
 from .errors import Error, InterfaceError, OperationalError, ProgrammingError, refusal
 from .pipe import Deadline, Pipe
+from .programs import bundled
 
 SESSIONS = range(1, 17)
 LONGEST = 65536  # bytes of a line (docs/COMMANDS.md#serve)
@@ -28,8 +29,8 @@ class Server:
         """Starts a store that ends when this is closed.
 
         `command` is a list of words, as ["ssh", "HOST", "xa_script", "serve"]. Without it, `program serve` is started;
-        without `program`, that of the variable NIGBARU_PROGRAM, or else `xa_script` on PATH. OperationalError where it
-        can't be started.
+        without `program`, that of the variable NIGBARU_PROGRAM, the one in a release's wheel, or else `xa_script` on
+        PATH. OperationalError where it can't be started.
         `timeout` is how many seconds an answer may take. After that the store is gone for each of its connections, by
         OperationalError.
         """
@@ -192,14 +193,14 @@ def words_of(command: Optional[Sequence[Word]], program: Optional[Word]) -> List
 
 
 def program_at(program: Optional[Word]) -> str:
-    """Where the program is: what was passed, what NIGBARU_PROGRAM has, or xa_script on PATH."""
+    """Where the program is: what was passed, what NIGBARU_PROGRAM has, the one in this package, or xa_script on PATH."""
     if program is not None and not isinstance(program, (str, os.PathLike)):
         raise ProgrammingError(f"program is the path of xa_script, and not {program!r:.60}")
     named = os.fspath(program) if program is not None else os.environ.get("NIGBARU_PROGRAM")
     if named:
         path, whence = named, "by program" if program is not None else "by NIGBARU_PROGRAM"
     else:
-        path, whence = shutil.which("xa_script") or "", "on PATH"
+        path, whence = bundled("xa_script") or shutil.which("xa_script") or "", "on PATH"
     if not path:
         raise OperationalError(f"there is no xa_script {whence}: {ADVICE}")
     if not os.path.isfile(path) or not os.access(path, os.X_OK):

@@ -77,9 +77,12 @@ class TimeOuts(unittest.TestCase):
         self.gone(lambda: Server.over(ours[0], theirs[1], timeout=SHORT))
 
     def test_the_time_is_each_answers_own(self):
-        server = self.silent("while read line; do sleep 0.05; echo '1 OK'; done")
+        """Five answers together take longer than the time that each may take: 5 of 0.5 s, and 2 s for each, so that a busy
+        machine has four times as long as an answer needs."""
+        server = Server(["/bin/sh", "-c", "while read line; do sleep 0.5; echo '1 OK'; done"], timeout=2.0)
+        self.addCleanup(server.close)
         one = server.connect()
-        for _ in range(10):
+        for _ in range(5):
             one.put("k", "v")
 
     def test_what_is_no_time_is_told(self):

@@ -1,7 +1,8 @@
-//! Measures the store from Rust in the steady state, with the words and the modes of drivers/c/bench.c:
+//! Measures the store from Rust in the steady state, with the words and the modes of drivers/c/bench.c, but for `lost`,
+//! which isn't counted, and `slept`:
 //!
-//!     bench cycle|get|mix5 THREADS SECONDS ROWS
-//!     bench times THREADS STATEMENTS ROWS
+//!     bench MODE[,MODE..] THREADS SECONDS ROWS
+//!     bench times|times-all THREADS STATEMENTS ROWS
 //!
 //! The ring has 16,384 rows, or as many as BENCH_RING says.
 use nigbaru::{Reply, Session, Store};
@@ -14,52 +15,105 @@ use std::time::{Duration, Instant};
 
 const TURNS: usize = 100;
 const RING: u64 = 16384;
+/// Where the digits of a row's number begin in a text, and where they end.
+const DIGITS: (usize, usize) = (8, 15);
 
 /// The texts of a thread: those of its branches, and those that read its rows.
 struct Texts {
-    cycles: Vec<[String; 5]>,
-    gets: Vec<String>,
+    thread: u64,
+    cycles: Vec<[Vec<u8>; 5]>,
+    gets: Vec<Vec<u8>>,
+    /// How many threads use any of how many rows; none if each uses its hundred.
+    all: Option<(u64, u64)>,
+    random: u64,
+}
+
+/// The same text, about this row.
+fn about(text: &mut [u8], mut row: u64) {
+    for digit in text[DIGITS.0..DIGITS.1].iter_mut().rev() {
+        *digit = b'0' + (row % 10) as u8;
+        row /= 10;
+    }
 }
 
 impl Texts {
-    fn of(thread: usize) -> Texts {
+    fn of(thread: u64, all: Option<(u64, u64)>) -> Texts {
+        let key = |turn: usize| match all {
+            Some(_) => format!("row{:07}", 0),
+            None => format!("k{}_{}", thread, turn),
+        };
         let cycle = |turn: usize| {
             let xid = format!("'g{}_{}','b',1", thread, turn);
             [
                 format!("XA START {}", xid),
-                format!("PUT 'k{}_{}','v{}'", thread, turn, turn),
+                format!("PUT '{}','v{}'", key(turn), turn),
                 format!("XA END {}", xid),
                 format!("XA PREPARE {}", xid),
                 format!("XA COMMIT {}", xid),
             ]
+            .map(String::into_bytes)
         };
-        let get = |turn: usize| format!("GET 'k{}_{}'", thread, turn);
-        Texts { cycles: (0..TURNS).map(cycle).collect(), gets: (0..TURNS).map(get).collect() }
+        let get = |turn: usize| format!("GET '{}'", key(turn)).into_bytes();
+        Texts {
+            thread,
+            cycles: (0..TURNS).map(cycle).collect(),
+            gets: (0..TURNS).map(get).collect(),
+            all,
+            random: 88172645463325252 ^ (thread * 7919),
+        }
+    }
+
+    fn next_number(&mut self) -> u64 {
+        self.random ^= self.random << 13;
+        self.random ^= self.random >> 7;
+        self.random ^= self.random << 17;
+        self.random
+    }
+
+    /// The text of a statement of cycles. No two threads write the same row.
+    fn of_cycle(&mut self, cycle: usize, index: usize) -> &[u8] {
+        if let (Some((threads, rows)), 1) = (self.all, index) {
+            let row = (self.next_number() >> 20) % (rows / threads) * threads + self.thread - 1;
+            about(&mut self.cycles[cycle % TURNS][1], row);
+        }
+        &self.cycles[cycle % TURNS][index]
+    }
+
+    /// The text of a `PUT` or a `GET`, about a row that a number says.
+    fn of_mix(&mut self, number: u64, writes: bool) -> &[u8] {
+        let turn = (number >> 20) as usize % TURNS;
+        let text = if writes { &mut self.cycles[turn][1] } else { &mut self.gets[turn] };
+        if let Some((_, rows)) = self.all {
+            about(text, (number >> 20) % rows);
+        }
+        text
     }
 }
 
-fn ok(session: &mut Session, text: &str) {
-    assert_eq!(session.execute(text), Ok(Reply::Ok), "{}", text);
+fn ok(session: &mut Session, text: &[u8]) {
+    assert_eq!(session.execute(text), Ok(Reply::Ok), "{}", String::from_utf8_lossy(text));
 }
 
-fn value(session: &mut Session, text: &str) {
-    assert!(matches!(session.execute(text), Ok(Reply::Value(_))), "{}", text);
+fn value(session: &mut Session, text: &[u8]) {
+    assert!(matches!(session.execute(text), Ok(Reply::Value(_))), "{}", String::from_utf8_lossy(text));
 }
 
 fn put_rows(session: &mut Session, texts: &Texts) {
-    texts.cycles.iter().for_each(|cycle| ok(session, &cycle[1]));
+    if texts.all.is_none() {
+        texts.cycles.iter().for_each(|cycle| ok(session, &cycle[1]));
+    }
 }
 
-fn cycle(session: &mut Session, texts: &Texts, stops: &AtomicBool) -> u64 {
+fn cycle(session: &mut Session, texts: &mut Texts, stops: &AtomicBool) -> u64 {
     let mut done = 0;
     while !stops.load(Relaxed) {
-        texts.cycles[done as usize % TURNS].iter().for_each(|text| ok(session, text));
+        (0..5).for_each(|index| ok(session, texts.of_cycle(done as usize, index)));
         done += 1;
     }
     done
 }
 
-fn get(session: &mut Session, texts: &Texts, stops: &AtomicBool) -> u64 {
+fn get(session: &mut Session, texts: &mut Texts, stops: &AtomicBool) -> u64 {
     put_rows(session, texts);
     let mut done = 0;
     while !stops.load(Relaxed) {
@@ -69,19 +123,15 @@ fn get(session: &mut Session, texts: &Texts, stops: &AtomicBool) -> u64 {
     done
 }
 
-fn mix5(session: &mut Session, texts: &Texts, stops: &AtomicBool) -> u64 {
+fn mix5(session: &mut Session, texts: &mut Texts, stops: &AtomicBool) -> u64 {
     put_rows(session, texts);
-    let mut number = 88172645463325252 ^ (session.number() * 7919);
     let mut done = 0;
     while !stops.load(Relaxed) {
-        number ^= number << 13;
-        number ^= number >> 7;
-        number ^= number << 17;
-        let turn = (number >> 20) as usize % TURNS;
+        let number = texts.next_number();
         if number % 100 < 5 {
-            ok(session, &texts.cycles[turn][1]);
+            ok(session, texts.of_mix(number, true));
         } else {
-            value(session, &texts.gets[turn]);
+            value(session, texts.of_mix(number, false));
         }
         done += 1;
     }
@@ -89,10 +139,10 @@ fn mix5(session: &mut Session, texts: &Texts, stops: &AtomicBool) -> u64 {
 }
 
 /// How long each of so many statements takes, in nanoseconds.
-fn timed(session: &mut Session, texts: &Texts, count: usize) -> Vec<u64> {
+fn timed(session: &mut Session, texts: &mut Texts, count: usize) -> Vec<u64> {
     let mut times = Vec::with_capacity(count);
     for done in 0..count {
-        let text = &texts.cycles[done / 5 % TURNS][done % 5];
+        let text = texts.of_cycle(done / 5, done % 5);
         let begun = Instant::now();
         ok(session, text);
         times.push(begun.elapsed().as_nanos() as u64);
@@ -100,49 +150,72 @@ fn timed(session: &mut Session, texts: &Texts, count: usize) -> Vec<u64> {
     times
 }
 
-/// A store with rows that nobody touches, and sessions that have seen them.
-fn opened(threads: usize, rows: usize) -> Vec<Session> {
+/// A store with so many rows, and sessions that have seen them.
+fn opened(threads: u64, rows: u64) -> Vec<Session> {
     let ring = env::var("BENCH_RING").map_or(RING, |rows| rows.parse().unwrap());
-    let store = Store::open(ring, threads as u64).unwrap();
+    let store = Store::open(ring, threads).unwrap();
     let mut sessions = vec![store.session().unwrap()];
     for row in 0..rows {
-        ok(&mut sessions[0], &format!("PUT 'row{}','value{}'", row, row));
+        ok(&mut sessions[0], format!("PUT 'row{:07}','value{}'", row, row).as_bytes());
     }
     sessions.extend((1..threads).map(|_| store.session().unwrap()));
     // Whoever was idle meanwhile sees the rows now, and not while the time is taken.
-    sessions.iter_mut().for_each(|session| ok(session, "PUT 'k0_0','v'"));
+    sessions.iter_mut().for_each(|session| ok(session, b"PUT 'k0_0','v'"));
     sessions
 }
 
-/// What threads do a second.
-fn rate(work: fn(&mut Session, &Texts, &AtomicBool) -> u64, threads: usize, seconds: f64, rows: usize) -> f64 {
-    let (sessions, stops) = (opened(threads, rows), Arc::new(AtomicBool::new(false)));
-    let begun = Instant::now();
+/// Has each session do something on a thread of its own. Returns the sessions, and what they did.
+fn on_threads<R: Send + 'static>(
+    sessions: Vec<Session>,
+    all: Option<(u64, u64)>,
+    work: impl Fn(&mut Session, &mut Texts) -> R + Clone + Send + 'static,
+    meanwhile: impl FnOnce(),
+) -> (Vec<Session>, Vec<R>) {
     let running: Vec<_> = sessions
         .into_iter()
         .map(|mut session| {
-            let (texts, stops) = (Texts::of(session.number() as usize), Arc::clone(&stops));
-            thread::spawn(move || work(&mut session, &texts, &stops))
+            let work = work.clone();
+            thread::spawn(move || {
+                let mut texts = Texts::of(session.number(), all);
+                let done = work(&mut session, &mut texts);
+                (session, done)
+            })
         })
         .collect();
-    thread::sleep(Duration::from_secs_f64(seconds));
-    stops.store(true, Relaxed);
-    let done: u64 = running.into_iter().map(|thread| thread.join().unwrap()).sum();
-    done as f64 / begun.elapsed().as_secs_f64()
+    meanwhile();
+    running.into_iter().map(|thread| thread.join().unwrap()).unzip()
 }
 
-fn print_times(threads: usize, statements: usize, rows: usize) {
-    let running: Vec<_> = opened(threads, rows)
-        .into_iter()
-        .map(|mut session| {
-            let texts = Texts::of(session.number() as usize);
-            thread::spawn(move || timed(&mut session, &texts, statements / threads))
-        })
-        .collect();
-    let mut times: Vec<u64> = running.into_iter().flat_map(|thread| thread.join().unwrap()).collect();
+type Work = fn(&mut Session, &mut Texts, &AtomicBool) -> u64;
+
+/// What threads do a second.
+fn print_rate(name: &str, work: Work, sessions: Vec<Session>, seconds: f64, all: Option<(u64, u64)>) -> Vec<Session> {
+    let (threads, stops, begun) = (sessions.len(), Arc::new(AtomicBool::new(false)), Instant::now());
+    let theirs = Arc::clone(&stops);
+    let (sessions, done) = on_threads(
+        sessions,
+        all,
+        move |session, texts| work(session, texts, &theirs),
+        || {
+            thread::sleep(Duration::from_secs_f64(seconds));
+            stops.store(true, Relaxed);
+        },
+    );
+    let done: u64 = done.into_iter().sum();
+    println!("{} threads={} per_s={:.0} done={}", name, threads, done as f64 / begun.elapsed().as_secs_f64(), done);
+    sessions
+}
+
+fn print_times(name: &str, sessions: Vec<Session>, statements: usize, all: Option<(u64, u64)>) -> Vec<Session> {
+    let threads = sessions.len();
+    // So that no branch is left open.
+    let each = statements / threads / 5 * 5;
+    let (sessions, times) = on_threads(sessions, all, move |session, texts| timed(session, texts, each), || ());
+    let mut times: Vec<u64> = times.into_iter().flatten().collect();
     times.sort_unstable();
     let last = times.len() - 1;
-    println!("times threads={} p999_ns={} longest_ns={}", threads, times[last - times.len() / 1000], times[last]);
+    println!("{} threads={} p999_ns={} longest_ns={}", name, threads, times[last - times.len() / 1000], times[last]);
+    sessions
 }
 
 fn main() {
@@ -152,14 +225,22 @@ fn main() {
         _ => (0, 0),
     };
     if !(1..=16).contains(&threads) {
-        eprintln!("bench cycle|get|mix5 THREADS SECONDS ROWS, or bench times THREADS STATEMENTS ROWS");
+        eprintln!("bench MODE[,MODE..] THREADS SECONDS ROWS, or bench times|times-all THREADS STATEMENTS ROWS");
         process::exit(2);
     }
-    let work = match words[0].as_str() {
-        "cycle" => cycle,
-        "get" => get,
-        "mix5" => mix5,
-        _ => return print_times(threads, words[2].parse().unwrap(), rows),
-    };
-    println!("{} threads={} per_s={:.0}", words[0], threads, rate(work, threads, words[2].parse().unwrap(), rows));
+    let mut sessions = opened(threads, rows);
+    for name in words[0].split(',') {
+        let all = if name.ends_with("-all") { Some((threads, rows)) } else { None };
+        let work: Work = match name.trim_end_matches("-all") {
+            "cycle" => cycle,
+            "get" => get,
+            "mix5" => mix5,
+            "times" => {
+                sessions = print_times(name, sessions, words[2].parse().unwrap(), all);
+                continue;
+            }
+            _ => panic!("there is no mode {}", name),
+        };
+        sessions = print_rate(name, work, sessions, words[2].parse().unwrap(), all);
+    }
 }

@@ -1,0 +1,1 @@
+pytest_plugins = ["nigbaru.pytest_plugin"]
