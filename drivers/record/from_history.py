@@ -4,7 +4,7 @@
     from_history.py [--key KEY] [HISTORY] > RECORD
 
 A history has an operation's begin or end on each line, with process, type (invoke, ok, fail or info), f and value: an
-object of JSON, or a map of EDN as Jepsen writes it. docs/HISTORIES.md#jepsen-histories, says what becomes of each. If
+object of JSON, or a map of EDN as Jepsen writes it. drivers/record/JEPSEN.md says what becomes of each. If
 HISTORY isn't given it is the standard input. The status is 0 if a record was written; else 2, with the cause on the
 standard error. It needs Python 3.9. Nothing of it is proved.
 """

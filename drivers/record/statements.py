@@ -6,8 +6,9 @@ from pathlib import Path
 
 sys.path.append(str(Path(__file__).resolve().parent.parent / "page"))
 
-from classroom.program import usual_program  # noqa: E402
+from classroom.program import is_executable, usual_program  # noqa: E402
 
+__all__ = ["first_stranger", "is_executable", "usual_program"]
 NO_STATEMENT = re.compile(rb"^LINE ([0-9]+): not a statement$", re.M)
 
 

@@ -14,7 +14,7 @@ RECORDER = """
 import sys
 sys.path.insert(0, sys.argv.pop(1))
 import record
-record.pymysql, record.record_of = record, lambda options: [b"1 > GET 'k'", b"1 < NONE"]
+record.record_of = lambda options: [b"1 > GET 'k'", b"1 < NONE"]
 record.main()
 """
 

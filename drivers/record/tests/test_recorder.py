@@ -13,6 +13,8 @@ sys.dont_write_bytecode = True
 sys.path.insert(0, str(Path(__file__).resolve().parent.parent))
 
 import record as recorder  # noqa: E402
+import sessions  # noqa: E402
+from databases import mysql  # noqa: E402
 
 
 class MySQLError(Exception):
@@ -47,6 +49,9 @@ class Connection:
     def tells(self, text):
         return self.told.get(text)
 
+    def thread_id(self):
+        return 7
+
     def cursor(self):
         return Cursor(self)
 
@@ -58,10 +63,11 @@ class Recorded(unittest.TestCase):
     """A session whose driver tells for each statement an error, or for how long its answer is waited for."""
 
     def session(self, told, timeout=None):
-        recorder.pymysql = types.SimpleNamespace(MySQLError=MySQLError)
-        options = types.SimpleNamespace(cut={}, lose={}, timeout=timeout, is_mariadb=True)
-        found = recorder.Session(3, options, recorder.Record(), None, {})
-        found.connection = Connection(told)
+        mysql.pymysql = types.SimpleNamespace(MySQLError=MySQLError)
+        options = types.SimpleNamespace(cut={}, lose={}, timeout=timeout)
+        database = types.SimpleNamespace(is_mariadb=True, is_killed=False)
+        found = sessions.Session(3, options, sessions.Record(), database, {})
+        found.client = mysql.Client(database, Connection(told))
         return found
 
     def lines(self, told, *statements, timeout=None):
@@ -80,7 +86,7 @@ class Recorded(unittest.TestCase):
             with self.subTest(number=number):
                 session, lines = self.lines({b"XA END 'a'": (number, "closed")}, b"XA END 'a'")
                 self.assertEqual(lines, [b"3 > XA END 'a'", b"3 ! GONE"])
-                self.assertTrue(session.lost and session.connection.is_broken)
+                self.assertTrue(session.lost and session.client.connection.is_broken)
 
     def test_an_answer_that_the_driver_cannot_read_is_a_loss(self):
         session, lines = self.lines({b"XA END 'a'": ("bad packet",)}, b"XA END 'a'")
@@ -103,12 +109,13 @@ class Scripts(unittest.TestCase):
     """What is said of a script, by a recorder without a server."""
 
     def said(self, text, any_text=False, program=os.environ["XA_SCRIPT"]):
-        recorder.pymysql = types.SimpleNamespace(MySQLError=MySQLError)
+        mysql.pymysql = types.SimpleNamespace(MySQLError=MySQLError)
         with tempfile.TemporaryDirectory() as folder, mock.patch.dict(os.environ, NIGBARU_PROGRAM=str(program)), \
-                mock.patch.object(recorder, "connect", side_effect=MySQLError("none")):
+                mock.patch.object(mysql, "connect", side_effect=MySQLError("none")):
             script = Path(folder) / "script"
             script.write_text(text)
-            options = types.SimpleNamespace(script=script, any_text=any_text, lose=[], cut=[], database="d", socket="s")
+            options = types.SimpleNamespace(script=script, any_text=any_text, lose=[], cut=[], database="d", socket="s",
+                                            postgresql=False)
             with self.assertRaises(recorder.Fault) as raised:
                 recorder.record_of(options)
             return str(raised.exception).replace(folder, "")

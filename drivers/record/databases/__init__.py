@@ -1,0 +1,1 @@
+"""The databases that can be recorded. Each has a class of its own, which sessions.py calls."""
