@@ -13,12 +13,16 @@ from typing import TYPE_CHECKING
 from urllib.parse import quote_plus
 
 from .points import HOLD, MARKED, PAUSES
+from .rows import ANY, DELETED
 
 if TYPE_CHECKING:
     from .trial import Outcome
 
 CALLS, PAGE = "story.calls", "story.html"
 CLASSROOM = "http://127.0.0.1:8400/"
+# The manager under test stands in the manager's place in the drawing; but for a statement that is another's.
+MANAGER, BY_OTHER = "#@ manager Tested manager", "#@ other"
+MOST_ROWS = 4  # that a verdict names
 MOST = 15  # stores that a story can have: the classroom's are 0 to 15, and 0 isn't used
 LOGGED = re.compile(r"store (\d+), .*the fault .*, at .*: ")  # a statement with a fault, in the server's log
 FAULT = re.compile(r"# (?:session|connection) (\d+): the fault [A-Z ]+ \d+ "
@@ -30,16 +34,18 @@ LOOK = f"GET {MARKED}"
 CONVERT = " CONVERT XID"
 SHOWS_PLANTED = ("FOREIGN", "IN DOUBT")  # verdicts that another manager's branches may be the cause of
 
-# What is said of a fault, and whether it stands before the statement that the store gets. None: nothing is disturbed.
+# What is told of a fault, in the words of the classroom: LOST has the statement that the store never gets. Else the store
+# got it, and the manager gets no answer.
+LOST, UNANSWERED, REMARK = "lost", "unanswered", "remark"
 SAID = {
-    "close-before": "Lost on its way, and the connection is cut: {}",
-    "close-after": "The answer is lost: the connection is cut.",
-    "stall": "While this is on its way, somebody else rolls the branch back: {}",
-    "stall-after": "The manager is killed before it gets the answer.",
-    "error": "The manager is told {number}, and the store never gets {}",
-    "outage": "The store is restarted. All connections are cut, and it never gets {}",
+    "close-before": (LOST, "It is lost on its way, and the connection is cut."),
+    "close-after": (UNANSWERED, "The answer is lost: the connection is cut."),
+    "stall": (REMARK, "While {words} is on its way, somebody else rolls the branch back."),
+    "stall-after": (UNANSWERED, "The manager never gets the answer."),
+    "error": (LOST, "The manager is told {number}, and the store never gets it."),
+    "outage": (LOST, "All connections are cut, and the store never gets it."),
 }
-KILLED = "The manager is killed. The store never gets {}"
+KILLED = LOST, "The store never gets it."
 
 
 @dataclass
@@ -64,9 +70,19 @@ class Step:
         client did."""
         return not statement.what and statement.text.removesuffix(CONVERT) == self.text.removesuffix(CONVERT)
 
-    def said(self) -> str:
-        form = KILLED if (self.what, float(self.number)) == ("stall", HOLD) else SAID[self.what]
-        return form.format(readable(self.text), number=self.number)
+    def kills(self) -> bool:
+        return float(self.number) == HOLD and self.what in ("stall", "stall-after")
+
+    def told(self, store: int) -> Iterator[str]:
+        """The lines that tell this fault."""
+        how, form = KILLED if self.what == "stall" and self.kills() else SAID[self.what]
+        said = form.format(words=" ".join(self.text.split(" ")[:2]), number=self.number)
+        yield (f"# {said}" if how == REMARK else f"#@ {how} {store} {readable(self.text)} | {said}" if how == LOST
+               else f"#@ {how} {store} {said}")
+        if self.kills():
+            yield "#@ crash The manager is killed."
+        elif self.what == "outage":
+            yield f"#@ outage {store} The store is restarted."
 
 
 def steps_of(record: str) -> list[Step]:
@@ -145,12 +161,15 @@ class Teller:
         self._recoveries, self._in_between, self._shows_planted = recoveries, in_between, shows_planted
         self._looks: Counter[int] = Counter()  # marks of the bench in each store
         self._open: set[tuple[int, str]] = set()  # sessions that have a branch that isn't prepared
+        self._held: dict[int, Step] = {}  # by store the fault by which a statement of the manager waits for another's
 
     def tell(self, store: int, step: Step) -> None:
         key = (store, step.session)
         if step.what:
             if step.is_disturbing():
-                self.lines.append(f"# {step.said()}")
+                self.lines += step.told(store)
+            if step.is_disturbing() and step.passes():
+                self._held[store] = step
         elif step.text == LOOK:
             self._look(store)
         elif step.text == "DISCONNECT":
@@ -168,6 +187,10 @@ class Teller:
         return looks % 2 == 1 or not step.text.startswith("XA RECOVER")
 
     def _statement(self, store: int, step: Step) -> None:
+        if store in self._held and self._held[store].is_of(step):
+            del self._held[store]
+        if store in self._held or self._looks[store] == 0:
+            self.lines.append(BY_OTHER)
         self.lines.append(f"AT {store} {readable(step.text)}")
         if step.reply == "OK" and step.text.startswith("XA START"):
             self._open.add((store, step.session))
@@ -183,7 +206,7 @@ class Teller:
             return
         run = f"The run has ended. In doubt: {self._in_between}."
         ended = run if number == 1 else f"Recovery {number - 1} has ended."
-        self.lines.append(f"# {ended} Recovery {number} begins.")
+        self.lines.append(f"#@ restart {ended} Recovery {number} begins.")
 
 
 def lines_of(outcome: Outcome, log: Sequence[str], records: Sequence[str]) -> list[str]:
@@ -191,16 +214,45 @@ def lines_of(outcome: Outcome, log: Sequence[str], records: Sequence[str]) -> li
     shows_planted = outcome.verdict in SHOWS_PLANTED
     teller = Teller(len(outcome.statuses) - 1, outcome.in_between, shows_planted)
     verdict = outcome.verdict + (f", {outcome.why}" if outcome.why else "")
-    teller.lines += [f"# {outcome.point or 'without a fault'}: {verdict}",
-                     "# The manager under test is the other client here. The coordinator and store 0 aren't used."]
+    teller.lines += [f"# {outcome.point or 'without a fault'}: {verdict}", MANAGER]
     if shows_planted:
         teller.lines.append("# First another manager prepares its branches, which the manager has to leave alone.")
     for store, step in merged(log, [steps_of(record) for record in records]):
         teller.tell(store, step)
-    teller.lines.append("# The rows in the end")
-    teller.lines += [f"AT {store} GET {readable(key.decode())}"
-                     for store, rows in enumerate(outcome.wanted, 1) for key in rows]
+    teller.lines.append("# The rows in the end, as the bench reads them")
+    for store, rows in enumerate(outcome.wanted, 1):
+        for key in rows:
+            teller.lines += [BY_OTHER, f"AT {store} GET {readable(key.decode())}"]
+    in_the_end = rows_said(outcome)
+    said = ". ".join(part for part in (outcome.why, in_the_end[:1].upper() + in_the_end[1:]) if part)
+    teller.lines.append(f"#@ verdict {outcome.verdict}: {said}")
     return teller.lines
+
+
+def rows_said(outcome: Outcome) -> str:
+    """The rows that say so: first those that aren't as a commit leaves them."""
+    found = [(rows.get(key), store, key, value) for store, (wanted, rows) in enumerate(
+        zip(outcome.wanted, outcome.rows), 1) for key, value in wanted.items()]
+    if found and all(is_as_wanted(left, wanted) for left, _, _, wanted in found):
+        return "each row is as a commit leaves it"
+    if found and all(left is None for left, _, _, _ in found):
+        return "each row is as it was before"
+    found.sort(key=lambda row: is_as_wanted(row[0], row[3]))
+    return "; ".join(row_said(*row) for row in found[:MOST_ROWS])
+
+
+def is_as_wanted(left: bytes | None, wanted: bytes) -> bool:
+    return left is not None and wanted in (ANY, left)
+
+
+def row_said(left: bytes | None, store: int, key: bytes, wanted: bytes) -> str:
+    now = "is as it was before" if left is None else "was deleted" if left == DELETED else f"is {readable(left.decode())}"
+    name = f"row {readable(key.decode())} of store {store} {now}"
+    if is_as_wanted(left, wanted):
+        return f"{name}, as a commit leaves it"
+    return (f"{name}, and a commit "
+            + ("writes it" if wanted == ANY else "deletes it" if wanted == DELETED
+               else f"makes it {readable(wanted.decode())}"))
 
 
 def readable(text: str) -> str:

@@ -113,6 +113,8 @@ COMMANDS = Commands()
 
 
 class Trial:
+    records: list[str]
+
     def __init__(self, setup: Setup, point: Point | None, base: Point | None = None, phase: str = RUN) -> None:
         """`base` is the point at which the run is killed if `point` is one of its recovery, whose phase is named."""
         self.setup, self.point, self.base, self.phase = setup, point, base, phase

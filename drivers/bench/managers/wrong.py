@@ -4,7 +4,7 @@
     wrong.py NAME run VALUE | recover
 """
 import sys
-from contextlib import suppress  # noqa: F401  (a line of these managers uses it)
+from contextlib import suppress
 from pathlib import Path
 
 VOTES = "        votes = [vote(connections[number], gtrid, number) for number in STORES]\n"
@@ -54,4 +54,4 @@ def text_of(name: str) -> str:
 
 if __name__ == "__main__":
     code = text_of(sys.argv.pop(1))
-    exec(compile(code, "wrong", "exec"))
+    exec(compile(code, "wrong", "exec"), {**globals(), "suppress": suppress})

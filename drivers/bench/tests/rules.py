@@ -10,7 +10,6 @@ or if both tries fail; then the branch is left to the recovery.
 from collections.abc import Callable
 from dataclasses import dataclass
 
-import support  # noqa: F401  (makes the bench's modules known)
 from breaker.points import (
     KILLED_AFTER, KILLED_BEFORE, KILLS, LOST, REDO, RESTARTED, ROLLED_BACK, RUN, UNANSWERED, UNDO, Point, Site, actions)
 
@@ -33,7 +32,7 @@ class Rule:
     says: str
     is_found: Callable[[Point], bool]
     verdict: str = MIXED
-    sites: Sites = None
+    sites: Sites | None = None
 
     def points(self) -> list[Point]:
         """All points of the manager's table."""
@@ -46,7 +45,8 @@ class Rule:
     def part(self) -> list[str]:
         """A few points: of each statement at which it is found one where it is, and one where it isn't; and a point of
         another statement."""
-        chosen, others = {}, []
+        chosen: dict[tuple[Site, bool], str] = {}
+        others: list[str] = []
         for point in self.points():
             chosen.setdefault((point.site, self.is_found(point)), str(point))
         wrong = {site for site, is_found in chosen if is_found}

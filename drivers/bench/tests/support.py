@@ -2,7 +2,6 @@
 import json
 import os
 import subprocess
-import sys
 import tempfile
 from pathlib import Path
 
@@ -13,8 +12,6 @@ PROGRAM = os.environ["XA_SCRIPT"]
 PYTHON = "/usr/bin/python3"
 JOBS = os.environ.get("JOBS", str(min(len(os.sched_getaffinity(0)), 4)))
 IS_LONG = os.environ.get("LONG") == "1"
-
-sys.path.insert(0, str(FOLDER))
 
 
 def manager(name, *words):

@@ -12,12 +12,12 @@ import shutil
 import signal
 import socket
 import subprocess
-import sys
 import tempfile
 import time
 import unittest
 import xml.etree.ElementTree
 from pathlib import Path
+from unittest import mock
 from urllib.parse import unquote_plus
 
 from support import BENCH, FOLDER, PROGRAM, PYTHON, bench, found, manager, name_of
@@ -153,6 +153,8 @@ class Reports(unittest.TestCase):
     def check_story(self, kept, point):
         calls = (kept / "story.calls").read_text().splitlines()
         self.assertTrue(calls[0].startswith(f"# {point}: "), calls)
+        verdict = calls[0].removeprefix(f"# {point}: ").partition(", store")[0]
+        self.assertTrue(calls[-1].startswith(f"#@ verdict {verdict}: "), calls)
         ran = subprocess.run([PROGRAM, "coordinate", "--stores", "3", "--file", kept / "story.calls"],
                              stdout=subprocess.PIPE, text=True, check=True)
         replies = [line
@@ -181,14 +183,17 @@ class Reports(unittest.TestCase):
 
 class Servers(unittest.TestCase):
     def test_which_is_taken(self):
-        """The one that is named; else a release's, or a clone's that is built, and without one it says what to do. The
-        help says so."""
+        """The one that is named; else a release's, a clone's that is built, or the one on PATH, and without one it says
+        what to do. The help says so."""
         loader = importlib.machinery.SourceFileLoader("bench", str(BENCH))
         module = importlib.util.module_from_spec(importlib.util.spec_from_loader("bench", loader))
         loader.exec_module(module)
         words = ["--run", "true", "--recover", "true", "--program", PROGRAM]
         with tempfile.NamedTemporaryFile() as built:
             Path(built.name).chmod(0o755)
+            with mock.patch.dict(os.environ, PATH=str(Path(built.name).parent)):
+                module.SERVERS = (Path("/nowhere") / Path(built.name).name,)
+                self.assertEqual(module.server_of(module.parser_of().parse_args(words)), [built.name])
             for paths in ((Path(built.name), Path("/nowhere")), (Path("/nowhere"), Path(built.name)),
                           (Path("/nowhere"),)):
                 module.SERVERS = paths
@@ -200,8 +205,8 @@ class Servers(unittest.TestCase):
                 self.assertEqual(module.server_of(module.parser_of().parse_args([*words, "--server", "a 'b c'"])),
                                  ["a", "b c"])
         said = subprocess.run([PYTHON, BENCH, "--help"], stdout=subprocess.PIPE, text=True, check=True).stdout
-        self.assertRegex(re.sub(r"\s+", " ", said), "by default bin/nigbaru-server of a release, or "
-                         "server/target/release/nigbaru- ?server of a clone")
+        self.assertRegex(re.sub(r"\s+", " ", said), "by default bin/nigbaru-server of a release, "
+                         "server/target/release/nigbaru- ?server of a clone, or the one on PATH")
 
 
 class Managers(unittest.TestCase):

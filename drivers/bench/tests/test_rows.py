@@ -1,7 +1,6 @@
 """Which rows a manager's transactions left, by histories that are written here, and which of them are missing."""
 import unittest
 
-import support  # noqa: F401  (makes the bench's modules known)
 from breaker.rows import ANY, DELETED, expected, lost, rows_of
 
 OWN, OTHER = "0x6f", "0x66"  # gtrids

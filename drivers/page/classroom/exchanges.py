@@ -13,7 +13,15 @@ from .record_lines import BLANKS, lines_of
 from .talk import unknown_transaction
 
 REMARK, BLANK, WORK, STRANGER, CRASH, COORDINATOR = "remark", "blank", "work", "stranger", "crash", "coordinator"
+EVENT = "event"
 CAPTIONS = (REMARK, BLANK)
+# A remark that tells what happens to a manager of its own, whose statements are those of the other client: it is drawn,
+# and the program passes it by. Behind the word stands a store where it has one, and then what is said.
+TELLS = re.compile(rb"#@[ \t]*(manager|other|crash|restart|lost|unanswered|outage|verdict)\b[ \t]*"
+                   rb"(?:(\d{1,2})\b[ \t]*)?(.*)", re.S)
+NAMES, BY_OTHER = b"manager", b"other"  # of these, those that nothing is drawn for
+ASKED = (b"DISCONNECT", b"XA RECOVER")  # statements by which a recovery asks a store
+UNHEARD = b"unanswered"
 VOTES = (b"READY", b"ONE PHASE", b"NO", b"NOTHING")
 # answers behind which a transaction has no branch left for a recovery, by the call's word
 FINISHED = (b"COMMITTED", b"ROLLED BACK", b"HAZARD")
@@ -70,11 +78,21 @@ class Exchange:
     over: frozenset = frozenset()               # the transactions that had ended before this call
     is_failing: bool = False                    # a session was let fail, and its coordinator not stopped since
     is_doubt_in_way: bool = False               # it was refused a row that a branch in doubt has locked
+    is_managers: bool = False                   # of the other client: it is the manager that is shown in its own place
+    is_unheard: bool = False                    # its answer is lost, as the remark behind it tells
+    event: bytes = b""                          # what a remark tells, by its word
     reason: bytes = b""
 
     @property
     def words(self):
         return words_of(self.line)
+
+    @property
+    def statement(self):
+        """What is for a store: without the words that say for which, and in which transaction."""
+        before = {STRANGER: 2, WORK: 3}.get(self.kind, 0)
+        words = self.said.split(None, before)
+        return words[-1] if before and len(words) > before else self.said
 
     @property
     def first(self):
@@ -98,6 +116,11 @@ class Exchange:
         if self.kind == STRANGER:
             return VOTE_ASKED.match(self.said) is not None and not self.is_bad()
         return self.gave_work() or (self.kind == WORK and self.answer is None)
+
+    def only_asked(self, store):
+        """Whether it is a recovery that asked a store, which answered that nothing is prepared there."""
+        said = [one for asked, part in self.groups if asked == store for one in part]
+        return self.words[0] == b"RECOVER" and all(one.is_answered and one.text in ASKED for one in said)
 
     def ends_transaction(self):
         return self.first.startswith(ENDINGS.get(self.words[0], ()))
@@ -149,6 +172,10 @@ def read_call(place, line):
     trimmed = line.strip(BLANKS)
     if not trimmed:
         return Exchange(place, line, BLANK, None, b"")
+    tells = TELLS.fullmatch(trimmed)
+    if tells:
+        return Exchange(place, line, BLANK if tells[1] in (NAMES, BY_OTHER) else EVENT,
+                        int(tells[2]) if tells[2] else None, tells[3], event=tells[1])
     if trimmed.startswith(b"#"):
         return Exchange(place, line, REMARK, None, trimmed[1:].strip(BLANKS))
     word, *words = trimmed.split()
@@ -219,6 +246,7 @@ def exchanges(lines, answers, counts, why=None):
     """Every call, with what came of those that are answered. `counts` has for each line how many calls it makes of the
     session in each store."""
     found = [read_call(place, line) for place, line in enumerate(lines)]
+    give_to_manager(found)
     votes, decided, fuses, is_failing, before = {}, set(), {}, False, Shown()
     over, locks = frozenset(), Locks()
     for it in found[:len(answers)]:
@@ -245,6 +273,20 @@ def exchanges(lines, answers, counts, why=None):
         it.is_doubt_in_way = locks.is_doubt_in_way(it)
         before = it.behind
     return found
+
+
+def give_to_manager(found):
+    """Gives the statements of the other client to the manager that a remark names, but for those behind a remark that
+    they are another's; and says of each whose answer is lost."""
+    is_named, is_other, last = False, False, {}
+    for it in found:
+        is_named |= it.event == NAMES
+        is_other |= it.event == BY_OTHER
+        if it.kind == STRANGER:
+            it.is_managers, is_other = is_named and not is_other, False
+            last = {it.store: it}
+        elif it.event == UNHEARD and it.store in last:
+            last[it.store].is_unheard = True
 
 
 def said(it, store, of, fuses, is_decided):

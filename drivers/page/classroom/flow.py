@@ -1,10 +1,11 @@
 """Labels of a sequence diagram: runs of words that are put in lines, none wider than there is room."""
 from xml.sax.saxutils import escape
 
-from .svg import element, pieces, width_of
+from .svg import CUT, element, pieces, width_of
 
 LETTER = 0.605      # the width of a letter of one width, in letters' heights
 GAP = 0.55          # between two runs
+SIGN = "cut-sign"   # the kind of a run that stays with the word behind it
 # The widths of letters in the type of terms and of remarks: those of DejaVu Sans, which other faces don't pass.
 NARROW = {**dict.fromkeys(" ijl.,:;'|", 0.34), **dict.fromkeys("frt()[]-", 0.45), **dict.fromkeys("csz?", 0.56),
           **dict.fromkeys("mwMW", 0.99), **dict.fromkeys("ABCEFKLPRSTVXYZ", 0.7), **dict.fromkeys("DGHNOQU", 0.79)}
@@ -58,14 +59,35 @@ class Run:
                        for piece, seen in self.parts)
 
 
+def cut_lines(lines, most, room):
+    """So many lines at most; where there are more, the last that stays ends in a sign that it was cut."""
+    if len(lines) <= most:
+        return lines
+    *kept, last = lines[:most]
+    at, run = last[-1]
+    sign = wide(run.kind, CUT)
+    fits = run.parts
+    while len(fits) > 1 and at + sum(wide(run.kind, piece) for piece, _ in fits) + sign > room:
+        fits = fits[:-1]
+    return [*kept, [*last[:-1], (at, run.of([*fits, (CUT, True)]))]]
+
+
+def beside_sign(run, room):
+    """How much of a run stays with the sign before it: all if there is room for it, else its first word."""
+    whole = GAP + run.width()
+    return whole if whole <= room else GAP + run.words()[0].width()
+
+
 def flow(runs, room):
     """Lines of pairs, where each run begins and the run; and how wide the widest line is. A run moves to a new line
     before it is parted at blanks, and then anywhere."""
-    lines, at = [[]], 0.0
-    for run in runs:
+    lines, at, is_behind_sign = [[]], 0.0, False
+    for run, following in zip(runs, [*runs[1:], None]):
         whole = run.width()
-        if lines[-1] and at + whole > room and (whole <= room or run.width() > room - at):
-            lines, at = ([*lines, []], 0.0) if whole <= room else (lines, at)
+        needed = whole + (beside_sign(following, room - whole) if run.kind == SIGN and following else 0)
+        if lines[-1] and at + needed > room >= needed and not is_behind_sign:
+            lines, at = [*lines, []], 0.0
+        is_behind_sign = run.kind == SIGN
         for piece in [run] if at + whole <= room else run.words():
             while piece.parts:
                 if lines[-1] and at + piece.width() > room:

@@ -134,8 +134,11 @@ def sequence(pool, question):
         ran = run_once(pool, [*words, *more], text, limits.answer_seconds)
         return ran["output"].encode("latin-1"), ran["error"].encode()
 
-    drawn, is_whole = diagram(run, pool.counts, lines, int(words[2]), limits.probe_seconds, at, **drawing)
-    return {"svg": drawn, "whole": is_whole}
+    def show(text):
+        return run_once(pool, ["show"], text, limits.answer_seconds)["output"].encode("latin-1")
+
+    drawn, is_whole = diagram(run, show, pool.counts, lines, int(words[2]), limits.probe_seconds, at, **drawing)
+    return {**drawn, "whole": is_whole}
 
 
 def stops(pool, question):

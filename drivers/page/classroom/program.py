@@ -38,4 +38,5 @@ def no_program(path):
     """What is wrong with a path that should be the program, in one line, with what to do."""
     wrong = ("is a folder" if path.is_dir() else "isn't there" if not path.exists()
              else "isn't xa_script" if is_executable(path) else "isn't executable")
-    return f"the program {path} {wrong}: build it by scripts/build, or name a built xa_script by --program"
+    return (f"the program {path} {wrong}: build it by scripts/build, install a release, or name a built "
+            "xa_script by --program")

@@ -1,21 +1,25 @@
 """Draws the calls of a coordinator as a sequence diagram: a lifeline for the transaction manager, the coordinator, each
-store and the other client, and time goes down.
-
-Each message has a row of its own with its label above its arrow, so no label can lie over another.
-"""
-import math
+store that takes part and the other client, and time goes down."""
+import re
 from pathlib import Path
 from xml.sax.saxutils import escape
 
-from .exchanges import CAPTIONS, CRASH, REMARK, STRANGER, branch_name, transaction_of
+from . import narration
+from .boxes import Box, put_box
+from .canvas import HEAD, LINE, MARGIN, Canvas
+from .exchanges import CAPTIONS, CRASH, EVENT, NAMES, REMARK, STRANGER, branch_name, transaction_of
 from .flow import Run, flow
+from .lanes import CLIENT, COORDINATOR, FIRST_STORE, MANAGER, Lanes, taking_part
 from .record_lines import lines_of
+from .signs import Signs, digits
 from .svg import element, plain
 
 STYLE = (Path(__file__).resolve().parent.parent / "static/css/sequence.css").read_text(encoding="utf-8")
-MANAGER, CLIENT, FIRST_STORE = 0, -1, 2
-COORDINATOR = 1
 MOST_CALLS = 400
+# words of the textbook that are shorter where there is no room for them
+SHORT = {"acknowledgement": "ack", "heuristic outcome": "heuristic"}
+LISTED = re.compile(rb"(\d+) (\d+) (\d+) (.*)", re.S)  # a row of XA RECOVER as its bytes are
+GOOD = ("atomic", "heuristic, told")  # verdicts of a manager that is right
 BEFORE = 300        # of these, before the cursor
 LEGEND = [
     ("coordinator", "asks the participants to vote, and tells each how the transaction ends"),
@@ -27,17 +31,11 @@ LEGEND = [
     ("heuristic outcome", "somebody else finished a branch that was in doubt, so stores may differ"),
 ]
 # in heights of letters
-LINE = 1.24
-ARROW = 0.24        # from a label to its arrow
-BELOW = 0.38        # from an arrow to the next label
 BETWEEN = 0.45      # calls
-MARGIN = 0.6        # at the right of labels
 SIGN = 1.3          # from the sign that removes a line to the right
 BESIDE = 14         # the least width of a frame that leaves the other lifelines
-HEAD = 3.1
 BAND = 0.95
 QUESTION = [Run("term", "?"), Run("note", "what is it answered?")]
-NAMES = [("Transaction manager", "Manager", "TM"), ("Coordinator", "Coord.", "C"), ("Other client", "Client", "Cl.")]
 
 
 class Button:
@@ -52,45 +50,45 @@ class Button:
                              "aria_label": self.says, **data}, element("title", {}, escape(self.says)), *inside)
 
 
-class Sequence:
+class Sequence(Canvas):
     """`at` is how many lines were given; `asked` is whether the next one's answer is asked for. Where `is_file`, there
     are no buttons, and a legend below. In a quiz a remark is kept back until the call that it stands above is
-    answered."""
+    answered. `changes` has what messages changed in stores. `wants` has how wide labels are, as a drawing before this
+    one found it."""
 
-    def __init__(self, found, stores, at, width=900, size=14, asked=False, is_file=False, quiz=False):
+    def __init__(self, found, stores, at, width=900, size=14, asked=False, is_file=False, quiz=False, changes=None,
+                 wants=None, signs=None):
         self.found, self.stores, self.at, self.asked, self.is_file = found, stores, at, asked, is_file
         self.participants = {it.store for it in found if it.makes_participant()}
+        self.manager = next((plain(it.said) or "Tested manager" for it in found if it.event == NAMES), None)
+        order = taking_part(found, stores, self.manager is not None)
         if asked and self.next() is not None:
             self.found = found[:self.next() + 1]  # what stands behind it may tell the answer
         self.kept_back = self.telling_captions() if quiz else set()
         self.width, self.size = max(260, width), size
         self.gutter = (1.2 if is_file else 1.6) * size + 0.62 * size * len(str(max(1, len(found))))
-        count = stores + 3
-        self.step = (self.width - self.gutter - 0.4 * size) / count
+        self.lanes = Lanes(order, self.gutter, self.width, size, wants or {})
+        self.changes, self.signs, self.legend_of = changes or {}, Signs(), signs
+        self.wants = {}                     # for two lifelines the widest label between them
+        self.steps, self.boxes = [], []     # of each call that is answered, and the stores' rows
         self.y, self.margin, self.waiting = HEAD * size, MARGIN, ""
+        self.floor = 0                      # down to which the last box beside a lifeline reaches
         self.below, self.marks = [], []     # what lies below the labels, and these
         # the branches in doubt: from where on, and which place beside one another; and those that were
         self.doubts, self.closed = {}, []
-        self.alive = self.y                 # from where on the coordinator's lifeline goes, or None while it is crashed
-        self.lives, self.restarts = [], 0
+        # from where on a lifeline goes, or None while it is crashed
+        self.alive = {lane: self.y for lane in order}
+        self.lives = []
         self.current = None
         # where a store's branch is prepared or finished within a call, by the call's place and the store
         self.ended = {}
-
-    # places
-
-    def x(self, lifeline):
-        count = self.stores + 3
-        return self.gutter + self.step * (lifeline % count + 0.5)
-
-    def store(self, store):
-        return FIRST_STORE + store if store is not None and store < self.stores else None
 
     # the whole
 
     def text(self):
         first = max(0, min(self.at - BEFORE, len(self.found) - MOST_CALLS)) if len(self.found) > MOST_CALLS else 0
         drawn = self.found[first:first + MOST_CALLS]
+        self.name_signs()
         if first:
             self.remark(f"The lines 1 to {first} aren't drawn.", "note")
         for it in drawn:
@@ -101,57 +99,24 @@ class Sequence:
         self.y += 0.6 * self.size
         end = self.y
         self.end_doubts(end)
-        if self.alive is not None:
-            self.lives.append((self.alive, end))
+        self.lives += [(lane, since, end) for lane, since in self.alive.items() if since is not None]
         foot = self.legend() if self.is_file else []
         height, size = round(self.y), self.size
         inside = [element("title", {}, "Sequence diagram of a two-phase commit"), element("style", {}, escape(STYLE)),
                   self.hatching(),
                   element("rect", {"class_": "paper", "width": self.width, "height": height}),
-                  *([self.current] if self.current else []), *self.lifelines(end), *self.closed, *self.below,
+                  *([self.current] if self.current else []), *self.lifelines(), *self.closed, *self.below,
                   *self.marks, *foot, self.heads()]
         return element("svg", {"xmlns": "http://www.w3.org/2000/svg", "class_": "sequence", "width": self.width,
                                "height": height, "font_size": size, "viewBox": f"0 0 {self.width} {height}",
                                "role": "group" if not self.is_file else "img", "aria_label": "Sequence diagram"}, "\n",
                        "\n".join(inside), "\n") + "\n"
 
-    def hatching(self):
-        size = round(self.size * 0.6, 1)
-        return element("defs", {}, element(
-            "pattern", {"id": "hatching", "width": size, "height": size, "patternUnits": "userSpaceOnUse",
-                        "patternTransform": "rotate(45)"},
-            element("rect", {"class_": "doubt-paper", "width": size, "height": size}),
-            element("rect", {"class_": "doubt-stripe", "width": round(size * 0.45, 1), "height": size})))
-
-    def heads(self):
-        found, size = [], self.size
-        for lifeline in range(self.stores + 3):
-            x, room = self.x(lifeline), self.step - 0.35 * size
-            names = self.names(lifeline)
-            name = next((name for name in names if 0.68 * size * len(name) <= room), names[-1])
-            is_part = lifeline in map(self.store, self.participants) and 0.54 * size * 11 <= room
-            part = "participant" if is_part else ""
-            wide = min(room, max(0.68 * size * len(name), 0.54 * size * len(part)) + 0.8 * size)
-            found += [element("rect", {"class_": "head-box", "x": x - wide / 2, "y": 0.25 * size, "width": wide,
-                                       "height": (HEAD - 0.6) * size, "rx": 0.3 * size}),
-                      element("text", {"class_": "head", "x": x, "y": (1.3 if part else 1.8) * size}, name)]
-            if part:
-                found.append(element("text", {"class_": "role", "x": x, "y": 2.35 * size}, part))
-        return element(
-            "g", {"class_": "heads"},
-            element("rect", {"class_": "paper", "width": self.width, "height": HEAD * size - 0.35 * size}), *found)
-
-    def names(self, lifeline):
-        if FIRST_STORE <= lifeline < FIRST_STORE + self.stores:
-            return f"Store {lifeline - FIRST_STORE}", f"S{lifeline - FIRST_STORE}"
-        return NAMES[lifeline if lifeline < FIRST_STORE else CLIENT]
-
-    def lifelines(self, end):
-        top = (HEAD - 0.35) * self.size
-        whole = [(at, top, end) for at in range(self.stores + 3) if at != COORDINATOR]
-        return [element("line", {"class_": "lifeline", "x1": self.x(at), "x2": self.x(at), "y1": y, "y2": to})
-                for at, y, to in [*whole,
-                                  *((COORDINATOR, top if y == HEAD * self.size else y, to) for y, to in self.lives)]]
+    def name_signs(self):
+        """What the signs of branches stand for, above the calls that use them."""
+        for sign, written in (self.legend_of or Signs()).legend():
+            self.row([Run("term", sign), Run("note", "is the branch"), Run("statement", written)], self.gutter)
+        self.alive = {lane: self.y for lane in self.alive}
 
     def legend(self):
         self.y += 0.6 * self.size
@@ -162,85 +127,25 @@ class Sequence:
         found, self.marks = self.marks[before:], self.marks[:before]
         return found
 
-    # rows
-
-    def lines(self, runs):
-        return flow(runs, (self.width - self.gutter) / self.size - self.margin)
-
-    def start(self, runs, left):
-        """Where a row begins: at `left` where there is room, or else as far to the left as it must."""
-        _, widest = self.lines(runs)
-        return max(self.gutter, min(left, self.width - (self.margin + widest) * self.size))
-
-    def row(self, runs, left, height=0.0):
-        """A label at the current height, and where it ends below."""
-        size, start = self.size, self.start(runs, left)
-        for line in self.lines(runs)[0]:
-            if line:
-                last = line[-1]
-                self.marks.append(element("rect",
-                                          {"class_": "behind", "x": start - 0.15 * size, "y": self.y + 0.08 * size,
-                                           "width": (last[0] + last[1].width()) * size + 0.3 * size,
-                                           "height": LINE * size - 0.1 * size, "rx": 0.2 * size}))
-            for at, run in line:
-                text = element("text", {"class_": f"{run.kind} label", "x": start + at * size, "y": self.y + size},
-                               run.inside())
-                self.marks.append(run.button.around(text) if run.button and not self.is_file else text)
-            self.y += LINE * size
-        self.y += height * size
-
-    def message(self, sender, receiver, runs, kind, is_lost=False, more=()):
-        """A row with its arrow, and more rows between the two; one that is lost ends in a cross before the receiver."""
-        size, before = self.size, len(self.marks)
-        rows = [runs, *([line] for line in more)]
-        left = min(min(self.x(sender), self.x(receiver)) + 0.5 * size, *(self.start(line, math.inf) for line in rows))
-        for line in rows:
-            self.row(line, left)
-        self.y += ARROW * size
-        start, end, way = self.x(sender), self.x(receiver), 1 if self.x(receiver) > self.x(sender) else -1
-        if is_lost:
-            end -= way * 0.9 * size
-            reach = 0.42 * size
-            self.marks.append(
-                element("path", {"class_": "cross", "d": f"M{end - reach:.1f} {self.y - reach:.1f}l{2 * reach:.1f} "
-                                 f"{2 * reach:.1f}m0 {-2 * reach:.1f}l{-2 * reach:.1f} {2 * reach:.1f}"}))
-        else:
-            head = 0.6 * size
-            self.marks.append(element(
-                "path", {"class_": f"head-of {kind}",
-                         "d": f"M{end:.1f} {self.y:.1f}l{-way * head:.1f} {-0.34 * size:.1f}v{0.68 * size:.1f}z"}))
-        self.below.append(element("line", {"class_": f"arrow {kind}{self.waiting}", "x1": start, "x2": end
-                                           - (0 if is_lost else way * 0.3 * size), "y1": self.y, "y2": self.y}))
-        count = self.stores + 3
-        made, self.marks = self.marks[before:], self.marks[:before]
-        self.marks.append(element("g", {"class_": f"message {kind}", "data_from": sender % count,
-                                        "data_to": receiver % count}, *made))
-        self.y += BELOW * size
-
-    def remark(self, text, kind="remark"):
-        self.row([Run(kind, text)], self.gutter, 0.1)
-
-    def note(self, lifeline, runs, most=math.inf):
-        """What happens at a lifeline itself, in a frame over it, that takes so much room at most."""
-        size = self.size
-        room = min(most, (self.width - self.gutter) / size - self.margin - 1)
-        lines, widest = flow(runs, room)
-        wide, high = (widest + 0.9) * size, (LINE * len(lines) + 0.2) * size
-        left = max(self.gutter, min(self.x(lifeline) - 0.7 * size, self.width - self.margin * size - wide))
-        self.y += 0.15 * size
-        self.marks.append(element("rect", {"class_": "note-box", "x": left, "y": self.y, "width": wide, "height": high,
-                                           "rx": 0.25 * size}))
-        self.y += 0.08 * size
-        for line in lines:
-            self.marks += [element("text", {"class_": f"{run.kind} label", "x": left + (0.45 + at) * size,
-                                            "y": self.y + size}, run.inside()) for at, run in line]
-            self.y += LINE * size
-        self.y += 0.4 * size
+    def show_rows(self, it, at, store, is_left=False):
+        """The rows of a store beside its lifeline, where this message changed some."""
+        change = self.changes.get((it.place, at))
+        lane = FIRST_STORE + store
+        if change is None:
+            return
+        box = Box(change, self.signs, self.size)
+        self.wants[None, (lane, is_left)] = max(self.wants.get((None, (lane, is_left)), 0), box.wanted() + 1.7)
+        made, high = put_box(box, self.x(lane), self.y - 0.1 * self.size, self.lanes.to_end(lane, is_left), is_left)
+        self.marks.append(made)
+        self.floor = self.y + high
+        self.says[-1] += " " + narration.changes(change, store, self.signs)
+        self.boxes.append({"line": it.place + 1, "step": len(self.says), "store": store, "rows": box.rows()})
 
     # calls
 
     def exchange(self, it):
         top, before, size = self.y, len(self.marks), self.size
+        self.says, self.ends = [], []
         self.margin = SIGN + 0.35 if self.is_removable(it) else MARGIN
         self.waiting = " waiting" if it.answer is None and not self.is_asked(it) else ""
         if it.answer is None:
@@ -248,12 +153,17 @@ class Sequence:
         if it.kind in CAPTIONS:
             if it.kind == REMARK and it.said:
                 self.remark(it.said)
+            elif it.event:
+                pass
             else:
                 self.y += 0.3 * size
         else:
             self.revive(it)
             top = self.y
-            (self.draw_crash if it.kind == CRASH else self.draw_call)(it)
+            {CRASH: self.draw_crash, EVENT: self.draw_event}.get(it.kind, self.draw_call)(it)
+            if it.answer is not None:
+                ends = [*self.ends, self.y + 0.9 * BETWEEN * size]
+                self.steps.append({"line": it.place + 1, "says": self.says, "ends": ends})
         self.follow_doubt(it)
         number = self.number(it, top) if it.kind not in CAPTIONS else []
         if not self.is_file and it.kind not in CAPTIONS and it.place == self.at - 1 - self.captions_behind():
@@ -261,7 +171,8 @@ class Sequence:
                                    {"class_": "current", "x": 0, "y": top, "width": self.width, "height": self.y - top})
         made, self.marks = self.marks[before:], self.marks[:before]
         attributes = {"class_": f"call {it.kind}{self.waiting}", "data_line": it.place + 1, "data_bottom": self.y,
-                      "data_answer": None if it.answer is None or it.kind in CAPTIONS
+                      "data_said": plain(it.said) if it.kind not in CAPTIONS else None,
+                      "data_answer": None if it.answer is None or it.kind in (*CAPTIONS, EVENT)
                       else "\n".join(map(plain, lines_of(it.answer)))}
         if it.kind not in CAPTIONS:
             self.y += BETWEEN * size
@@ -301,34 +212,86 @@ class Sequence:
 
     def revive(self, it):
         """A call to a coordinator that was stopped meets a new one."""
-        if self.alive is None and it.kind != STRANGER and it.words[0] not in (b"FAIL", b"STOP"):
-            self.restarts += 1
-            self.y += 0.15 * self.size
-            self.note(COORDINATOR,
-                      [Run("term", "new coordinator"), Run("note", "of the same name, with the same decisions")])
-            self.alive = self.y - 0.55 * self.size
+        is_called = it.kind not in (STRANGER, EVENT) and it.words[0] not in (b"FAIL", b"STOP")
+        if is_called and COORDINATOR in self.alive and self.alive[COORDINATOR] is None:
+            self.begin_again(COORDINATOR, "new coordinator", "of the same name, with the same decisions")
+
+    def begin_again(self, lane, term, note):
+        """A lifeline that had ended goes on from here."""
+        self.y += 0.15 * self.size
+        if self.alive[lane] is not None:
+            self.lives.append((lane, self.alive[lane], self.y))
+        self.note(lane, [Run("term", term), *([Run("note", note)] if note else [])])
+        self.alive[lane] = self.y - 0.55 * self.size
+
+    def crash(self, lane, runs):
+        """A lifeline ends in a cross, and beside it is said why."""
+        size, y = self.size, self.y + 0.65 * self.size
+        self.cross(self.x(lane), y, 0.6 * size, "cross crash")
+        self.row(runs, self.x(lane) + 1.1 * size, 0.35)
+        if self.alive[lane] is not None:
+            self.lives.append((lane, self.alive[lane], y))
+        self.alive[lane] = None
 
     def draw_crash(self, it):
-        size, store = self.size, self.store(it.store)
+        store = self.store(it.store)
+        self.begin_step(narration.crash(it))
         bad = [Run("bad", plain(it.first)), Run("reason", self.reason(it))] if it.is_bad() else []
         if it.words[0] == b"STOP" and it.answer is not None and not bad:
-            y, x, reach = self.y + 0.65 * size, self.x(COORDINATOR), 0.6 * size
-            self.marks.append(
-                element("path", {"class_": "cross crash", "d": f"M{x - reach:.1f} {y - reach:.1f}l{2 * reach:.1f} "
-                                 f"{2 * reach:.1f}m0 {-2 * reach:.1f}l{-2 * reach:.1f} {2 * reach:.1f}"}))
-            self.row([Run("term", "crash", None), Run("statement", "STOP"),
-                      Run("reason", "the coordinator is gone; its decisions are kept")], x + 1.1 * size, 0.35)
-            if self.alive is not None:
-                self.lives.append((self.alive, y))
-            self.alive = None
+            self.crash(COORDINATOR, [Run("term", "crash"), Run("statement", "STOP"),
+                                     Run("reason", "the coordinator is gone; its decisions are kept")])
             return
         says = [Run("statement", it.said), *bad]
-        if store is not None and not bad:
+        if it.store is not None and not bad and it.words[0] == b"FAIL":
             after = int(it.words[-1])
             how = ("fails at its next call" if after == 0
                    else f"answers {after} more call{'' if after == 1 else 's'}, and then fails")
             says.append(Run("reason", f"the coordinator's session in store {it.store} {how}"))
-        self.row([Run("cut-sign", "✂"), *says], self.x(COORDINATOR) + 0.5 * size, 0.35)
+        left = self.x(COORDINATOR) if store is None else min(self.x(COORDINATOR), self.x(store))
+        self.row([Run("cut-sign", "✂"), *says], left + 0.5 * self.size, 0.35)
+
+    def draw_event(self, it):
+        """What happens to a manager that is shown in its own place."""
+        word, said, store = it.event, plain(it.said).rstrip(": "), self.store(it.store)
+        says = f"{narration.EVENTS[word]} {said}"
+        if word == b"verdict":
+            self.begin_step(says)
+            self.draw_verdict(said)
+        elif word == b"lost" and store is not None and self.lanes.has(MANAGER):
+            asked, _, why = said.partition(" | ")
+            self.message(MANAGER, store, [Run("statement stopped", self.signs.short(asked.encode()).decode())],
+                         "asks broken", is_lost=True, says=f"{narration.EVENTS[word]} {why}")
+            self.row([Run("reason", why)], self.x(MANAGER) + 0.5 * self.size, 0.1)
+        elif word == b"restart" and self.lanes.has(MANAGER):
+            self.begin_step(says)
+            self.begin_again(MANAGER, "recovery", said)
+        else:
+            lane = {b"outage": store, b"crash": MANAGER}.get(word)
+            self.begin_step(says)
+            if lane is None or not self.lanes.has(lane):
+                self.row([Run("reason", said)], self.x(self.lanes.order[0]) + 0.5 * self.size, 0.1)
+                return
+            self.crash(lane, [Run("term bad", "crash" if lane == MANAGER else "restart"), Run("note", said)])
+            if word == b"outage":
+                self.alive[lane] = self.y
+
+    def draw_verdict(self, said):
+        size, left = self.size, self.gutter
+        word, _, why = map(str.strip, said.partition(":"))
+        kind = "good" if word in GOOD else "bad"
+        runs = [Run(f"term {kind}", f"Verdict: {word}"), *([Run("note", why)] if why else [])]
+        lines, _ = flow(runs, (self.width - left) / size - 2 * MARGIN - 1)
+        high = (LINE * len(lines) + 0.5) * size
+        self.y += 0.3 * size
+        self.marks.append(element("rect", {"class_": f"verdict-box {kind}", "x": left, "y": self.y,
+                                           "width": self.width - left - MARGIN * size, "height": high,
+                                           "rx": 0.3 * size}))
+        self.y += 0.25 * size
+        for line in lines:
+            self.marks += [element("text", {"class_": f"{run.kind} label", "x": left + (0.6 + at) * size,
+                                            "y": self.y + size}, run.inside()) for at, run in line]
+            self.y += LINE * size
+        self.y += 0.4 * size
 
     def is_asked(self, it):
         return self.asked and it.place == self.next()
@@ -338,43 +301,73 @@ class Sequence:
         runs = [Run("statement", it.said)]
         if it.answer is not None:
             runs += [Run("bad", it.first), Run("reason", self.reason(it))]
-        self.note(CLIENT, runs + (QUESTION if self.is_asked(it) else []), max(BESIDE, 1.3 * self.step / self.size))
+        self.begin_step(narration.asking(it, self.manager or "The manager"))
+        self.note(MANAGER if it.is_managers else CLIENT, runs + (QUESTION if self.is_asked(it) else []),
+                  max(BESIDE, 1.3 * self.lanes.beside(CLIENT, True) / self.size) if not it.is_managers else BESIDE)
 
     def draw_call(self, it):
         sender, receiver = MANAGER, COORDINATOR
         if it.kind == STRANGER:
-            sender, receiver = CLIENT, self.store(it.store)
+            sender, receiver = (MANAGER if it.is_managers else CLIENT), self.store(it.store)
         if receiver is None:
             self.draw_unsent(it)
             return
-        self.message(sender, receiver, [Run("statement", it.said)], "client" if it.kind == STRANGER else "asks")
+        if it.is_managers and self.alive[MANAGER] is None and it.answer is not None:
+            self.draw_end_of_connection(it, receiver)
+            return
+        said = it.statement if it.is_managers else it.said
+        runs = [Run("statement", self.signs.short(said))]
+        self.message(sender, receiver, runs, "client" if it.kind == STRANGER else "asks",
+                     says=narration.asking(it, self.manager or "The manager"))
         if it.answer is None:
             if self.is_asked(it):
                 self.message(receiver, sender, QUESTION, "answer")
             return
+        if it.kind == STRANGER:
+            self.show_rows(it, it.store, it.store, is_left=not it.is_managers)
         self.notes_before(it)
-        for store, said in it.groups:
-            self.draw_group(it, store, said)
+        for at, (store, said) in enumerate(it.groups):
+            if self.lanes.has(FIRST_STORE + store):
+                self.draw_group(it, at, store, said)
+        self.tell_of_others(it)
         self.notes_behind(it)
         self.draw_answer(it, receiver, sender)
+
+    def tell_of_others(self, it):
+        """The stores that a recovery asks although they take no part have no lifeline."""
+        others = sorted({store for store, _ in it.groups if not self.lanes.has(FIRST_STORE + store)})
+        if others:
+            who = f"store {others[0]} takes" if len(others) == 1 else f"{len(others)} more stores take"
+            said = f"{who} no part, and nothing is prepared there"
+            self.row([Run("reason", said)], self.x(COORDINATOR) + 0.5 * self.size, 0.1)
+            self.says[-1] += f" {said[:1].upper()}{said[1:]}."
+
+    def draw_end_of_connection(self, it, store):
+        """What a store does of itself once a manager is gone."""
+        self.begin_step(f"Store {it.store} sees that the connection has ended.")
+        self.note(store, [Run("term", "connection ended"), Run("note", "an open branch is rolled back")], BESIDE)
+        self.show_rows(it, it.store, it.store)
+        self.leave_box()
+
+    def tell(self, lifeline, term, note):
+        """A note that goes with the message before it, and is said with that."""
+        self.note(lifeline, [Run("term", term), Run("note", note)])
+        self.says[-1] += f" {term[:1].upper()}{term[1:]}, {note}."
 
     def notes_before(self, it):
         word = it.words[0]
         if word == b"DECIDE" and it.first == b"DECIDED":
-            self.note(COORDINATOR,
-                      [Run("term", "decision: commit"), Run("note", "recorded, before any participant is told")])
+            self.tell(COORDINATOR, "decision: commit", "recorded, before any participant is told")
         elif word == b"DECIDE" and it.first == b"CLOSED":
-            self.note(COORDINATOR,
-                      [Run("term", "no decision any more"), Run("note", "the number is closed: presumed abort")])
+            self.tell(COORDINATOR, "no decision any more", "the number is closed: presumed abort")
         elif word == b"FINISH" and it.groups and it.groups[0][1][-1].text == b"XA ROLLBACK":
             why = "a participant voted no" if it.vote == b"NO" else "no decision was recorded: presumed abort"
-            self.note(COORDINATOR, [Run("term", "roll back"), Run("note", why)])
+            self.tell(COORDINATOR, "roll back", why)
         elif word == b"FINISH" and it.vote == b"ONE PHASE" and it.groups:
-            self.note(COORDINATOR, [Run("term", "one phase"), Run("note", "one participant: no vote, no decision")])
+            self.tell(COORDINATOR, "one phase", "one participant: no vote, no decision")
         elif word == b"RECOVER" and presumed_aborted(it):
             numbers = ", ".join(map(str, presumed_aborted(it)[:8]))
-            self.note(COORDINATOR,
-                      [Run("term", "presumed abort"), Run("note", f"no decision for {numbers}: rolled back")])
+            self.tell(COORDINATOR, "presumed abort", f"no decision for {numbers}: rolled back")
 
     def notes_behind(self, it):
         """An other client that finished a branch of the coordinator's."""
@@ -383,11 +376,12 @@ class Sequence:
         gone = [xid for xid in it.before.prepared.get(it.store, [])
                 if xid not in it.behind.prepared.get(it.store, []) and transaction_of(xid)]
         if gone:
+            self.leave_box()
             way = "rollback" if b"ROLLBACK" in it.said.upper() else "commit"
-            self.note(self.store(it.store), [Run("term", f"heuristic {way}"),
-                                             Run("note", f"of {branch_name(gone[0]).decode()}, by another client")])
+            self.tell(self.store(it.store), f"heuristic {way}",
+                      f"of {branch_name(gone[0]).decode()}, by another client")
 
-    def draw_group(self, it, store, said):
+    def draw_group(self, it, at, store, said):
         lifeline, line = FIRST_STORE + store, it.place + 1
         asks, answers = self.terms(it, said)
         runs = [Run("term", asks)] if asks else []
@@ -404,12 +398,21 @@ class Sequence:
         if not is_whole:
             runs.append(Run("bad",
                             "stopped: no answer" + (", which counts as no" if it.words[0] == b"PREPARE" else "")))
-        self.message(COORDINATOR, lifeline, runs, "inner" if is_whole else "inner broken", is_lost=not is_whole)
+        asked = narration.TOLD.get(asks, "The coordinator asks store {store}.").format(store=store)
+        lost = "" if is_whole else " The message is lost, and there is no answer."
+        self.message(COORDINATOR, lifeline, runs, "inner" if is_whole else "inner broken", is_lost=not is_whole,
+                     says=asked + lost)
+        self.show_rows(it, at, store)
         if is_whole:
             is_bad = said[-1].answer.startswith((b"ERROR", b"XAER", b"FAULT"))
-            runs = [Run("term bad" if is_bad else "term good", answers)] if answers else []
+            way = (self.x(lifeline) - self.x(COORDINATOR)) / self.size - 1
+            term = SHORT.get(answers, answers) if Run("term", answers).width() > way else answers
+            runs = [Run("term bad" if is_bad else "term good", term)] if answers else []
+            answered = narration.ANSWERED.get(answers, "Store {store} answers: {answer}.")
             self.message(lifeline, COORDINATOR, [*runs, Run("bad" if is_bad else "reply", said[-1].answer)],
-                         "inner-answer fails" if is_bad else "inner-answer")
+                         "inner-answer fails" if is_bad else "inner-answer",
+                         says=answered.format(store=store, answer=plain(said[-1].answer)))
+            self.leave_box()
         if said[-1].text.startswith((b"XA PREPARE", b"XA COMMIT", b"XA ROLLBACK")):
             self.ended[(it.place, store)] = self.y - 0.3 * self.size
 
@@ -435,7 +438,7 @@ class Sequence:
     def reason(self, it):
         """Why it was answered so, where that is to be said."""
         if it.reason:
-            return it.reason
+            return plain(it.reason)
         if it.first.startswith(b"UNKNOWN STORE"):
             last = self.stores - 1
             there = ("is only store 0" if last == 0
@@ -454,13 +457,31 @@ class Sequence:
         if it.is_failing and first.endswith(b" out of memory"):
             first = first.removesuffix(b" out of memory") + b" stopped"
         runs.append(Run(kind, first))
-        if self.reason(it):
-            runs.append(Run("reason", self.reason(it)))
         if it.kind != STRANGER and not self.is_file:
             says = f"Cut here: the coordinator crashes after line {line} (STOP)"
             runs.append(Run("cut-sign", "✂", Button("stop", says, line=line)))
-        more = [Run("reply", readable_row(line)) for line in lines[1:]]
-        self.message(sender, receiver, runs, "answer fails" if it.is_bad() else "answer", more=more)
+        more = [Run("reply", self.readable_row(line)) for line in lines[1:]]
+        kind = "answer broken" if it.is_unheard else "answer fails" if it.is_bad() else "answer"
+        self.message(sender, receiver, runs, kind, more=more, is_lost=it.is_unheard,
+                     says=" ".join([f"The answer: {plain(first)}.", self.reason(it)]).strip())
+        self.leave_box()
+        if self.reason(it):
+            self.row([Run("reason", self.reason(it))], min(self.x(sender), self.x(receiver)) + 0.5 * self.size, 0.1)
+
+    def readable_row(self, line):
+        """A row of a list of branches by its transaction or by its sign."""
+        found = LISTED.fullmatch(line)
+        size = int(found[2]) + int(found[3]) if found else 0
+        if found and (len(found[4]) == size or is_converted(found[4], size)):
+            named = bytes.fromhex(found[4][2:].decode()) if is_converted(found[4], size) else found[4]
+            split = int(found[2])
+            xid = b",".join([digits(named[:split]), digits(named[split:]), found[1]])
+            return self.signs.of(xid) if self.signs.has(xid) else readable_row(line)
+        return line
+
+    def leave_box(self):
+        """What follows stands below the last box."""
+        self.y = max(self.y, self.floor)
 
     # in doubt
 
@@ -484,9 +505,12 @@ class Sequence:
     def end_doubt(self, key, y):
         since, beside = self.doubts.pop(key)
         (store, xid), size = key, self.size
-        wide = min(BAND * size, self.step * 0.6)
+        if not self.lanes.has(FIRST_STORE + store):
+            return
+        room = self.lanes.beside(FIRST_STORE + store)
+        wide = min(BAND * size, room * 0.6)
         says = f"In doubt in store {store}: {plain(branch_name(xid))}"
-        x = self.x(FIRST_STORE + store) - wide / 2 + min(beside * wide * 0.6, self.step / 2)
+        x = self.x(FIRST_STORE + store) - wide / 2 + min(beside * wide * 0.6, room / 2)
         self.closed.append(element("g", {"class_": "doubt", "data_store": store,
                                          "data_xid": xid.decode("latin-1")}, element("title", {}, escape(says)),
                                    element("rect", {"class_": "band", "x": x, "y": since, "width": wide,
@@ -497,6 +521,11 @@ def presumed_aborted(it):
     """The transactions that a recovery rolls back since nobody decided them; it closes the numbers of others too."""
     closed = set(it.before.of("UNDECIDED")) & set(it.behind.of("CLOSED"))
     return sorted(closed - it.over)
+
+
+def is_converted(data, size):
+    """Whether these are the digits of so many bytes."""
+    return len(data) == 2 + 2 * size and re.fullmatch(rb"0x[0-9a-f]*", data) is not None
 
 
 def readable_row(line):

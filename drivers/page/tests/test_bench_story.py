@@ -51,13 +51,23 @@ class Story(View):
         self.assertEqual(said[commit], "OK")
         remarks = " ".join(self.browser.texts("#sequence .remark"))
         self.assertIn(f"{POINT}: MIXED, store 1 committed, store 2 rolled back", remarks)
-        self.assertIn("The manager is killed. The store never gets XA COMMIT", remarks)
+        drawn = self.browser.text("#sequence svg")
+        for words in ("The store never gets it.", "The manager is killed.", "Recovery 1 begins.", "Verdict: MIXED",
+                      "row 'row' of store 1 is '90', as a commit leaves it"):
+            self.assertIn(words, drawn)
         bands = self.browser.run("return [...document.querySelectorAll('#sequence .doubt')].map((it) => "
                                  "[it.dataset.store, it.querySelector('rect').getBBox().height])")
         heights = dict(bands)
         self.assertEqual(sorted(heights), ["1", "2"])
         self.assertGreater(heights["2"], 2 * heights["1"])
         self.assertEqual(self.browser.run("return document.querySelector('#stores').value"), "3")
+        self.assertEqual(self.browser.texts("#sequence .head title"),
+                         ["Tested manager", "Store 1", "Store 2", "Other client"])
+        self.assertEqual(len(self.browser.all("#sequence .cross.crash")), 1, "the manager's")
+        asked = self.browser.texts("#sequence .call .statement")
+        self.assertEqual([it for it in asked if "reference" in it], [], "branches have short signs")
+        self.assertEqual(len([it for it in self.browser.texts("#sequence .statement") if "reference" in it]), 2,
+                         "which are explained")
 
 
 if __name__ == "__main__":

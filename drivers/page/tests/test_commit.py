@@ -54,10 +54,13 @@ class Commit(View):
     def sessions(self, line):
         """What a line asked the stores for, and what they answered: the store, the statements and the last answer."""
         return self.browser.run("""const call = document.querySelector(`#sequence .call[data-line="${arguments[0]}"]`);
-            return [...(call?.querySelectorAll('.message.inner') ?? [])].map((it) => [Number(it.dataset.to) - 2,
-                [...it.querySelectorAll('.statement')].map((text) => text.textContent.replace(/,$/, '')),
-                [...(it.classList.contains('broken') ? it : it.nextElementSibling).querySelectorAll('.term.good, .term.bad, .reply, .bad')]
-                    .map((text) => text.textContent).join(' ')])""", line)
+            const all = [...(call?.querySelectorAll('.message') ?? [])];
+            const text = (it, css) => [...it.querySelectorAll(css)].map((part) => part.textContent).join(' ')
+                .replace(/  +/g, ' ').replace(/^ack /, 'acknowledgement ');
+            return all.filter((it) => it.matches('.inner')).map((it) => {
+                const answer = it.matches('.broken') ? it : all[all.indexOf(it) + 1];
+                return [Number(it.dataset.to) - 2, text(it, '.statement').split(', '),
+                    text(answer, '.term.good, .term.bad, .reply, .bad')]; })""", line)
 
     def push(self, call):
         before = self.given()
@@ -88,7 +91,7 @@ class Commit(View):
 
     def texts_of_last(self):
         found = self.browser.run("return [...document.querySelectorAll('#sequence .call:not(.remark, "
-                                 ".blank)')].map((it) => it.querySelector('.statement').textContent)")
+                                 ".blank)')].map((it) => it.dataset.said)")
         return found[-1] if found else ""
 
     def test_calls_with_crashes_have_no_stops(self):
@@ -184,14 +187,14 @@ class Commit(View):
         self.browser.replace("#k", "4")
         for call in ("BEGIN", "WORK n k s", "PREPARE n"):
             self.push(call)
-        self.assertEqual(len(self.browser.all("#sequence .head")), 8, "five stores")
-        self.browser.push('#commit [data-do="back"]')
+        self.assertEqual(len(self.browser.all("#sequence .head")), 3, "store 4 alone takes part")
+        self.browser.push('#sequence .call[data-line="2"] .go')
         self.until(lambda: self.given() == 2, "one back")
         seen = (self.answers(), self.waiting())
         self.reopen()
         self.until(lambda: self.given() == 2, "what was seen")
         self.assertEqual((self.answers(), self.waiting()), seen)
-        self.assertEqual(len(self.browser.all("#sequence .head")), 8)
+        self.assertEqual(len(self.browser.all("#sequence .head")), 3)
 
     def test_a_store_that_isnt_there_is_said_so(self):
         self.open(calls="BEGIN")

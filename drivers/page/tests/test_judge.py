@@ -98,6 +98,15 @@ class Verdicts(View):
         self.assertEqual((given, words), (record, ["judge", "--quiet", "--strict-calls", "--limit", "100000"]))
         self.assertEqual(self.browser.texts("#record-lines li")[0], "1 > PUT 'fffe<b>','01'")
 
+    def test_an_example_can_be_judged_at_once(self):
+        self.judging.gives(b"ILLEGAL line 7\nCOULD BE NONE\n", 4)
+        self.open()
+        record = (ROOT / "drivers/page/records/dirty_read.record").read_text()
+        self.assertEqual(self.browser.one("#record").get_property("value"), record)
+        self.assertIn(self.browser.text("#record-remark"), record.splitlines()[0])
+        self.browser.push('#judge-form button[type="submit"]')
+        self.until(lambda: self.browser.text("#verdict").startswith("ILLEGAL at line 7:"), "the verdict")
+
     def test_an_example_is_judged_by_keys_and_its_state_is_in_the_address(self):
         self.judging.gives(b"UNDECIDED line 3\n", 5)
         self.open()

@@ -44,7 +44,7 @@ class Lesson(View):
 
     def calls(self):
         return self.browser.run("return [...document.querySelectorAll('#sequence .call:not(.remark, "
-                                ".blank)')].map((it) => it.querySelector('.statement').textContent)")
+                                ".blank)')].map((it) => it.dataset.said)")
 
     def replies(self):
         return self.browser.run(

@@ -91,8 +91,8 @@ class Moves(View):
         self.until(lambda: self.browser.text(said) == "Line 2, session 2: GET 'k': VALUE 'v'", "the answer")
         self.view = "commit"
         self.addCleanup(setattr, self, "view", "sessions")
-        self.open(calls=CALLS, at=5)
-        self.until(lambda: self.browser.text("#commit-said[aria-live=polite]") == "Line 5: PREPARE 1: READY. Branches "
+        self.open(calls=CALLS, at=8)
+        self.until(lambda: self.browser.text("#commit-said[aria-live=polite]") == "Line 8: PREPARE 1: READY. Branches "
                    "in doubt: 2", "the answer, and what is in doubt")
         self.browser.go(f"{self.page.address}#race?script=1+PUT+'k','v'%0a2+GET+'k'&hand=1")
         self.until(lambda: self.browser.text("#hand-left[aria-live=polite]").startswith("Session 1: OK. "),

@@ -7,9 +7,9 @@ from selenium.webdriver.common.keys import Keys
 from support import ROOT, help_of, says
 from views import View, replies
 
-WRITERS = (ROOT / "drivers/page/races/two_writers.script").read_bytes()
-CAUSE = re.search(r"^\| 1399 \|.*\| ([^|]*?) \|$", (ROOT / "docs/STATEMENTS.md").read_text(encoding="utf-8"),
-                  re.MULTILINE)[1].replace("`", "")
+WRITERS = (ROOT / "drivers/page/races/two_writers.script").read_bytes().partition(b"\n")[2]  # without its remark
+CAUSE = re.findall(r"^\| 1399 \|.*\| ([^|]*?) \|$", (ROOT / "docs/STATEMENTS.md").read_text(encoding="utf-8"),
+                   re.MULTILINE)[0].replace("`", "")
 HUNG = """return [...document.querySelectorAll('#history .hung')].map((it) => [Number(it.dataset.session), Number(it.dataset.place),
     it.querySelector('.statement').textContent, it.querySelector('.reply').dataset.printed ?? it.querySelector('.reply').textContent])"""
 PLAYED = """return [...document.querySelectorAll('#given .cell')].map((it) =>
@@ -110,7 +110,7 @@ class Race(View):
 
     def test_its_state_is_in_the_address(self):
         self.open()
-        self.browser.type("#race-script", "1 PUT 'k','v'\n2 PUT 'k','w'")
+        self.browser.replace("#race-script", "1 PUT 'k','v'\n2 PUT 'k','w'")
         self.browser.replace("#capacity", "7")
         self.race(2)
         self.reopen()
@@ -134,7 +134,7 @@ class Race(View):
 
     def test_what_is_typed_is_in_the_address_before_it_is_raced(self):
         self.open()
-        self.browser.type("#race-script", "1 GET 'k'")
+        self.browser.replace("#race-script", "1 GET 'k'")
         self.browser.focus("#runs")
         self.assertEqual(self.browser.run("return location.hash"),
                          "#race?script=1+GET+'k'&seed=1&runs=50&capacity=1024")
@@ -284,6 +284,13 @@ class Race(View):
         self.browser.push("#first-scenarios button:first-child")
         self.until(lambda: self.browser.all("#sequence .call"), "a scenario is open")
         self.assertFalse(self.browser.one("#commit-welcome").is_displayed())
+
+    def test_an_example_can_be_raced_at_once(self):
+        self.open()
+        self.assertEqual(self.browser.one("#race-script").get_property("value"), "1 XA START 'a'\n2 XA START 'a'")
+        self.browser.push('#race-form button[type="submit"]')
+        self.until(lambda: self.browser.text("#race-progress") == "50 of 50 runs", "all runs came back")
+        self.assertEqual(sum(self.bars()), 50)
 
     def test_remarks_of_a_story_are_left_out(self):
         self.open()

@@ -1,6 +1,5 @@
 """Who is served: other hosts, other origins, other files, and what every answer says to the browser."""
 import json
-import re
 import socket
 import unittest
 
@@ -78,7 +77,8 @@ class WhoIsServed(unittest.TestCase):
         self.assertNotRegex(page, r"<script(?![^>]*src=)[^>]*>|<style|\sstyle=|\son\w+=|javascript:")
         for path in (PAGE / "static").rglob("*"):
             if path.is_file():
-                found = re.sub(r'xmlns="http://www.w3.org/2000/svg"', "", path.read_text())
+                # the name of SVG's namespace, which nothing loads
+                found = path.read_text().replace('"http://www.w3.org/2000/svg"', "")
                 self.assertNotRegex(
                     found, r"https?://|@import|innerHTML|outerHTML|insertAdjacentHTML|document\.write|\beval\(",
                     path.name)

@@ -15,7 +15,7 @@ def in_address(text):
 
 
 class View(unittest.TestCase):
-    view = None
+    view: str
 
     @classmethod
     def setUpClass(cls):

@@ -3,11 +3,17 @@ import { isBlank } from "./bytes.js";
 
 const BLANKS = /[ \t\r]+/;
 
-// {kind, store, said}: `kind` is "remark", "blank", "stranger", "store", "crash" or "coordinator"; `said` what the
-// arrow says.
+// What a remark tells of a manager that is shown in its own place: it is drawn, and is a step of its own.
+const EVENT = /^#@[ \t]*(crash|restart|lost|unanswered|outage|verdict)\b/;
+const NAMES = /^#@[ \t]*(manager|other)\b/;
+
+// {kind, store, said}: `kind` is "remark", "blank", "event", "stranger", "store", "crash" or "coordinator"; `said` what
+// the arrow says.
 export function readCall(line) {
   const trimmed = line.replace(/^[ \t\r]+|[ \t\r]+$/g, "");
   if (isBlank(line)) return { kind: "blank", store: null, said: "" };
+  if (EVENT.test(trimmed)) return { kind: "event", store: null, said: trimmed.replace(/^#@[ \t]*/, "") };
+  if (NAMES.test(trimmed)) return { kind: "blank", store: null, said: "" };
   if (trimmed.startsWith("#")) return { kind: "remark", store: null, said: trimmed.slice(1).trim() };
   const [word, ...words] = trimmed.split(BLANKS);
   const store = (at) => (/^\d{1,2}$/.test(words[at] ?? "") ? Number(words[at]) : null);
@@ -36,3 +42,6 @@ const CAPTIONS = ["remark", "blank"];
 
 // Whether a line is read in passing: a step doesn't end behind it.
 export const isCaption = (line) => CAPTIONS.includes(readCall(line).kind);
+
+// Whether a line isn't a call, but tells what happens.
+export const isEvent = (line) => readCall(line).kind === "event";

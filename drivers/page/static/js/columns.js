@@ -90,6 +90,7 @@ export function lineItem(line, place, answer, goTo) {
     session !== null ? spoken(statement, answer, answer && stateOf(answer)) : spokenBadly(line, answer));
   if (session !== null) {
     cell.classList.add(sessionClass(session));
+    cell.dataset.session = session;
     cell.style.setProperty("--column", session);
   }
   item.append(cell);

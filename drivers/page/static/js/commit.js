@@ -2,15 +2,19 @@
 import { whole } from "./address.js";
 import { ask, Failure } from "./api.js";
 import { fromText, linesOf, readableValue } from "./bytes.js";
-import { asksStores, isCaption, lastBegun } from "./calls.js";
+import { asksStores, isCaption, isEvent, lastBegun } from "./calls.js";
 import { enable, wire } from "./controls.js";
-import { bringIntoView, bringStartIntoView, byId, el, fill, options, printedInto, shown } from "./dom.js";
-import { doubtList, legend } from "./doubt.js";
+import {
+  bringIntoView, bringStartIntoView, byId, el, fill, options, printedInto, remarkOf, shown,
+} from "./dom.js";
+import { doubtList, legend, markWords } from "./doubt.js";
+import { Messages } from "./messages.js";
 import { Quiz } from "./quiz.js";
 import * as rules from "./rules.js";
 import { savePng, saveSvg, Sequence } from "./sequence.js";
 import { readStores } from "./shown_stores.js";
-import { linesUntil, nameOfStop, readStops } from "./stops.js";
+import { linesUntil, nameOfStop, readStops, wholeNameOfStop } from "./stops.js";
+import { drawRows } from "./store_rows.js";
 import { Tape } from "./tape.js";
 import { follow, titleOf } from "./titles.js";
 import { isTransfer, transferCalls, valuesIn } from "./transfer.js";
@@ -27,8 +31,12 @@ export class Commit {
     this.app = app;
     this.view = byId("commit");
     this.stores = STORES;
-    this.tape = new Tape({ job: "coordinate", stores: STORES }, (news) => this.changed(news), isCaption);
+    // in a quiz what isn't a call isn't asked about
+    const isPassed = (line) => isCaption(line) || (this.quiz.isOn && isEvent(line));
+    this.tape = new Tape({ job: "coordinate", stores: STORES }, (news) => this.changed(news), isPassed);
+    this.messages = new Messages();
     this.read = [];
+    this.stepping = Promise.resolve();
     this.whole = null; // the lines of which a stop is shown, and the calls that show it
     this.shown = null;
     this.stops = []; // of the whole lines, or of those that stand here
@@ -38,11 +46,15 @@ export class Commit {
       fail: (place, { store, call }) => this.tape.insert(place, [`FAIL ${store} AFTER ${call}`], 1),
       stop: (place) => this.tape.insert(place + 1, ["STOP"]),
       remove: (place) => this.tape.remove(place),
-    }, () => this.showCursor());
+    }, () => this.drawn());
     addEventListener("resize", () => this.draw());
-    this.quiz = new Quiz(this.view, this.tape, (place) => this.answerAt(place), () => this.changed({}));
-    wire(this.view, this.tape,
-      { story: (lines, at) => this.open(lines, at, this.stores), quiz: this.quiz, print: () => this.print() });
+    this.quiz = new Quiz(this.view, this.tape, (place) => this.answerAt(place), () => this.changed({}),
+      () => this.stepOn());
+    this.player = wire(this.view, this.tape,
+      { story: (lines, at) => this.open(lines, at, this.stores), quiz: this.quiz, print: () => this.print(),
+        isOver: () => !this.messages.isWithin() && this.tape.at >= this.tape.lines.length,
+        more: { back: () => this.stepBack(), call: () => this.stepCall(), end: () => this.toEnd() } });
+    byId("progress").addEventListener("input", (event) => this.goToCall(Number(event.target.value)));
     byId("calls-form").addEventListener("submit", (event) => this.submit(event));
     byId("any-call").addEventListener("keydown", (event) => this.enterKey(event));
     byId("stores").addEventListener("change", (event) => this.setStores(event.target));
@@ -53,9 +65,59 @@ export class Commit {
     byId("stops").addEventListener("change", (event) => this.openStop(this.stops[event.target.value]));
   }
 
+  // The line of the call that was given last, counted from 1; 0 before the first.
+  line() {
+    return 1 + this.tape.lines.slice(0, this.tape.at).findLastIndex((line) => !this.tape.isCaption(line));
+  }
+
+  count() {
+    return this.sequence.count(this.line());
+  }
+
+  // One message on, once the step before it has come to its end, so that whoever is quick misses none.
+  stepOn() {
+    const done = this.stepping.then(() => this.stepOnce());
+    this.stepping = done.catch(() => {});
+    return done;
+  }
+
+  // Within the call, or the first message of the next one.
+  async stepOnce() {
+    if (this.messages.goOn(this.count())) this.changed({});
+    else {
+      this.messages.upcoming = 1;
+      await this.tape.step();
+      await this.drawing;
+    }
+    this.sequence.travel(this.line(), this.messages.shown ?? this.count());
+  }
+
+  // One message back: within the call, or to the end of the one before it.
+  stepBack() {
+    if (!this.quiz.isOn && this.messages.goBack(this.count())) return this.changed({});
+    return this.tape.back();
+  }
+
+  // To the end of the call, or of the next one.
+  stepCall() {
+    if (!this.messages.isWithin()) return this.tape.step();
+    this.messages.showAll();
+    return this.changed({});
+  }
+
+  toEnd() {
+    this.messages.showAll();
+    return this.tape.toEnd();
+  }
+
+  goToCall(number) {
+    this.player.pause();
+    return this.tape.goTo(this.tape.stops()[number] ?? 0);
+  }
+
   offer({ scenarios, calls }) {
     this.examples = [...scenarios, ...calls];
-    const listed = (all, from) => all.map((story, at) => [String(from + at), titleOf(story)]);
+    const listed = (all, from) => all.map((story, at) => [String(from + at), ...titleOf(story)]);
     options(byId("calls-example"),
       [["Scenarios", listed(scenarios, 0)], ["Examples", listed(calls, scenarios.length)]]);
     options(byId("stops"), []);
@@ -123,7 +185,8 @@ export class Commit {
     if (this.stopped !== wanted) return;
     this.stops = found;
     options(byId("stops"),
-      [["Line, and calls of sessions in it", found.map((stop, at) => [String(at), nameOfStop(stop, lines)])]]);
+      [["Line, and calls of sessions in it",
+        found.map((stop, at) => [String(at), nameOfStop(stop, lines), wholeNameOfStop(stop, lines)])]]);
   }
 
   async stopsOf(asked) {
@@ -143,8 +206,12 @@ export class Commit {
     const at = whole(state.at, 0, lines.length, lines.length);
     const stores = whole(state.stores, 1, MOST_STORES, STORES);
     byId("stores").value = stores;
-    if (stores === this.stores && lines.join("\n") === this.tape.lines.join("\n") && at === this.tape.at)
+    const message = whole(state.message, 1, 999, null);
+    if (stores === this.stores && lines.join("\n") === this.tape.lines.join("\n") && at === this.tape.at) {
+      this.messages.shown = message;
       return this.changed({});
+    }
+    this.messages.upcoming = message;
     this.stores = stores;
     this.tape.question = { job: "coordinate", stores };
     return this.tape.open(lines, at);
@@ -157,7 +224,7 @@ export class Commit {
 
   state() {
     const { lines, at } = this.tape;
-    return { calls: lines.join("\n"), at: at !== lines.length ? at : "",
+    return { calls: lines.join("\n"), at: at !== lines.length ? at : "", message: this.messages.shown,
       stores: this.stores === STORES ? "" : this.stores, whole: this.whole?.join("\n") };
   }
 
@@ -203,26 +270,52 @@ export class Commit {
     this.tells = null;
     const answers = this.tape.answers;
     this.read = answers.map(
-      ([answer, text], at) => (this.read[at]?.text === text ? this.read[at] : { text, ...readStores(text) }));
+      ([, text], at) => (this.read[at]?.text === text ? this.read[at] : { text, ...readStores(text) }));
+    this.messages.follow(this.tape);
     this.quiz.follow();
-    this.announce();
     byId("commit-welcome").hidden = this.tape.lines.length > 0;
     byId("k").max = this.stores - 1;
     this.draw();
-    const behind = this.read[this.tape.at - 1];
-    doubtList(byId("doubt"), behind);
-    fill(byId("decisions"),
-      NUMBERS.flatMap((name) => [el("dt", {}, name), el("dd", {}, behind?.[name].join(" ") || "none")]));
-    const last = answers[this.tape.at - 1];
-    printedInto(byId("calls-printed"), last ? last.join("") : "");
+    this.showNow();
+    fill(byId("calls-remark"), remarkOf(this.tape.lines));
     const isOpen = (example) => linesOf(example.text).join("\n") === this.tape.lines.join("\n");
     follow(byId("calls-example"), this.examples, isOpen);
     if (this.shown !== null && this.shown !== this.tape.lines.join("\n")) this.whole = this.shown = null;
     this.offerStops();
     this.followNumber(answers);
-    enable(this.view, this.tape);
     this.app.keep("commit", this.state());
     if (news.times) this.app.measured(news.times);
+  }
+
+  // What is known behind the message that is shown, beside the drawing.
+  showNow() {
+    const { answers, at } = this.tape;
+    const line = this.line();
+    const within = this.messages.shown;
+    const last = within === null ? at : line - 1;
+    const behind = this.read[last - 1];
+    doubtList(byId("doubt"), within === null ? behind : { stores: this.sequence.doubtAt(line, within) });
+    drawRows(byId("store-rows"), this.sequence.rows, line, within);
+    fill(byId("decisions"),
+      NUMBERS.flatMap((name) => [el("dt", {}, name), el("dd", {}, behind?.[name].join(" ") || "none")]));
+    printedInto(byId("calls-printed"), answers[last - 1]?.join("") ?? "");
+    this.announce();
+    this.showProgress();
+    enable(this.view, this.tape, { isWithin: within !== null, isAsked: this.quiz.isOn });
+  }
+
+  showProgress() {
+    const stops = this.tape.stops();
+    const given = stops.findLastIndex((place) => place <= this.tape.at);
+    const range = byId("progress");
+    range.max = stops.length - 1;
+    range.value = given;
+    const count = this.count(); // 0 until it is drawn
+    const within = this.messages.shown === null || !count ? "" : `, message ${this.messages.shown} of ${count}`;
+    const said = this.tape.lines.length ? `${given} of ${stops.length - 1}${within}` : "";
+    range.setAttribute("aria-valuetext", `call ${said}`);
+    range.disabled = !said;
+    fill(byId("progress-said"), said);
   }
 
   async callsOf(asked) {
@@ -253,14 +346,19 @@ export class Commit {
     return found ? { printed: found, read: readableValue(found) ?? found } : null;
   }
 
-  // Says to who hears the page what was answered last, and how much is in doubt.
+  // Says what the message that is shown does; of a whole call what it was answered, and how much is in doubt.
   announce() {
-    const place = this.tape.lines.slice(0, this.tape.at).findLastIndex((line) => !isCaption(line));
-    const answer = this.answerAt(place);
+    const line = this.line();
+    const within = this.messages.shown;
+    const says = this.sequence.steps.find((it) => it.line === line)?.says ?? [];
+    const answer = this.answerAt(line - 1);
     const doubt = (this.read[this.tape.at - 1]?.stores ?? []).reduce((sum, { prepared }) => sum + prepared.length, 0);
-    fill(byId("commit-said"), answer
-      ? [`Line ${place + 1}: `, shown(this.tape.lines[place].trim()), ": ", shown(answer.read),
-        `. Branches in doubt: ${doubt}`] : null);
+    const isCall = within === null && answer && says.length !== 1; // a crash is no call, and says more of itself
+    const told = says[(within ?? says.length) - 1];
+    const said = isCall ? [`Line ${line}: `, shown(this.tape.lines[line - 1].trim()), ": ", shown(answer.read),
+      `. Branches in doubt: ${doubt}`] : told ? `Line ${line}: ${told}` : null;
+    fill(byId("commit-said"), said);
+    markWords(byId("legend"), told ?? "");
   }
 
   // Prints the whole diagram in pages, and comes back to the call that was shown.
@@ -281,10 +379,23 @@ export class Commit {
   draw() {
     if (this.view.hidden) return;
     if (this.tape.lines.length === 0) return this.sequence.clear();
-    this.sequence.show(this.question()).catch((fault) => {
+    if (this.sequence.isOf(this.tape)) {
+      this.sequence.showUntil(this.line(), this.messages.shown);
+      this.showCursor();
+    }
+    this.drawing = this.sequence.show(this.question()).catch((fault) => {
       if (!(fault instanceof Failure)) throw fault;
       this.app.notify({ fault: fault.message });
     });
+  }
+
+  // Once it is drawn, it is known how many messages the call has.
+  drawn() {
+    if (this.sequence.isWhole) this.messages.limit(this.count()); // else there may be more of them
+    this.sequence.showUntil(this.line(), this.messages.shown);
+    this.showNow();
+    this.app.keep("commit", this.state());
+    this.showCursor();
   }
 
   // What is asked is to be seen, or else the last answer, and a little of what waits; at the start the first call.
@@ -293,7 +404,9 @@ export class Commit {
     const { at, lines } = this.tape;
     const all = byId("sequence").querySelectorAll("[data-line]:is(.call)");
     const until = this.quiz.asked === null ? at : this.quiz.asked + 1;
-    const given = [...all].filter((it) => Number(it.dataset.line) <= until).at(-1);
+    const call = [...all].filter((it) => Number(it.dataset.line) <= until).at(-1);
+    const step = this.messages.shown ?? (this.messages.isByMessage ? this.count() : null);
+    const given = call?.querySelector(`.message[data-step="${step}"]`) ?? call;
     room.style.setProperty("--above", `${byId("sequence-heads").firstElementChild.getBoundingClientRect().height}px`);
     if (given) bringIntoView(room, given, until === at && at < lines.length ? PEEK : BELOW);
     else bringStartIntoView(room, [all[0], this.view.querySelector(".tools")]);

@@ -1,11 +1,17 @@
 // The buttons over a tape, and their keys. For the projector the arrows do without Alt, and a clicker's keys step
 // always.
+import { Player } from "./player.js";
 import { clicked, isProjected, isTyping } from "./projector.js";
 
-const KEYS = { ArrowRight: "step", End: "end", ArrowLeft: "back", Home: "start" };
+const KEYS = { ArrowRight: "step", End: "end", ArrowLeft: "back", Home: "start", ArrowDown: "call" };
 
-// `story` opens lines; `quiz` is asked before a step; `print` draws all of it for a hand-out.
-export function wire(view, tape, { story, quiz, print }) {
+// P plays and pauses.
+const isPlay = (event) =>
+  event.key.toLowerCase() === "p" && !event.altKey && !event.ctrlKey && !event.metaKey && !isTyping(event);
+
+// `story` opens lines; `quiz` is asked before a step; `print` draws all of it for a hand-out; `more` has what a view
+// does otherwise than its tape, and `isOver` whether it has no step left. The player is returned.
+export function wire(view, tape, { story, quiz, print, more = {}, isOver = () => tape.at >= tape.lines.length }) {
   const does = {
     start: () => tape.toStart(),
     step: () => quiz.step(),
@@ -15,29 +21,38 @@ export function wire(view, tape, { story, quiz, print }) {
     clear: () => story([], 0),
     quiz: () => quiz.toggle(),
     print,
+    ...more,
+  };
+  const player = new Player(view, { step: () => does.step(), isOver, begin: () => tape.toStart() });
+  const act = (name) => {
+    if (name === "play") return player.toggle();
+    player.pause();
+    return does[name]?.();
   };
   for (const button of view.querySelectorAll("[data-do]")) {
     button.addEventListener("click", () => {
       button.closest("details.more")?.removeAttribute("open");
-      does[button.dataset.do]();
+      act(button.dataset.do);
     });
   }
   addEventListener("keydown", (event) => {
     if (view.hidden) return;
     const isMeant = event.altKey || (isProjected() && !isTyping(event));
-    const wanted = clicked(event) ?? (isMeant ? KEYS[event.key] : null);
-    if (!wanted) return;
+    const wanted = clicked(event) ?? (isMeant ? KEYS[event.key] : null) ?? (isPlay(event) ? "play" : null);
+    if (!wanted || view.querySelector('[data-do="play"]').disabled && wanted === "play") return;
     event.preventDefault();
-    does[wanted]();
+    act(wanted);
   });
+  return player;
 }
 
-// Which buttons have something to do.
-export function enable(view, tape) {
+// Which buttons have something to do. `isWithin` is whether a part of what was given last isn't shown yet, and `isAsked`
+// whether a quiz is on, which isn't played.
+export function enable(view, tape, { isWithin = false, isAsked = false } = {}) {
   const waits = tape.at < tape.lines.length;
   const some = tape.lines.length > 0;
-  const able = { start: tape.at > 0, step: waits, end: waits, back: tape.at > 0, drop: waits, clear: some, quiz: true,
-    print: some };
+  const able = { start: tape.at > 0, step: waits || isWithin, call: waits || isWithin, end: waits || isWithin,
+    back: tape.at > 0, drop: waits, clear: some, quiz: true, print: some, play: some && !isAsked };
   for (const button of view.querySelectorAll("[data-do]")) button.disabled = !able[button.dataset.do];
   if (view.dataset.wants !== "step" || !waits) return;
   delete view.dataset.wants;

@@ -1,6 +1,7 @@
 // Elements are made of text nodes alone: nothing that comes from the program is ever read as HTML.
 import { pieces } from "./bytes.js";
 
+const PART = 0.6; // of the screen that is free of tools
 const ASIDE = 8; // so much beside what was moved into sight
 
 export const byId = (id) => document.getElementById(id);
@@ -44,9 +45,10 @@ export function remarkOf(lines) {
   return first.startsWith("#") ? shown(first.slice(1).trim(), "bdi") : null;
 }
 
+// What can be chosen, in groups of [value, text, title].
 export function options(select, groups) {
   fill(select, el("option", { value: "" }, "…"), groups.map(([name, entries]) =>
-    el("optgroup", { label: name }, entries.map(([value, text]) => el("option", { value }, text)))));
+    el("optgroup", { label: name }, entries.map(([value, text, title]) => el("option", { value, title }, text)))));
 }
 
 // Whether a room moves by itself, and not with the page.
@@ -58,7 +60,11 @@ export const moves = (room) =>
 export function bringIntoView(room, element, below) {
   if (moves(room)) {
     room.scrollTop += element.getBoundingClientRect().bottom - room.getBoundingClientRect().bottom + below;
-  } else element.scrollIntoView({ block: "nearest" });
+  } else {
+    // of what is higher than the screen, the start
+    const isHigh = element.getBoundingClientRect().height > innerHeight * PART;
+    element.scrollIntoView({ block: isHigh ? "start" : "nearest" });
+  }
 }
 
 // Moves a room to its start. Where the page moves in its place, it does so until these are seen, the last above all.

@@ -18,6 +18,16 @@ export function doubtList(room, behind) {
     : el("p.hint", {}, "No branch is in doubt."));
 }
 
+const ALWAYS = ["coordinator", "participant"]; // words that nearly every sentence has
+
+// Marks the words of the legend that a sentence has.
+export function markWords(room, said) {
+  for (const word of room.querySelectorAll("dt")) {
+    const text = word.textContent;
+    word.classList.toggle("now", !ALWAYS.includes(text) && said.toLowerCase().includes(text));
+  }
+}
+
 export function legend(room, words) {
   fill(room, words.flatMap(([word, meaning]) => [el("dt", {}, word), el("dd", {}, meaning)]));
 }

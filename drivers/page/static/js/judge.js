@@ -50,7 +50,7 @@ export class Judge {
 
   offer({ records, judged }) {
     this.records = [...records, ...judged];
-    const listed = (all, from) => all.map((record, at) => [String(from + at), titleOf(record)]);
+    const listed = (all, from) => all.map((record, at) => [String(from + at), ...titleOf(record)]);
     options(byId("record-example"), [["Records", listed(records, 0)], ["Examples", listed(judged, records.length)]]);
   }
 
@@ -69,10 +69,10 @@ export class Judge {
   }
 
   enter(state) {
-    const bytes = state.record ?? "";
+    const bytes = state.record ?? this.records[0]?.text ?? ""; // so that there is one to be judged
     byId("record").value = toText(bytes) ?? bytes;
     this.opened = { bytes, text: byId("record").value };
-    follow(byId("record-example"), this.records, (record) => record.text === bytes);
+    follow(byId("record-example"), this.records, (record) => record.text === bytes, byId("record-remark"));
     byId("limit").value = whole(state.limit, 1, 1_000_000, 100_000);
     this.asks = Math.max(this.asks, whole(state.go, 1, 1e9, 0));
     const wanted = JSON.stringify(state);

@@ -22,12 +22,7 @@ export async function copy(text, button) {
   const before = button.dataset.says ?? button.textContent;
   button.dataset.says = before;
   const focused = document.activeElement;
-  try {
-    await put(text);
-    button.textContent = "Copied";
-  } catch {
-    button.textContent = "Copy the address bar";
-  }
+  button.replaceChildren(await put(text).then(() => "Copied", () => "Copy the address bar"));
   focused?.focus();
   setTimeout(() => { button.textContent = before; }, SAID);
 }

@@ -1,8 +1,8 @@
 // Reads what `xa_script show` prints for a line: its answer, and the store behind it.
 
-const BRANCH = /^  BRANCH (\S+) (ACTIVE|IDLE|PREPARED)(?: SESSION (\d+))?$/;
-const HELD = /^    (SHARES|HOLDS) (\S+?)(?: (WRITES) (\S+)| (DELETES))?$/;
-const ROW = /^  ROW (\S+) (?:VALUE (\S+)|NONE)$/;
+const BRANCH = /^ {2}BRANCH (\S+) (ACTIVE|IDLE|PREPARED)(?: SESSION (\d+))?$/;
+const HELD = /^ {4}(SHARES|HOLDS) (\S+?)(?: (WRITES) (\S+)| (DELETES))?$/;
+const ROW = /^ {2}ROW (\S+) (?:VALUE (\S+)|NONE)$/;
 const REFUSAL = /^ERROR (\d+) \((\w+)\): (.*)$/s;
 const FAULT_PLACE = /at byte (\d+)$/;
 

@@ -42,7 +42,7 @@ function listenToChoices() {
   addEventListener("pointerdown", (event) => { pointed = event.target.closest?.("select"); });
   addEventListener("keydown", (event) => {
     pointed = null;
-    if (event.key !== "Enter" || !event.target.closest?.(".tools select")) return;
+    if (event.key !== "Enter" || !event.target.closest?.(":is(.tools, .choices) select")) return;
     event.preventDefault();
     leave(event.target);
   }, true);

@@ -21,9 +21,10 @@ export function isRight(guess, printed, read) {
 }
 
 export class Quiz {
-  // `answerAt` gives the answer of a line that is answered, {printed, read}; `changed` draws the view anew.
-  constructor(view, tape, answerAt, changed) {
-    Object.assign(this, { tape, answerAt, changed, isOn: false, asked: null, right: 0, count: 0 });
+  // `answerAt` gives the answer of a line that is answered, {printed, read}; `changed` draws the view anew; `goOn` steps
+  // where nothing is asked.
+  constructor(view, tape, answerAt, changed, goOn = () => tape.step()) {
+    Object.assign(this, { tape, answerAt, changed, goOn, isOn: false, asked: null, right: 0, count: 0 });
     this.toggler = view.querySelector('[data-do="quiz"]');
     this.line = el("span.asked");
     this.input = el("input", { type: "text", spellcheck: "false", autocapitalize: "off", "aria-label": "Your guess",
@@ -66,7 +67,7 @@ export class Quiz {
 
   step() {
     const next = this.next();
-    if (!this.isOn || next === null) return this.tape.step();
+    if (!this.isOn || next === null) return this.goOn();
     if (this.asked === next) return this.reveal(null);
     this.ask(next);
     this.input.value = "";

@@ -71,7 +71,7 @@ export class Race {
   offer(examples) {
     this.examples = [...examples.races, ...examples.scripts, ...examples.stories];
     let from = 0;
-    const listed = (kind) => examples[kind].map((story) => [String(from++), titleOf(story)]);
+    const listed = (kind) => examples[kind].map((story) => [String(from++), ...titleOf(story)]);
     options(byId("race-example"),
       [["Races", listed("races")], ["Examples", listed("scripts")], ["Stories", listed("stories")]]);
   }
@@ -96,12 +96,13 @@ export class Race {
   }
 
   enter(state) {
-    const bytes = state.script ?? "";
+    const bytes = state.script ?? withoutRemarks(this.examples[0]?.text ?? ""); // so that there is one to be raced
     this.opened = { bytes, text: toText(bytes) ?? Array.from(bytes).join("") };
     byId("race-script").value = this.opened.text;
     this.opened.text = byId("race-script").value;
     const lines = linesOf(bytes).join("\n");
-    follow(byId("race-example"), this.examples, (example) => withoutRemarks(example.text) === lines);
+    follow(byId("race-example"), this.examples, (example) => withoutRemarks(example.text) === lines,
+      byId("race-remark"));
     byId("together").checked = Boolean(state.together);
     byId("renew").checked = Boolean(state.renew);
     byId("shuffled").checked = state.seed !== UNSHUFFLED;

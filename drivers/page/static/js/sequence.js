@@ -2,9 +2,12 @@
 // it are its buttons.
 import { ask } from "./api.js";
 import { byId, el, fill } from "./dom.js";
+import { isStill, travelTime } from "./player.js";
 import { isProjected } from "./projector.js";
 
 const LETTERS = 0.8; // of the page's letters
+const SMALL = 0.7; // of them in a narrow room
+const NARROW = 480; // pixels
 const SCALE = 2; // of a picture for others: pixels for each of the drawing's
 const NARROWEST = 260;
 const PAGE = [1000, 1300]; // of a page's drawing, in its own units
@@ -15,6 +18,25 @@ const PLACE = ["act", "line", "store", "call"];
 function read(svg) {
   const [head, , rest] = svg.split(/<\/?style>/);
   return document.importNode(new DOMParser().parseFromString(head + rest, "image/svg+xml").documentElement, true);
+}
+
+const SVG = "http://www.w3.org/2000/svg";
+
+function made(tag, attributes, ...inside) {
+  const element = document.createElementNS(SVG, tag);
+  for (const [name, value] of Object.entries(attributes)) element.setAttribute(name, value);
+  element.append(...inside);
+  return element;
+}
+
+// The part of a lifeline that stands between two heights, as a copy.
+function part(line, top, bottom) {
+  const [from, to] = ["y1", "y2"].map((name) => Number(line.getAttribute(name)));
+  if (to <= top || from >= bottom) return [];
+  const copy = line.cloneNode();
+  copy.setAttribute("y1", Math.max(from, top));
+  copy.setAttribute("y2", Math.min(to, bottom));
+  return [copy];
 }
 
 function selectorOf(button) {
@@ -30,6 +52,7 @@ export class Sequence {
     this.drawn = drawn;
     this.wanted = null;
     this.shown = null;
+    this.steps = this.rows = []; // of the drawing
     room.addEventListener("click", (event) => this.act(event.target.closest("[data-act]"), event));
     room.addEventListener("keydown", (event) => {
       if (event.key === "Enter" || event.key === " ") this.act(event.target.closest("[data-act]"), event);
@@ -53,7 +76,8 @@ export class Sequence {
   }
 
   size() {
-    return Math.round(parseFloat(getComputedStyle(document.documentElement).fontSize) * (isProjected() ? 1 : LETTERS));
+    const part = isProjected() ? 1 : this.width() < NARROW ? SMALL : LETTERS;
+    return Math.round(parseFloat(getComputedStyle(document.documentElement).fontSize) * part);
   }
 
   width() {
@@ -61,23 +85,23 @@ export class Sequence {
   }
 
   // Draws what is asked; while one drawing is made another may be asked for, of which only the last is made.
-  async show(question) {
+  show(question) {
     this.wanted = { ...question, width: this.width(), size: this.size() };
-    if (this.drawing) return;
-    this.drawing = true;
-    try {
-      while (this.wanted) {
-        const asked = this.wanted;
-        this.wanted = null;
-        const key = JSON.stringify(asked);
-        if (key === this.shown) continue;
-        const { svg, whole } = await ask("sequence", asked);
-        this.put(svg, asked);
-        this.shown = whole ? key : null;
-        this.wanted ??= whole ? null : asked;
-      }
-    } finally {
-      this.drawing = false;
+    this.running ??= this.drawAll().finally(() => { this.running = null; });
+    return this.running;
+  }
+
+  async drawAll() {
+    while (this.wanted) {
+      const asked = this.wanted;
+      this.wanted = null;
+      const key = JSON.stringify(asked);
+      if (key === this.shown) continue;
+      const { svg, whole, steps, rows } = await ask("sequence", asked);
+      Object.assign(this, { steps, rows, isWhole: whole });
+      this.put(svg, asked);
+      this.shown = whole ? key : null;
+      this.wanted ??= whole ? null : asked;
     }
   }
 
@@ -103,8 +127,62 @@ export class Sequence {
     this.drawn();
   }
 
+  // Whether it is drawn as far as these lines were given.
+  isOf({ at }) {
+    return this.room.firstElementChild !== null && this.room.dataset.given === String(at);
+  }
+
+  // How many messages the call at a line has.
+  count(line) {
+    return this.steps.find((it) => it.line === line)?.says.length ?? 0;
+  }
+
+  // Leaves out what comes behind a message of a line; null shows all of it.
+  showUntil(line, step) {
+    this.room.querySelector(".curtain-room")?.remove();
+    const drawing = this.room.firstElementChild;
+    const ends = this.steps.find((it) => it.line === line)?.ends;
+    if (!ends || !drawing) return;
+    const bottom = ends.at(-1);
+    if (step === null) return;
+    const top = ends[step - 1];
+    const width = drawing.getAttribute("width");
+    const curtain = made("g", { class: "curtain-room" },
+      made("rect", { class: "curtain", x: 0, y: top, width, height: bottom - top }),
+      ...[...drawing.querySelectorAll(".lifeline")].flatMap((it) => part(it, top, bottom)));
+    drawing.querySelector(".heads").before(curtain);
+  }
+
+  // The branches in doubt at the end of a message, as the drawing has their bands: [{store, prepared}].
+  doubtAt(line, step) {
+    const ends = this.steps.find((it) => it.line === line)?.ends;
+    if (!ends) return [];
+    const at = ends[step - 1];
+    return [...this.room.querySelectorAll(".doubt")].filter((band) => {
+      const box = band.querySelector("rect").getBBox();
+      return box.y < at && box.y + box.height > at - 1;
+    }).map(({ dataset }) => ({ store: Number(dataset.store), prepared: [dataset.xid] }));
+  }
+
+  // Lets the arrow of a message go its way, and what it changes appear once it has come.
+  travel(line, step) {
+    const message = this.room.querySelector(`.call[data-line="${line}"] .message[data-step="${step}"]`);
+    const arrow = message?.querySelector(".arrow");
+    if (!arrow || isStill()) return;
+    const duration = travelTime();
+    const [start, end] = ["x1", "x2"].map((name) => Number(arrow.getAttribute(name)));
+    arrow.style.transformOrigin = `${start}px 0`;
+    const way = { duration, easing: "ease-in-out", fill: "backwards" };
+    arrow.animate([{ transform: "scaleX(0)" }, { transform: "none" }], way);
+    message.querySelector(".head-of, .cross")
+      ?.animate([{ transform: `translateX(${start - end}px)` }, { transform: "none" }], way);
+    for (let next = message.nextElementSibling; next && !next.matches(".message"); next = next.nextElementSibling)
+      next.animate([{ opacity: 0 }, { opacity: 1 }], { duration: duration / 3, delay: duration, fill: "backwards" });
+  }
+
   clear() {
     this.wanted = this.shown = null;
+    this.steps = this.rows = [];
     fill(this.room);
     fill(byId("sequence-heads"));
     this.room.dataset.given = 0;

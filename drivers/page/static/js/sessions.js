@@ -41,7 +41,7 @@ export class Sessions {
 
   offer(examples) {
     this.stories = [...examples.stories, ...examples.scripts];
-    const listed = (kind, from) => examples[kind].map((story, at) => [String(from + at), titleOf(story)]);
+    const listed = (kind, from) => examples[kind].map((story, at) => [String(from + at), ...titleOf(story)]);
     options(byId("story"),
       [["Stories", listed("stories", 0)], ["Examples", listed("scripts", examples.stories.length)]]);
     this.offerFirst();
@@ -134,7 +134,7 @@ export class Sessions {
     this.drawLines();
     this.drawStore();
     this.announce();
-    enable(this.view, this.tape);
+    enable(this.view, this.tape, { isAsked: this.quiz.isOn });
     byId("welcome").hidden = this.tape.lines.length > 0;
     fill(byId("story-remark"), remarkOf(this.tape.lines));
     follow(byId("story"), this.stories, (story) => linesOf(story.text).join("\n") === this.tape.lines.join("\n"));
@@ -176,7 +176,7 @@ export class Sessions {
       event.preventDefault();
       this.give(session, input);
     });
-    return el(`div.${sessionClass(session)}`, {}, input);
+    return el(`div.${sessionClass(session)}`, { "data-session": session }, input);
   }
 
   drawLines() {

@@ -15,10 +15,23 @@ export function readStops(text) {
   return found;
 }
 
-// A stop's line, how many calls of sessions the line has made, and what is recovered.
-export function nameOfStop({ line, calls, recovered }, lines) {
-  const place = line === null ? "END" : `${line}.${calls} ${lines[line - 1].trim()}`;
-  return `${place}: ${recovered.replace("RECOVERED ", "")}`;
+const WORD = /^[ \t]*([A-Z]+(?:[ \t]+\d+){0,2})/;
+
+const placeOf = ({ line, calls }) => (line === null ? "END" : `${line}.${calls}`);
+
+// A stop's line, how many calls of sessions the line has made, and what is recovered: short, so that all of it is seen.
+export function nameOfStop(stop, lines) {
+  const counts = /committed (\d+) rolled back (\d+)(?: missing (\d+))?/.exec(stop.recovered);
+  const call = stop.line === null ? "" : ` ${WORD.exec(lines[stop.line - 1])?.[1] ?? ""}`;
+  if (!counts) return `${placeOf(stop)}${call}: ${stop.recovered}`;
+  const [, committed, rolledBack, missing] = counts;
+  return `${placeOf(stop)}${call}: commits ${committed}, rolls back ${rolledBack}`
+    + (Number(missing ?? 0) ? `, misses ${missing}` : "");
+}
+
+// The same with the whole call, and as it is printed.
+export function wholeNameOfStop(stop, lines) {
+  return `${placeOf(stop)}${stop.line === null ? "" : ` ${lines[stop.line - 1].trim()}`}: ${stop.recovered}`;
 }
 
 // The calls that come to a stop, and recover. `counts` has how many calls the line makes of the session in each store:

@@ -1,0 +1,187 @@
+"""Playing a story: one step is one message, at a pace; what is said of it; and who wants no motion has none."""
+import unittest
+
+from selenium.webdriver.common.keys import Keys
+from support import PAGE
+from views import View
+
+CALLS = (PAGE / "scenarios/01_all_yes.calls").read_text()
+LINES = CALLS.splitlines()
+FINISH = 1 + LINES.index("FINISH 1")
+PREPARE = 1 + LINES.index("PREPARE 1")
+# The messages of a call that are seen: those above the curtain.
+SEEN = """const curtain = document.querySelector('#sequence .curtain');
+    const top = curtain ? Number(curtain.getAttribute('y')) : Infinity;
+    return [...document.querySelectorAll(`#sequence .call[data-line="${arguments[0]}"] .message`)]
+        .filter((it) => it.getBBox().y < top).length;"""
+# Counts what moves from now on.
+WATCH = """window.moved = [];
+    const real = Element.prototype.animate;
+    Element.prototype.animate = function (...all) {
+        window.moved.push(this.getAttribute('class')); return real.apply(this, all); };"""
+ROWS = """return [...document.querySelectorAll('#store-rows tbody')].map((store) => [...store.querySelectorAll('tr:not(.store)')]
+    .map((row) => (row.matches('.changed') ? '*' : '') + [...row.children].map((it) => it.textContent).join(' ')).join())"""
+
+
+class Playing(View):
+    view = "commit"
+
+    def place(self):
+        """How many lines were given, and how many messages of the last one are shown, 0 for all."""
+        return tuple(self.browser.run("""const found = new URLSearchParams(location.hash.split('?')[1]);
+            const given = Number(document.querySelector('#sequence').dataset.given ?? 0);
+            return [given, Number(found.get('message') ?? 0)]"""))
+
+    def at(self, given, message=0):
+        self.until(lambda: self.place() == (given, message), f"line {given}, message {message}: {self.place()}")
+
+    def step(self, *wanted):
+        self.browser.press(Keys.PAGE_DOWN)
+        self.at(*wanted)
+
+    def pace(self, name):
+        self.browser.run("""const list = document.querySelector('#commit [data-pace]');
+            list.value = [...list.options].find((it) => it.textContent === arguments[0]).value;
+            list.dispatchEvent(new Event('change'));""", name)
+
+    def moving(self, wanted):
+        """Has the browser say that motion is wanted, or that it isn't."""
+        self.browser.driver.execute_cdp_cmd("Emulation.setEmulatedMedia", {
+            "features": [{"name": "prefers-reduced-motion", "value": "no-preference" if wanted else "reduce"}]})
+        self.addCleanup(self.browser.driver.execute_cdp_cmd, "Emulation.setEmulatedMedia", {"features": []})
+
+    def test_one_step_is_one_message(self):
+        self.open(calls=CALLS, at=FINISH - 1)
+        self.at(FINISH - 1)
+        for message in range(1, 6):
+            self.step(FINISH, message)
+            self.until(lambda message=message: self.browser.run(SEEN, FINISH) == message, "it is seen, and no more")
+            self.assertIn(f"message {message} of 6", self.browser.text("#progress-said"))
+        self.step(FINISH)
+        self.assertEqual(self.browser.run(SEEN, FINISH), 6)
+        self.browser.press(Keys.PAGE_UP)
+        self.at(FINISH, 5)
+        self.browser.chord(Keys.ALT, Keys.ARROW_DOWN)
+        self.at(FINISH)
+        self.browser.press(Keys.PAGE_UP, Keys.PAGE_UP)
+        self.at(FINISH, 4)
+        self.reopen()
+        self.at(FINISH, 4)
+        self.until(lambda: self.browser.run(SEEN, FINISH) == 4, "the address has it")
+        for message in (3, 2, 1):
+            self.browser.press(Keys.PAGE_UP)
+            self.at(FINISH, message)
+        self.browser.press(Keys.PAGE_UP)
+        self.until(lambda: self.place()[0] < FINISH, "the call before it")
+
+    def test_alice_loses_10_before_bob_has_them(self):
+        """Beside the drawing, as in it."""
+        self.open(calls=CALLS, at=FINISH - 1)
+        self.at(FINISH - 1)
+        locked = ["alice 100 T1 makes it 90", "bob 100 T1 makes it 110"]
+        self.until(lambda: self.browser.run(ROWS) == locked, "both are locked")
+        for message, rows, doubt in [
+                (1, locked, 2), (2, ["*alice 100 90 free", locked[1]], 2), (3, ["alice 90 free", locked[1]], 1),
+                (4, ["alice 90 free", "*bob 100 110 free"], 1), (5, ["alice 90 free", "bob 110 free"], 0)]:
+            self.step(FINISH, message)
+            self.until(lambda rows=rows: self.browser.run(ROWS) == rows, f"{message}: {rows}")
+            self.assertEqual(len(self.browser.all("#doubt .card")), doubt, message)
+
+    def test_each_message_is_said(self):
+        self.open(calls=CALLS, at=PREPARE - 1)
+        self.until(lambda: self.place()[0] == PREPARE - 1, "before the votes")
+        said = "#commit-said[aria-live=polite]"
+        for message, words in enumerate(["asks for votes", "asks store 0 to prepare", "Store 0 votes yes",
+                                         "asks store 1 to prepare", "Store 1 votes yes"], 1):
+            self.step(PREPARE, message)
+            self.until(lambda words=words: words in self.browser.text(said), words)
+            self.assertTrue(self.browser.one(said).is_displayed())
+        self.assertEqual(self.browser.texts("#legend dt.now"), ["vote", "in doubt"], "its words are marked")
+        self.step(PREPARE)
+        self.until(lambda: self.browser.text(said) == f"Line {PREPARE}: PREPARE 1: READY. Branches in doubt: 2", "all")
+
+    def test_it_plays_to_its_end_and_again(self):
+        self.open(calls="BEGIN\nBEGIN", at=0)
+        self.until(lambda: self.browser.all("#sequence .call"), "it is drawn")
+        self.pace("very fast")
+        self.browser.push('#commit [data-do="play"]')
+        self.assertEqual(self.browser.text('#commit [data-do="play"]'), "Pause")
+        self.at(2)
+        self.until(lambda: self.browser.text('#commit [data-do="play"]') == "Play", "it has come to its end")
+        self.pace("slow")
+        self.browser.press("p")
+        self.at(1, 1)
+        self.browser.press("p")
+        self.assertEqual(self.browser.text('#commit [data-do="play"]'), "Play", "it pauses")
+        self.browser.press("p")
+        self.until(lambda: self.browser.text('#commit [data-do="play"]') == "Pause", "it goes on")
+        self.browser.press(Keys.PAGE_UP)
+        self.until(lambda: self.browser.text('#commit [data-do="play"]') == "Play", "who steps plays no more")
+
+    def test_sessions_play_too(self):
+        self.browser.go(f"{self.page.address}#sessions?script=1+PUT+'k','v'%0a2+GET+'k'%0a1+GET+'k'&at=0")
+        self.until(lambda: len(self.browser.all("#pending > li")) == 3, "three lines wait")
+        self.browser.run("sessionStorage.setItem('pace', 3)")
+        self.browser.press("p")
+        self.until(lambda: len(self.browser.all("#given > li")) == 3, "all were played")
+        self.until(lambda: self.browser.text('#sessions [data-do="play"]') == "Play", "and that was all")
+
+    def test_an_arrow_travels_but_not_where_no_motion_is_wanted(self):
+        for wanted in (True, False):
+            self.moving(wanted)
+            self.open(calls=CALLS, at=FINISH - 1)
+            self.at(FINISH - 1)
+            self.browser.run(WATCH)
+            self.step(FINISH, 1)
+            self.step(FINISH, 2)
+            if wanted:
+                self.until(lambda: len(self.browser.run("return window.moved")) >= 5, "arrows, heads and the rows")
+                moved = self.browser.run("return window.moved")
+                self.assertEqual(len([it for it in moved if it.startswith("arrow")]), 2)
+                self.assertEqual(len([it for it in moved if it.startswith("head-of")]), 2)
+                self.assertIn("rows", moved)
+            else:
+                self.assertEqual(self.browser.run("return window.moved"), [])
+
+    def test_progress_leads_to_a_call(self):
+        self.open(calls=CALLS, at=0)
+        self.until(lambda: self.browser.text("#progress-said") == "0 of 9", "nothing is given")
+        self.browser.focus("#progress")
+        self.browser.press(Keys.ARROW_RIGHT, Keys.ARROW_RIGHT, Keys.ARROW_RIGHT)
+        self.until(lambda: self.browser.text("#progress-said") == "3 of 9", "three calls")
+        self.at(5)
+
+    def test_a_quiz_asks_for_whole_calls_and_isnt_played(self):
+        self.open(calls=CALLS, at=FINISH - 1)
+        self.at(FINISH - 1)
+        self.browser.push('#commit [data-do="quiz"]')
+        self.until(lambda: not self.browser.one('#commit [data-do="play"]').is_enabled(), "it isn't played")
+        self.browser.press(Keys.PAGE_DOWN)
+        self.until(lambda: self.browser.one("#commit .quiz").is_displayed(), "it asks")
+        self.browser.press(Keys.PAGE_DOWN)
+        self.at(FINISH)
+
+    def test_the_whole_of_each_choice_is_seen(self):
+        """Of what is chosen, in every view, on a small screen too; and what it is about stands beside it."""
+        fits = """const all = [...document.querySelectorAll('main:not([hidden]) select')];
+            return all.filter((it) => it.checkVisibility()).flatMap((it) => {
+            const pen = document.createElement('canvas').getContext('2d'), style = getComputedStyle(it);
+            pen.font = `${style.fontSize} ${style.fontFamily}`;
+            const room = it.clientWidth - parseFloat(style.paddingLeft) - parseFloat(style.paddingRight);
+            return [...it.options].map((one) => one.textContent).filter((text) => pen.measureText(text).width > room + 1); })"""
+        cdp = self.browser.driver.execute_cdp_cmd
+        self.addCleanup(cdp, "Emulation.clearDeviceMetricsOverride", {})
+        for width, height in ((1280, 800), (390, 844)):
+            cdp("Emulation.setDeviceMetricsOverride",
+                {"width": width, "height": height, "deviceScaleFactor": 1, "mobile": False})
+            for view in ("sessions", "race", "judge", "commit"):
+                self.browser.go(f"{self.page.address}#{view}")
+                self.assertEqual(self.browser.run(fits), [], (width, view))
+            self.open(calls=CALLS, at=0)
+            self.until(lambda: len(self.browser.all("#stops option")) > 1 or self.browser.text("#stops"), "stops")
+            self.assertEqual(self.browser.run(fits), [], (width, "stops"))
+            self.assertEqual(self.browser.text("#calls-remark"), LINES[0].removeprefix("# "))
+
+
+if __name__ == "__main__":
+    unittest.main()
