@@ -1,7 +1,5 @@
 # Thin targets over the scripts of this repository. `make` lists them. docs/CONTRIBUTING.md#tests has what each test
 # does.
-PROGRAM := crates/xa_script/out/xa_script
-
 help: ## list the targets
 	@awk -F ':.*## ' '/^[a-z]+:.*## / { printf "make %-7s %s\n", $$1, $$2 }' $(MAKEFILE_LIST)
 
@@ -12,20 +10,25 @@ build: rt ## prove and build the program: needs rt
 	scripts/build
 
 test: rt ## run the whole gate, proofs and tests: needs rt, a C compiler, Python, apt-get
+	@echo 'From nothing the whole gate took 70 to 111 minutes on 4 cores. Shorter: make try, about a minute.'
 	.ci/run
 
-server: ## serve MySQL's protocol on 127.0.0.1:3306: builds the server, and the library if it is missing; needs cargo, gcc
-	server/build
-	server/target/release/nigbaru-server
+release: rt ## make and try a package of Debian, a tarball and a wheel of what is committed: needs rt, cargo, gcc, root
+	scripts/build
+	scripts/build nigbaru_c
+	scripts/release --test
 
-page: $(PROGRAM) ## serve the classroom on http://127.0.0.1:8400/: builds the program if it is missing
-	drivers/page/serve
+server: ## serve MySQL's protocol on 127.0.0.1:3306: over a build, an installed release, or else proofs
+	@scripts/start server
 
-$(PROGRAM):
-	@$(MAKE) --no-print-directory build
+page: ## serve the classroom on http://127.0.0.1:8400/: likewise
+	@scripts/start page
+
+bench: ## break a small transaction manager at every point: likewise; needs python3-pymysql
+	@scripts/start bench
 
 rt:
 	@command -v rt > /dev/null || \
 		{ echo "there is no rt on the path: README.md says in 'Quick start' where it comes from" >&2; exit 1; }
 
-.PHONY: help try build test server page rt
+.PHONY: help try build test release server page bench rt

@@ -21,7 +21,8 @@ pub fn trips(seconds: f64, program: &[&str]) -> f64 {
         Command::new(program[0]).args(&program[1..]).stdin(Stdio::piped()).stdout(Stdio::piped()).spawn().unwrap();
     let mut input = child.stdin.take().unwrap();
     let mut output = BufReader::new(child.stdout.take().unwrap());
-    let lines: Vec<String> = (0..100).flat_map(|turn| cycle_texts(0, turn)).map(|text| format!("1 {text}\n")).collect();
+    let cycle = |turn| cycle_texts(0, turn, &format!("k0_{turn}"));
+    let lines: Vec<String> = (0..100).flat_map(cycle).map(|text| format!("1 {text}\n")).collect();
     let (mut done, mut answer, begun) = (0, Vec::new(), Instant::now());
     while begun.elapsed().as_secs_f64() < seconds {
         for line in &lines {
