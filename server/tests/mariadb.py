@@ -7,7 +7,7 @@ import tempfile
 import time
 from pathlib import Path
 
-from wire import Client
+from wire import Client, Closed
 
 
 def free_port():
@@ -17,6 +17,7 @@ def free_port():
 
 
 TRIES = 3
+PATIENCE = 300  # seconds for a server to begin, and to end
 
 
 def made(folder, user):
@@ -37,29 +38,39 @@ def mariadb():
     """Starts a server, with the account root, which has no password; gives its port. It is quick, and keeps nothing."""
     with tempfile.TemporaryDirectory() as folder:
         user = f"--user={getpass.getuser()}"
-        data = made(folder, user)
+        process, port = started(folder, user, made(folder, user))
+        try:
+            yield port
+        finally:
+            process.terminate()
+            process.wait(PATIENCE)
+
+
+def started(folder, user, data):
+    """The process of a server that listens, and its port. One whose port somebody was faster to take ends by itself,
+    and another is started."""
+    for _ in range(TRIES):
         port = free_port()
         with open(Path(folder) / "log", "wb") as log:
             process = subprocess.Popen(["mariadbd", "--no-defaults", user, f"--datadir={data}",
                                         f"--socket={folder}/socket", f"--pid-file={folder}/pid", f"--port={port}",
                                         "--bind-address=127.0.0.1", "--innodb-flush-log-at-trx-commit=0",
-                                        "--innodb-flush-method=nosync", "--skip-innodb-doublewrite"], stdout=log, stderr=log)
-        try:
-            wait_until_it_listens(port)
-            yield port
-        finally:
-            process.terminate()
-            process.wait(60)
-
-
-def wait_until_it_listens(port):
-    deadline = time.monotonic() + 60
-    while True:
-        try:
-            with Client(port) as client:
-                assert client.welcome.kind == "ok", client.welcome
-                return
-        except OSError:
-            if time.monotonic() > deadline:
-                raise
+                                        "--innodb-flush-method=nosync", "--skip-innodb-doublewrite"], stdout=log,
+                                       stderr=log)
+        deadline = time.monotonic() + PATIENCE
+        while process.poll() is None and time.monotonic() < deadline:
+            if listens(port, data):
+                return process, port
             time.sleep(0.05)
+        process.kill()
+        process.wait()
+    raise RuntimeError(f"no MariaDB listens:\n{(Path(folder) / 'log').read_text(errors='replace')}")
+
+
+def listens(port, data):
+    """Whether the server of this folder listens at the port, and none that somebody else has there."""
+    try:
+        with Client(port) as client:
+            return client.ask("SELECT @@datadir").rows == [(f"{data}/".encode(),)]
+    except (OSError, Closed):
+        return False

@@ -18,6 +18,8 @@ SERVER = os.environ["NIGBARU_SERVER"]
 LONG = bool(os.environ.get("NIGBARU_LONG"))
 SEED = int(os.environ.get("NIGBARU_SEED", "62"))
 PYTHON = "/usr/bin/python3"
+PATIENCE = 90  # seconds for whatever has to come, on a machine that does much else
+LONGEST = 600  # seconds for a program: one of Java has taken minutes to begin where the machine was very busy
 LISTENS = re.compile(r"store (\d+) listens on [^ ]*:(\d+)")
 
 
@@ -71,11 +73,20 @@ class Server:
     def logged(self, words):
         return any(words in line for line in self.log)
 
+    def change_faults(self, *lines):
+        """Puts another file in the place of the faults, so that the server reads one of the two."""
+        (self.folder / "next").write_text("".join(f"{line}\n" for line in lines))
+        (self.folder / "next").rename(self.folder / "faults")
+
+    def ended(self):
+        """Waits for the server's end; the status."""
+        return self.process.wait(PATIENCE)
+
     def end(self):
         """Ends the server by its signal; the status."""
         if self.process.poll() is None:
             self.process.terminate()
-        status = self.process.wait(30)
+        status = self.ended()
         self._reader.join()
         self.process.stderr.close()
         return status
@@ -93,7 +104,7 @@ def verdict(record, *words):
     return ran.stdout.split(b"\n")[0].decode()
 
 
-def wait_for(holds, what, seconds=90):
+def wait_for(holds, what, seconds=PATIENCE):
     deadline = time.monotonic() + seconds
     while not holds():
         if time.monotonic() > deadline:
@@ -126,6 +137,18 @@ class Case(unittest.TestCase):
         self.assertEqual(answer.kind, "error", f"{text}: {answer}")
         self.assertEqual((answer.number, answer.sqlstate), (number, sqlstate), text)
         return answer
+
+    def wait_for_one_that_waits(self, server):
+        """Waits until a statement waits for a session."""
+        waits = (b"sessions", b"waited for", b"1")
+        with server.client() as client:
+            wait_for(lambda: waits in client.ask("SHOW NIGBARU STATUS").rows, "one waits for a session")
+
+    def wait_for_all_that_left(self, server):
+        """Waits until the server has seen the ends of all connections: none of them does anything any more."""
+        for store in range(server.stores):
+            with server.client(store) as client:
+                wait_for(lambda: len(client.ask("SHOW PROCESSLIST").rows) == 1, "the ends of connections")
 
     def value(self, client, key):
         """A row's value, or None."""

@@ -8,7 +8,7 @@ import threading
 from pathlib import Path
 
 import pymysql
-from support import PYTHON, Case, wait_for
+from support import LONGEST, PATIENCE, PYTHON, Case, wait_for
 
 HERE = Path(__file__).resolve().parent
 # What each program prints for a cycle: XA RECOVER's first row, the value's bytes, the refusals' numbers, the value of a
@@ -34,7 +34,7 @@ class Clients(Case):
 
     def cycle(self, *words, expected=CYCLE, env=None):
         ran = subprocess.run([*map(str, words), str(self.server.port)], stdout=subprocess.PIPE,
-                             stderr=subprocess.STDOUT, text=True, timeout=180, cwd=self.folder, env=env)
+                             stderr=subprocess.STDOUT, text=True, timeout=LONGEST, cwd=self.folder, env=env)
         self.assertEqual((ran.stdout, ran.returncode), (expected, 0), "\n".join(self.server.log))
         self.assertEqual(self.server.verdicts(), ["LEGAL"])
 
@@ -77,7 +77,8 @@ class Clients(Case):
         shutil.copy(HERE / "clients" / "cycle.go", self.folder)
         env = {**os.environ, "GOPATH": "/usr/share/gocode", "GO111MODULE": "off", "GOCACHE": str(self.folder / "cache"),
                "GOFLAGS": "-p=1"}
-        subprocess.run(["go", "build", "-o", "cycle", "cycle.go"], cwd=self.folder, env=env, check=True, timeout=600)
+        subprocess.run(["go", "build", "-o", "cycle", "cycle.go"], cwd=self.folder, env=env, check=True,
+                       timeout=LONGEST)
         self.cycle(self.folder / "cycle", expected=CYCLE.replace("thirty 30", "levels 4\npool 30"))
 
     def test_odbc(self):
@@ -98,7 +99,7 @@ class Clients(Case):
             try:
                 connection = pymysql.connect(host="127.0.0.1", port=self.server.port, user="root", autocommit=True)
                 with connection, connection.cursor() as cursor:
-                    barrier.wait(60)
+                    barrier.wait(PATIENCE)
                     for turn in range(10):
                         xid = (f"{number}", f"{turn}", 7)
                         cursor.execute("XA START %s,%s,%s", xid)
@@ -128,7 +129,7 @@ class Java(Case):
         ran = subprocess.run(["java", "-Xshare:auto", "-XX:TieredStopAtLevel=1", "-cp", classes,
                               HERE / "clients" / f"{name}.java",
                               *[folder if word is None else str(word) for word in words]], stdout=subprocess.PIPE,
-                             stderr=subprocess.STDOUT, text=True, timeout=180)
+                             stderr=subprocess.STDOUT, text=True, timeout=LONGEST)
         self.assertEqual(ran.returncode, 0, ran.stdout)
         return ran.stdout
 
@@ -150,8 +151,8 @@ class Java(Case):
     def test_connections_that_were_closed_while_they_idled(self):
         """What docs/CLIENTS.md says of pools: which of them find out before a statement fails."""
         # (a pool that is begun on a busy machine takes a second or two to its first statement)
-        server = self.serve("--idle", "3")
-        said = self.says("Idle", None, server.port, 6_000)
+        server = self.serve("--idle", "20")
+        said = self.says("Idle", None, server.port)
         self.assertEqual(
             said, "hikari: ok\nhikari with a query: ok\nmariadb: ok\nbitronix: refused\nbitronix with a query: ok\n")
-        wait_for(lambda: server.logged("no command for 3 seconds"), "it is told why")
+        wait_for(lambda: server.logged("no command for 20 seconds"), "it is told why")

@@ -6,7 +6,7 @@ import subprocess
 import time
 import unittest
 
-from support import HERE, Case, wait_for
+from support import HERE, PATIENCE, Case, wait_for
 
 
 class CommandLine(Case):
@@ -35,7 +35,7 @@ class CommandLine(Case):
         for number, process in enumerate(processes):
             process.stdin.write(b"XA COMMIT '%d';\n" % number)
             process.stdin.close()
-            self.assertEqual(process.wait(60), 0)
+            self.assertEqual(process.wait(PATIENCE), 0)
         self.assertEqual(client.ask("XA RECOVER").rows, [])
         self.assertEqual({self.value(client, f"row {number}") for number in range(30)}, {b"v"})
         self.assertEqual(server.verdicts(), ["LEGAL"])
@@ -60,7 +60,7 @@ class CommandLine(Case):
             os.waitpid(child, 0)
 
     def read_until(self, end, words):
-        said, deadline = b"", time.monotonic() + 30
+        said, deadline = b"", time.monotonic() + PATIENCE
         while words not in said:
             self.assertLess(time.monotonic(), deadline, said)
             said += os.read(end, 65536)

@@ -22,7 +22,7 @@ class End(Case):
                 worker.start()
             wait_for(lambda: sum(worker.ended for worker in workers) > 200, "they work")
             server.process.send_signal(number)
-            self.assertEqual(server.process.wait(20), 0)
+            self.assertEqual(server.ended(), 0)
             for worker in workers:
                 worker.join()
                 self.assertIsInstance(worker.fault, (Closed, ConnectionError, AssertionError))
@@ -39,7 +39,7 @@ class End(Case):
         client.send(b"\x03XA PREPARE 'a'")
         wait_for(lambda: server.logged("held before it"), "it is held")
         server.process.terminate()
-        self.assertEqual(server.process.wait(20), 0)
+        self.assertEqual(server.ended(), 0)
         self.assertEqual(server.verdicts(), ["LEGAL"])
         self.assertNotIn("XA PREPARE 0x61,X'',1\n", server.record.read_text())
 
@@ -49,22 +49,23 @@ class End(Case):
         for number, client in enumerate(clients[:16]):
             self.ok(client, f"XA START '{number}'")
         clients[16].send(b"\x03XA START 'late'")
-        time.sleep(0.3)
+        self.wait_for_one_that_waits(server)
         began = time.monotonic()
         self.assertEqual(server.end(), 0)
-        self.assertLess(time.monotonic() - began, 5)
+        # (a statement that goes on is cut off after ten)
+        self.assertLess(time.monotonic() - began, 9)
         self.assertEqual(server.verdicts(), ["LEGAL"])
 
     def test_a_signal_during_an_outage(self):
         server = self.serve(faults=["NOW outage 600"])
         wait_for(lambda: server.logged("is out for 600 seconds"), "it is out")
         server.process.terminate()
-        self.assertEqual(server.process.wait(20), 0)
+        self.assertEqual(server.ended(), 0)
 
 
 class Files(Case):
     def ends_with(self, server, said):
-        self.assertEqual(server.process.wait(20), 1)
+        self.assertEqual(server.ended(), 1)
         server.end()
         self.assertTrue(server.logged(said), server.log)
 

@@ -5,7 +5,7 @@ import subprocess
 import tempfile
 from pathlib import Path
 
-from support import HERE, Case, wait_for
+from support import HERE, LONGEST, PATIENCE, Case, wait_for
 
 JARS = ["mariadb-java-client", "btm", "geronimo-jta-1.2-spec", "geronimo-jms_1.1_spec", "slf4j-api", "slf4j-nop"]
 CLASSPATH = ":".join(f"/usr/share/java/{jar}.jar" for jar in JARS)
@@ -79,7 +79,7 @@ class Java(Case):
 
     def says(self, *words):
         process = self.java(*words)
-        said = process.communicate(timeout=300)[0]
+        said = process.communicate(timeout=LONGEST)[0]
         self.assertEqual(process.returncode, 0, said)
         return said
 
@@ -138,11 +138,12 @@ class Bitronix(Java):
         self.assertEqual(server.verdicts(), ["LEGAL", "LEGAL"])
 
     def crash(self, server, words):
-        """Kills a process that commits once the server has said these words."""
+        """Kills a process that commits once the server has said these words. Its connections end with it."""
         process = self.java("Transfer", self.journal, *server.ports, "commit", "new")
-        wait_for(lambda: server.logged(words), words, 180)
+        wait_for(lambda: server.logged(words), words, LONGEST)
         process.kill()
-        process.wait(30)
+        process.wait(PATIENCE)
+        self.wait_for_all_that_left(server)
 
     def killed_at(self, statement, prepared):
         """Kills the process while a store holds its statement, with so many branches prepared in each store; what a

@@ -8,7 +8,7 @@ import time
 from pathlib import Path
 
 import pymysql
-from support import Case, wait_for
+from support import LONGEST, Case, wait_for
 from wire import ERROR, Client, Closed
 
 
@@ -96,7 +96,7 @@ class Limits(Case):
         for client in (silent, halting, half):
             self.assertTrue(client.is_closed())
             client.close()
-        self.assertTrue(9 < time.monotonic() - began < 50)
+        self.assertGreater(time.monotonic() - began, 9)
         wait_for(lambda: sum("silent for 10 seconds" in line for line in server.log) == 2,
                  "two silent clients are logged")
         wait_for(lambda: server.logged("half a packet"), "half a packet is logged")
@@ -139,21 +139,25 @@ class Limits(Case):
         greedy = self.client(server)
         greedy.socket.setblocking(False)
         packet = len(b"\x03XA RECOVER").to_bytes(3, "little") + b"\0\x03XA RECOVER"
-        sent = 0
-        try:
-            while sent < 50_000_000:
-                sent += greedy.socket.send(packet * 1000)
-        except BlockingIOError:
-            pass
-        began = time.monotonic()
-        while time.monotonic() < began + 2:
+        # So many answers are far more than what any buffer holds.
+        unsent = packet * 200_000
+
+        def is_closed():
+            """Sends what is taken, and looks whether another is answered."""
+            nonlocal unsent
+            with contextlib.suppress(BlockingIOError, ConnectionError):
+                while unsent:
+                    unsent = unsent[greedy.socket.send(unsent[:65536]):]
             self.goes_on(server)
-        wait_for(lambda: server.logged("answers that it didn't take"), "the client is closed", 60)
+            return server.logged("answers that it didn't take")
+
+        self.assertFalse(is_closed())
+        wait_for(is_closed, "the client is closed", LONGEST)
         self.goes_on(server)
 
     def test_strangers(self):
         """256 connections may be open that haven't logged in; clients that have are answered."""
-        server = self.serve("--max-logins", "256")
+        server = self.serve("--max-logins", "256", "--patience", "60")
         client = self.client(server)
         strangers = [Client(server.port, log_in=False) for _ in range(256)]
         for stranger in strangers:
@@ -174,13 +178,13 @@ class Limits(Case):
         server = self.serve("--record", "/dev/full", record=False)
         client = self.client(server)
         self.assertRaises((Closed, ConnectionError), client.ask, "GET 'k'")
-        self.assertEqual(server.process.wait(20), 1)
+        self.assertEqual(server.ended(), 1)
         server.end()
         self.assertTrue(server.logged("store 1's record can't be written: No space left on device"), server.log)
 
     def assert_unwritten(self, server, why):
         """The server ends by itself, with one line on its standard error behind those of its ports, and status 1."""
-        self.assertEqual(server.process.wait(20), 1)
+        self.assertEqual(server.ended(), 1)
         server.end()
         said = [line for line in server.log if "listens on" not in line and "connection" not in line]
         self.assertEqual(len(said), 1, server.log)
@@ -207,7 +211,7 @@ class Limits(Case):
             client = self.client(server)
             self.ok(client, "XA START 'a'")
             server.process.send_signal(number)
-            self.assertEqual(server.process.wait(20), 0)
+            self.assertEqual(server.ended(), 0)
             self.assertTrue(client.is_closed())
             # nobody asked the second store anything
             self.assertEqual(server.verdicts(), ["LEGAL", "EMPTY"])

@@ -258,7 +258,7 @@ class Connections(Case):
         one, two = (self.ends.enter_context(Client(server.port, b"root", b"secret")) for _ in range(2))
         self.ok(two, "XA START 'a'", "PUT 'k','v'")
         self.ok(one, "SHUTDOWN")
-        self.assertEqual(server.process.wait(30), 0)
+        self.assertEqual(server.ended(), 0)
         self.assertEqual(server.verdicts(), ["LEGAL"])
 
     def several(self, client, text):
@@ -307,7 +307,7 @@ class Connections(Case):
                                   "--user=root", "--password=secret", *words], stdout=subprocess.PIPE, stderr=subprocess.STDOUT, text=True,
                                  timeout=60)
             self.assertIn(said, ran.stdout)
-        self.assertEqual(server.process.wait(30), 0)
+        self.assertEqual(server.ended(), 0)
 
     def test_status_of_a_client(self):
         """What mycli's status reads of SHOW STATUS and SHOW VARIABLES."""

@@ -86,27 +86,32 @@ class Faults(Case):
 
     def test_an_outage(self):
         """Whoever is there is cut, nobody comes in, and afterwards what was prepared is there, and nothing else."""
-        server = self.serve(faults=["STORE 1 GET 2 outage 1"], stores=2)
+        server = self.serve(faults=["STORE 1 GET 2 outage 600"], stores=2)
         prepared, active, cut, other = (self.client(server), self.client(server), self.client(server),
                                         self.client(server, 1))
         self.prepare(prepared, XID, "k", "v")
         self.ok(active, "XA START 'active'", "PUT 'l','v'")
         self.assertIsNone(self.value(cut, "k"))
-        began = time.monotonic()
         self.cut(cut.ask, "GET 'k'")
         for client in (prepared, active):
             self.cut(client.ask, "XA RECOVER")
         wait_for(lambda: self.is_refused(server), "the port is closed")
         self.assertIsNone(self.value(other, "k"))
+        # An outage that is told meanwhile says anew when the store is back.
+        began = time.monotonic()
+        server.change_faults("STORE 1 NOW outage 1")
         wait_for(lambda: not self.is_refused(server), "the port is open again")
-        self.assertTrue(0.9 < time.monotonic() - began < 10)
+        self.assertGreater(time.monotonic() - began, 1)
         client = self.client(server)
         self.assertEqual(client.ask("XA RECOVER").rows, [(b"1", b"1", b"1", b"gb")])
-        self.ok(client, "PUT 'l','w'", f"XA COMMIT {XID}")
+        wait_for(lambda: client.ask("PUT 'l','w'").kind == "ok", "what wasn't prepared is gone")
+        self.ok(client, f"XA COMMIT {XID}")
         self.assertEqual(self.value(client, "k"), b"v")
         wait_for(lambda: server.logged("store 1 is back"), "it is back")
         self.assertEqual(server.verdicts(), ["LEGAL", "LEGAL"])
-        self.assertIn("out for 1 seconds: the fault GET 2 outage 1", server.records()[0].read_text())
+        record = server.records()[0].read_text()
+        self.assertIn("out for 600 seconds: the fault GET 2 outage 600", record)
+        self.assertIn("out for 1 seconds: it is told so", record)
 
     @staticmethod
     def is_refused(server):
@@ -117,19 +122,14 @@ class Faults(Case):
         except (Closed, ConnectionError):
             return True
 
-    def change(self, server, *lines):
-        """Puts another file in its place, so that the server reads one of the two."""
-        (server.folder / "next").write_text("".join(f"{line}\n" for line in lines))
-        (server.folder / "next").rename(server.folder / "faults")
-
     def test_a_file_that_is_read_again(self):
         server = self.serve(faults=["GET 2 error 1205"])
         client = self.client(server)
         self.assertEqual([client.ask("GET 'k'").kind for _ in range(3)], ["table", "error", "table"])
-        self.change(server, "GET 1 error 1213", "PUT 1 error 1205")
+        server.change_faults("GET 1 error 1213", "PUT 1 error 1205")
         wait_for(lambda: server.logged("read again: 2 of all stores"), "the file is read")
         self.assertEqual([client.ask("GET 'k'").number for _ in range(2)], [1213, None])
-        self.change(server, "GET 1 error 1213", "PUT nonsense")
+        server.change_faults("GET 1 error 1213", "PUT nonsense")
         wait_for(lambda: server.logged("the faults stay as they were"), "the file is refused")
         self.assertEqual(client.ask("PUT 'k','v'").number, 1205)
         # of the same moment and length as the one before, and yet another file
@@ -140,7 +140,7 @@ class Faults(Case):
         (server.folder / "same").rename(server.folder / "faults")
         wait_for(lambda: server.logged("read again: 1 of all stores"), "the file is read")
         self.assertEqual([client.ask("GET 'k'").number for _ in range(2)], [1205, None])
-        self.change(server, "NOW outage 0.5")
+        server.change_faults("NOW outage 0.5")
         wait_for(lambda: server.logged("store 1 is out for 0.5 seconds: it is told so"), "it goes out")
         wait_for(lambda: server.logged("store 1 is back"), "it is back")
         self.ok(self.client(server), "PUT 'k','v'")

@@ -6,7 +6,7 @@ import subprocess
 import tempfile
 from pathlib import Path
 
-from support import PROGRAM, PYTHON, SERVER, Case, wait_for
+from support import LONGEST, PATIENCE, PROGRAM, PYTHON, SERVER, Case, wait_for
 
 ROOT = Path(__file__).resolve().parents[2]
 FAULTS = {"close-before", "close-after", "stall", "stall-after", "error", "outage"}
@@ -36,7 +36,7 @@ class Page(Case):
 
     def run_here(self, *words, text=None, **more):
         ran = subprocess.run(words, cwd=self.folder, input=text, stdout=subprocess.PIPE, stderr=subprocess.STDOUT,
-                             text=True, timeout=120, env={**os.environ, **more})
+                             text=True, timeout=LONGEST, env={**os.environ, **more})
         self.assertEqual(ran.returncode, 0, ran.stdout)
         return ran.stdout
 
@@ -83,9 +83,9 @@ class Page(Case):
         process = subprocess.Popen(["sh", "run.sh", "80"], cwd=self.folder, stdout=subprocess.PIPE,
                                    start_new_session=True)
         self.ends.callback(process.stdout.close)
-        wait_for(lambda: server.logged("held before it"), "the commit is held", 60)
+        wait_for(lambda: server.logged("held before it"), "the commit is held", LONGEST)
         os.killpg(process.pid, signal.SIGKILL)
-        process.wait(30)
+        process.wait(PATIENCE)
         one, two = self.client(server, 0), self.client(server, 1)
         self.assertEqual((len(one.ask("XA RECOVER").rows), self.value(one, "alice"), self.value(two, "bob")),
                          (1, b"90", b"80"))

@@ -7,7 +7,7 @@ import tempfile
 from pathlib import Path
 
 from mariadb import mariadb
-from support import HERE, PYTHON, Case
+from support import HERE, LONGEST, PYTHON, Case
 from wire import Client
 
 PROGRAMS = HERE / "clients"
@@ -42,8 +42,8 @@ class Programs(Case):
         self.assertEqual(ours, theirs)
 
     def printed(self, ends, *words, **settings):
-        ran = subprocess.run([*map(str, words)], stdout=subprocess.PIPE, stderr=subprocess.PIPE, text=True, timeout=120,
-                             encoding="utf-8", **settings)
+        ran = subprocess.run([*map(str, words)], stdout=subprocess.PIPE, stderr=subprocess.PIPE, text=True,
+                             timeout=LONGEST, encoding="utf-8", **settings)
         self.assertEqual(ran.returncode, 0, f"{ran.stdout}{ran.stderr}\n" + "\n".join(self.server.log))
         self.assertTrue(ran.stdout.rstrip().endswith(ends), ran.stdout)
         return ran.stdout
@@ -63,7 +63,7 @@ class Programs(Case):
         shutil.copy(PROGRAMS / "gorm.go", self.folder)
         env = {**os.environ, "GOPATH": "/usr/share/gocode", "GO111MODULE": "off", "GOCACHE": str(self.folder / "cache"),
                "GOFLAGS": "-p=1"}
-        subprocess.run(["go", "build", "-o", "gorm", "gorm.go"], cwd=self.folder, env=env, check=True, timeout=600)
+        subprocess.run(["go", "build", "-o", "gorm", "gorm.go"], cwd=self.folder, env=env, check=True, timeout=LONGEST)
         self.same(self.folder / "gorm", ends="table false")
 
     def compiled(self, name, jars):

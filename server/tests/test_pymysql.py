@@ -2,7 +2,7 @@
 import pymysql
 from pymysql.constants import SERVER_STATUS
 
-from support import Case
+from support import Case, wait_for
 
 
 class PyMySQL(Case):
@@ -84,14 +84,17 @@ class PyMySQL(Case):
         one.ping()
         one.select_db("any")
 
+    def is_put(self, connection):
+        try:
+            self.rows(connection, "PUT 'k','w'")
+            return True
+        except pymysql.MySQLError as refused:
+            self.assertEqual(refused.args[0], 3572)
+            return False
+
     def test_a_client_that_closes(self):
         one, two = self.connect(), self.connect(autocommit=True)
         self.rows(one, "PUT 'k','v'")
         one._force_close()
-        for _ in range(100):
-            try:
-                self.rows(two, "PUT 'k','w'")
-                break
-            except pymysql.MySQLError as refused:
-                self.assertEqual(refused.args[0], 3572)
+        wait_for(lambda: self.is_put(two), "the transaction is rolled back")
         self.assertEqual(self.rows(two, "GET 'k'"), ((b"w",),))

@@ -153,6 +153,6 @@ class Pieces(Case):
         with self.assertRaises(Exception):
             for _ in range(1000):
                 self.ok(client, "PUT 'k','v'")
-        self.assertEqual(server.process.wait(20), 1)
+        self.assertEqual(server.ended(), 1)
         server._reader.join()
         self.assertTrue(server.logged("record can't be written"))

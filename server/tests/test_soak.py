@@ -8,7 +8,7 @@ import time
 from pathlib import Path
 
 from pieces import pieces_of, verdicts
-from support import LONG, Case
+from support import LONG, LONGEST, PATIENCE, Case, wait_for
 from test_clients import HERE
 
 SIZE = 50_000
@@ -33,20 +33,15 @@ class Soak(Case):
     def test_a_manager_that_is_killed(self):
         draw = random.Random(62)
         server = self.serve("--wait", "60", "--record-size", str(SIZE), stores=2)
-        moved = 0
         for _ in range(KILLS):
-            before = self.size(server)
+            wanted = [size + SIZE for size in self.sizes(server)]
             process = self.java(server, "move")
-            # (on a machine that is very busy a process of Java has taken minutes to begin)
-            deadline = time.monotonic() + 600
-            while self.size(server) < before + 20_000 and time.monotonic() < deadline:
-                time.sleep(0.02)
+            wait_for(lambda: all(map(int.__ge__, self.sizes(server), wanted)), "it moves amounts", LONGEST)
             time.sleep(draw.uniform(SECONDS / 4, SECONDS))
             process.kill()
-            process.wait(30)
-            moved += self.size(server) > before
-        self.assertEqual(moved, KILLS)
-        self.assertEqual(self.java(server, "recover").wait(120), 0)
+            process.wait(PATIENCE)
+            self.wait_for_all_that_left(server)
+        self.assertEqual(self.java(server, "recover").wait(LONGEST), 0)
         self.assertEqual(self.journals_end(2), JOURNAL_BEGINS)
         clients = [self.client(server, store) for store in (0, 1)]
         for client in clients:
@@ -65,6 +60,6 @@ class Soak(Case):
         return struct.unpack_from(">q", Path(self.journal, f"btm{part}.tlog").read_bytes(), 13)[0]
 
     @staticmethod
-    def size(server):
-        """Bytes of the records: how much was done."""
-        return sum(path.stat().st_size for record in server.records() for path in [record, *pieces_of(record)])
+    def sizes(server):
+        """Bytes of each store's record: how much was done."""
+        return [sum(path.stat().st_size for path in [record, *pieces_of(record)]) for record in server.records()]

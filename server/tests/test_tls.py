@@ -9,7 +9,7 @@ import unittest
 from pathlib import Path
 
 import pymysql
-from support import LONG, SERVER, Case, wait_for
+from support import LONG, LONGEST, SERVER, Case, wait_for
 from test_lending import memory
 from wire import CAN, Client
 
@@ -122,7 +122,7 @@ class Tls(Case):
         jar = "/usr/share/java/mariadb-java-client.jar"
         ran = subprocess.run(["java", "-Xshare:auto", "-XX:TieredStopAtLevel=1", "-cp", jar,
                               HERE / "clients" / "Secure.java", str(self.server.port), self.cert],
-                             stdout=subprocess.PIPE, stderr=subprocess.STDOUT, text=True, timeout=120)
+                             stdout=subprocess.PIPE, stderr=subprocess.STDOUT, text=True, timeout=LONGEST)
         self.assertRegex(ran.stdout, r"\ATLSv1\.[23]\nlisted 1\nvalue 000a27ff5c\n\Z")
         self.assertEqual(self.server.verdicts(), ["LEGAL"])
 
@@ -150,11 +150,11 @@ class Tls(Case):
         wait_for(lambda: self.connect(ssl={"ca": str(self.cert)}).ping() is None, "it lives")
 
     def test_a_handshake_that_stops(self):
-        server = self.serve("--tls-cert", self.cert, "--tls-key", self.folder / "rsa.key", "--patience", "0.5")
+        server = self.serve("--tls-cert", self.cert, "--tls-key", self.folder / "rsa.key", "--patience", "3")
         with Client(server.port, log_in=False) as client:
             client.greeted()
             client.send(REQUEST, 1)
-            wait_for(lambda: server.logged("silent for 0.5 seconds"), "it is closed")
+            wait_for(lambda: server.logged("silent for 3 seconds"), "it is closed")
             self.assertTrue(client.is_closed())
 
     def test_files(self):

@@ -210,7 +210,7 @@ class Rows(Waits):
         later = self.later(self.two, add("a"))
         (_, who, what), = self.waiting()
         self.assertEqual(who, b"connection 2")
-        self.assertRegex(what.decode(), r"^for 't/a', held by 'g','',1 \(ACTIVE, connection 1\), \d\.\d s$")
+        self.assertRegex(what.decode(), r"^for 't/a', held by 'g','',1 \(ACTIVE, connection 1\), \d+\.\d s$")
         self.ok(self.one, "XA END 'g'", "XA ROLLBACK 'g'")
         self.done(later)
         self.assertEqual(self.waiting(), [])
@@ -511,12 +511,24 @@ def seen(answer):
 
 class BesideMariaDB(Case):
     """The same conversations with both, whose answers are the same."""
+    # What each is asked for whether somebody waits.
+    ASKS = "SHOW GLOBAL STATUS LIKE 'Innodb_row_lock_current_waits'", "SHOW NIGBARU STATUS"
 
     def setUp(self):
         super().setUp()
         self.ports = [self.ends.enter_context(mariadb()), self.serve(record=False).port]
         with Client(self.ports[0]) as client:
             self.ok(client, "CREATE DATABASE any")
+
+    def later(self, port, client, text):
+        """Sends a statement, which is seen to wait."""
+        later = Later(client, text)
+        with Client(port) as watcher:
+            asks = self.ASKS[self.ports.index(port)]
+            wait_for(lambda: any(row[0] == b"waits" or row[1:] == (b"1",) for row in watcher.ask(asks).rows)
+                     or not later.waits(), text)
+        self.assertTrue(later.waits(), text)
+        return later
 
     def both(self, name, lines):
         one, other = (self.answers(port, lines) for port in self.ports)
@@ -532,9 +544,7 @@ class BesideMariaDB(Case):
             for line in lines:
                 who, text = line[0], line[2:].strip()
                 if line[1:2] == ">":
-                    later = Later(clients[who], text)
-                    time.sleep(0.5)
-                    self.assertTrue(later.waits(), line)
+                    later = self.later(port, clients[who], text)
                 else:
                     said.append((line, seen(later.answer() if line[1:2] == "<" else clients[who].ask(text))))
             return said
@@ -553,13 +563,11 @@ class BesideMariaDB(Case):
                 self.ok(one, "DROP TABLE IF EXISTS t", *TABLE, "BEGIN", add("a"))
                 self.ok(two, "BEGIN", add("b", 10))
                 number = int(two.ask("SELECT CONNECTION_ID()").rows[0][0])
-                later = Later(two, add("a"))
-                time.sleep(0.5)
+                later = self.later(port, two, add("a"))
                 self.ok(three, f"KILL QUERY {number}")
                 answer = later.answer()
                 said.append([(answer.number, answer.sqlstate), told(two.ask("SELECT n FROM t WHERE k = 'b'"))])
-                later = Later(two, add("a"))
-                time.sleep(0.5)
+                later = self.later(port, two, add("a"))
                 self.ok(three, f"KILL {number}")
                 with self.assertRaises((Closed, ConnectionError)):
                     later.answer()
