@@ -85,8 +85,9 @@ class Network(unittest.TestCase):
             self.assertRaises(OperationalError, Remote(port, user="u", password="other").connect)
 
     def test_a_slow_answer_and_no_server(self):
-        port = self.start(faults="GET 1 stall 60\n")
-        connection = self.connect(port, timeout=0.5)
+        port = self.start(faults="GET 1 stall 600\n")
+        # (long enough to be let in on a machine that does much else)
+        connection = self.connect(port, timeout=3)
         self.assertRaises(OperationalError, connection.get, "k")
         self.assertRaises(OperationalError, connection.get, "k")
         self.assertRaises(OperationalError, Remote(1).connect)
