@@ -11,7 +11,9 @@ from pathlib import Path
 from faults import Fault
 
 # the longest that a server may take to begin or to end, in seconds
-PATIENCE = 60
+PATIENCE = 300
+# how often a server's files are made, where a busy machine refuses it
+TRIES = 3
 
 
 def run(*words, **more):
@@ -74,8 +76,15 @@ class MariaDb(Server):
     def make(self):
         if not shutil.which("mariadb-install-db"):
             raise Fault(f"MariaDB isn't there: apt-get install {' '.join(self.PACKAGES)}")
-        run("mariadb-install-db", "--no-defaults", "--force", f"--user={getpass.getuser()}",
-            f"--datadir={self.folder / 'data'}", "--auth-root-authentication-method=normal", "--skip-test-db")
+        for rest in reversed(range(TRIES)):
+            shutil.rmtree(self.folder / "data", ignore_errors=True)
+            try:
+                return run("mariadb-install-db", "--no-defaults", "--force", f"--user={getpass.getuser()}",
+                           f"--datadir={self.folder / 'data'}", "--auth-root-authentication-method=normal",
+                           "--skip-test-db")
+            except Fault:
+                if not rest:
+                    raise
 
     def command(self):
         return ["mariadbd", "--no-defaults", f"--user={getpass.getuser()}", f"--datadir={self.folder / 'data'}",

@@ -22,7 +22,7 @@ CLOSED = (2006, 2013, 1927, 0)
 # XA_RBROLLBACK: the branch was rolled back
 ROLLED_BACK = 1402
 # the longest that the server's end of a connection is waited for, in seconds
-PATIENCE = 20
+PATIENCE = 120
 
 
 def connect(options, **more):

@@ -44,7 +44,7 @@ MARK, BACK = b"RELEASE SAVEPOINT s; SAVEPOINT s; ", "ROLLBACK TO SAVEPOINT s"
 # milliseconds after which a session that waits looks for a deadlock
 DEADLOCK = 5
 # the longest that the server's end of a connection is waited for, in seconds
-PATIENCE = 20
+PATIENCE = 120
 
 
 def name_of(xid):

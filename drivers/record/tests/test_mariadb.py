@@ -58,7 +58,7 @@ class MariaDb(unittest.TestCase):
                 with self.subTest(path.stem):
                     ran = subprocess.run([*RECORD, "--socket", self.server.socket, *made[1].split(),
                                           *(made[3] or "").split(), ROOT / made[2]], stdout=subprocess.PIPE,
-                                         stderr=subprocess.PIPE, text=True, timeout=60)
+                                         stderr=subprocess.PIPE, text=True, timeout=600)
                     self.assertEqual((ran.stderr, ran.returncode), ("", 0))
                     self.assertEqual(numbers(ran.stdout), numbers(path.read_text()))
 

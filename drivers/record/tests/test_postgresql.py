@@ -102,7 +102,7 @@ class PostgreSql(unittest.TestCase):
 
     def recorded(self, script, *words):
         ran = subprocess.run([*RECORD, "--postgresql", "--socket", self.server.socket, *words, script],
-                             stdout=subprocess.PIPE, stderr=subprocess.PIPE, text=True, timeout=60)
+                             stdout=subprocess.PIPE, stderr=subprocess.PIPE, text=True, timeout=600)
         self.assertEqual((ran.stderr, ran.returncode), ("", 0))
         return numbers(ran.stdout)
 
@@ -149,13 +149,13 @@ class PostgreSql(unittest.TestCase):
     def test_a_lock_that_is_waited_for(self):
         """The row is given back while the other client waits."""
         text = "1 XA START 'a'\n1 PUT 'k','1'\n2 PUT 'k','2'\n1 XA END 'a'\n1 XA COMMIT 'a' ONE PHASE\n2 GET 'k'\n"
-        lines = self.record(text, "--first", "2", "--wait", "10000")
+        lines = self.record(text, "--first", "2", "--wait", "100000")
         self.assertEqual([line for line in lines if line[0] == "2"],
                          ["2 > PUT 'k','2'", "2 < OK", "2 > GET 'k'", "2 < VALUE X'32'"])
         self.assertEqual(self.verdict(lines), "LEGAL")
 
     def test_a_deadlock_is_refused_as_a_lock_that_is_held(self):
-        lines = self.recorded(ROOT / "drivers/record/scripts/crossed.script", "--first", "4", "--wait", "10000")
+        lines = self.recorded(ROOT / "drivers/record/scripts/crossed.script", "--first", "4", "--wait", "100000")
         self.assertEqual(sum(line.endswith("< ERROR 1213") for line in lines), 1)
         self.assertRegex(self.verdict(lines), "ILLEGAL")
         self.assertEqual(self.verdict(lines, "--allow", ALLOW), "LEGAL")

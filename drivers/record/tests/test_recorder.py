@@ -3,7 +3,6 @@ PyMySQL. It needs no server."""
 import os
 import sys
 import tempfile
-import time
 import types
 import unittest
 from pathlib import Path
@@ -21,6 +20,17 @@ class MySQLError(Exception):
     pass
 
 
+class Clock:
+    """The time, which goes on where a driver waits, and nowhere else."""
+    now = 0.0
+
+    def monotonic(self):
+        return self.now
+
+
+CLOCK = Clock()
+
+
 class Cursor:
     def __init__(self, connection):
         self.connection = connection
@@ -34,7 +44,7 @@ class Cursor:
     def execute(self, text):
         told = self.connection.tells(text)
         if isinstance(told, float):
-            time.sleep(told)
+            CLOCK.now += told
         if isinstance(told, tuple):
             raise MySQLError(*told)
 
@@ -63,6 +73,7 @@ class Recorded(unittest.TestCase):
     """A session whose driver tells for each statement an error, or for how long its answer is waited for."""
 
     def session(self, told, timeout=None):
+        self.addCleanup(setattr, mysql, "pymysql", mysql.pymysql)
         mysql.pymysql = types.SimpleNamespace(MySQLError=MySQLError)
         options = types.SimpleNamespace(cut={}, lose={}, timeout=timeout)
         database = types.SimpleNamespace(is_mariadb=True, is_killed=False)
@@ -72,8 +83,9 @@ class Recorded(unittest.TestCase):
 
     def lines(self, told, *statements, timeout=None):
         session = self.session(told, timeout)
-        for statement in statements:
-            session.give(statement)
+        with mock.patch.object(sessions, "time", CLOCK):
+            for statement in statements:
+                session.give(statement)
         return session, session.record.lines
 
     def test_an_answer_and_a_refusal_are_returns(self):
@@ -94,21 +106,22 @@ class Recorded(unittest.TestCase):
         self.assertTrue(session.lost)
 
     def test_a_late_answer_is_not_looked_at_and_the_session_goes_on(self):
-        for told in (0.05, None):
+        for told in (5.5, 5.0, None):
             with self.subTest(told=told):
-                session, lines = self.lines({b"XA END 'a'": told}, b"XA END 'a'", b"XA PREPARE 'a'", timeout=0.02)
-                answer = b"3 < OK" if told is None else b"3 ? ERROR no answer within 0.02 seconds"
+                session, lines = self.lines({b"XA END 'a'": told}, b"XA END 'a'", b"XA PREPARE 'a'", timeout=5)
+                answer = b"3 ? ERROR no answer within 5 seconds" if told == 5.5 else b"3 < OK"
                 self.assertEqual(lines, [b"3 > XA END 'a'", answer, b"3 > XA PREPARE 'a'", b"3 < OK"])
                 self.assertFalse(session.lost)
 
     def test_a_late_answer_is_looked_at_without_a_time_out(self):
-        self.assertEqual(self.lines({b"XA END 'a'": 0.03}, b"XA END 'a'")[1], [b"3 > XA END 'a'", b"3 < OK"])
+        self.assertEqual(self.lines({b"XA END 'a'": 600.0}, b"XA END 'a'")[1], [b"3 > XA END 'a'", b"3 < OK"])
 
 
 class Scripts(unittest.TestCase):
     """What is said of a script, by a recorder without a server."""
 
     def said(self, text, any_text=False, program=os.environ["XA_SCRIPT"]):
+        self.addCleanup(setattr, mysql, "pymysql", mysql.pymysql)
         mysql.pymysql = types.SimpleNamespace(MySQLError=MySQLError)
         with tempfile.TemporaryDirectory() as folder, mock.patch.dict(os.environ, NIGBARU_PROGRAM=str(program)), \
                 mock.patch.object(mysql, "connect", side_effect=MySQLError("none")):
