@@ -7,7 +7,7 @@ from dataclasses import dataclass
 HOLD = 600  # seconds that a statement is held while its manager is killed
 # Seconds that a statement is held while somebody else rolls its branch back. If that came too late, the next is tried.
 PAUSES = (1.5, 6, 24)
-OUTAGE = 0.3  # seconds that a store is away while it is restarted
+OUTAGE = 2  # seconds that a store is away while it is restarted: far longer than until a manager tries again at once
 
 LOST, UNANSWERED, KILLED_BEFORE, KILLED_AFTER, ROLLED_BACK, RESTARTED = (
     "lost on its way", "answer lost", "manager killed before", "manager killed after", "branch rolled back",

@@ -10,7 +10,7 @@ from pathlib import Path
 from .points import HELD
 
 LISTENS = re.compile(r"store (\d+) listens on .*:(\d+)")
-PATIENCE = 30.0  # seconds for a server to start, and to end
+PATIENCE = 120.0  # seconds for a server to start, and to end
 
 
 class Broken(Exception):

@@ -199,8 +199,8 @@ class Trial:
 
     def _command(self, command: str, work: Path, name: str, point: Point | None) -> None:
         """Runs a command to its end, or until its point is reached that kills it."""
-        process = COMMANDS.start(command, work, self.environment, name)
         seen = self.server.held
+        process = COMMANDS.start(command, work, self.environment, name)
         deadline = time.monotonic() + self.setup.limit
         waits = point is not None and point.action in (*KILLS, ROLLED_BACK)
         try:
@@ -240,7 +240,7 @@ class Trial:
         """How many branches of the manager are prepared in each store. A store that is away is waited for."""
         found = []
         for port in self.server.ports:
-            deadline = time.monotonic() + 10
+            deadline = time.monotonic() + 60
             while True:
                 try:
                     with Client(port) as client:

@@ -11,6 +11,7 @@ BENCH = FOLDER / "bench"
 PROGRAM = os.environ["XA_SCRIPT"]
 PYTHON = "/usr/bin/python3"
 JOBS = os.environ.get("JOBS", str(min(len(os.sched_getaffinity(0)), 4)))
+LIMIT = "600"  # seconds for a run: many run side by side, and one of Java has taken minutes to begin
 IS_LONG = os.environ.get("LONG") == "1"
 
 
@@ -25,7 +26,8 @@ def bench(*words, status=None):
     with tempfile.TemporaryDirectory() as folder:
         report = Path(folder) / "report.json"
         server = ["--server", os.environ["SERVER"]] if os.environ.get("SERVER") else []
-        ran = subprocess.run([PYTHON, BENCH, "--program", PROGRAM, "--jobs", JOBS, "--json", report, *server, *words],
+        ran = subprocess.run([PYTHON, BENCH, "--program", PROGRAM, "--jobs", JOBS, "--limit", LIMIT, "--json", report,
+                              *server, *words],
                              stdout=subprocess.PIPE, stderr=subprocess.STDOUT, text=True, timeout=3_000)
         if status is not None and ran.returncode != status:
             raise AssertionError(f"status {ran.returncode}, and not {status}:\n{ran.stdout}")
