@@ -105,6 +105,18 @@ class Browser:
         except NoSuchElementException:
             return False
 
+    # texts that are shown for a while
+
+    def listen(self, css):
+        """From now on each text is kept that an element is given, since one may be gone before it is asked for."""
+        self.run("""window.heard = [];
+            new MutationObserver((all) => window.heard.push(...all.flatMap((it) => [...it.addedNodes])
+                .map((it) => it.textContent))).observe(document.querySelector(arguments[0]), { childList: true });""",
+                 css)
+
+    def heard(self):
+        return self.run("return window.heard")
+
     # a keyboard
 
     def press(self, *keys):

@@ -17,6 +17,7 @@ ROOT = PAGE.parents[1]
 PROGRAM = Path(os.environ["XA_SCRIPT"])
 # MiB for each child, or unlimited where the program has an address sanitizer
 MEMORY = os.environ.get("XA_SCRIPT_MEMORY", "1024")
+PATIENCE = 120  # seconds: a machine may be busy with other work
 PICTURES = Path(os.environ.get("PAGE_PICTURES", PAGE / "out"))
 sys.path.insert(0, str(PAGE))
 
@@ -50,7 +51,7 @@ class Page:
 
     def end(self):
         self.process.terminate()
-        self.process.wait(20)
+        self.process.wait(PATIENCE)
         self.process.stdout.close()
 
     def __enter__(self):
@@ -142,8 +143,8 @@ def alive(pid):
         return False
 
 
-def wait_for(holds, seconds=30):
-    deadline = time.monotonic() + seconds
+def wait_for(holds):
+    deadline = time.monotonic() + PATIENCE
     while not holds():
         if time.monotonic() > deadline:
             raise AssertionError("it didn't come")

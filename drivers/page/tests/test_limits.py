@@ -4,7 +4,6 @@ import os
 import signal
 import socket
 import threading
-import time
 import unittest
 
 from support import MEMORY, Page, alive, ask, children_of, own, room, send, show, standing_in, wait_for
@@ -69,20 +68,21 @@ class HowMuch(unittest.TestCase):
         self.assertEqual(self.started(), [], "all ended with the page")
 
     def test_where_all_children_work_a_further_one_is_refused(self):
-        with standing_in("exec sleep 30") as program, room(program, children=2, answer_seconds=5) as served:
+        with standing_in("exec sleep 600") as program, room(program, children=2, answer_seconds=600) as served:
             asking = [threading.Thread(target=show, args=(served.server_port, f"talk {at}", PUT)) for at in range(2)]
             for thread in asking:
                 thread.start()
             wait_for(lambda: served.pool.count() == 2)
-            time.sleep(0.3)
             status, got = show(served.server_port, "a third", PUT)
             self.assertEqual(status, 503)
             self.assertIn("2 children are at work", got)
+            for child in self.started():
+                os.kill(child, signal.SIGKILL)
             for thread in asking:
                 thread.join()
 
     def test_an_idle_child_is_ended_and_the_talk_goes_on(self):
-        with room(idle_seconds=2) as served:
+        with room(idle_seconds=5) as served:
             show(served.server_port, "a", PUT)
             self.assertEqual(served.pool.count(), 1)
             wait_for(lambda: served.pool.count() == 0)
@@ -169,7 +169,6 @@ class HowMuch(unittest.TestCase):
     def test_too_many_connections_are_closed(self):
         with room(connections=2) as served:
             held = [socket.create_connection(("127.0.0.1", served.server_port)) for _ in range(2)]
-            time.sleep(0.3)
             with socket.create_connection(("127.0.0.1", served.server_port), timeout=20) as third:
                 self.assertEqual(third.recv(1), b"")
             for connection in held:

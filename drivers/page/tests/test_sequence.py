@@ -238,7 +238,7 @@ class Files(unittest.TestCase):
         with room(probe_seconds=0) as served:
             status, got = ask(served.server_port, "sequence", {"lines": lines})
             self.assertEqual((status, got["whole"]), (200, False))
-        with room() as served:
+        with room(probe_seconds=60) as served:
             status, got = ask(served.server_port, "sequence", {"lines": lines})
             self.assertEqual((status, got["whole"]), (200, True))
             for bad in ({"lines": lines, "at": 99}, {"lines": lines, "width": 1}, {"lines": lines, "size": True},
@@ -248,7 +248,7 @@ class Files(unittest.TestCase):
     def test_in_a_quiz_a_remark_is_kept_back_until_its_call_is_answered(self):
         lines = ["# one", "BEGIN", "# two", "", "# three", "ABANDON 1", "# four", "BEGIN", "# five"]
         remarks = ["one", "two", "three", "four", "five"]
-        with room() as served:
+        with room(probe_seconds=60) as served:
             # by how many lines were given, how many remarks stand above what is answered; at the end all are told
             for at, told in ((0, 0), (1, 0), (2, 1), (3, 1), (5, 1), (6, 3), (7, 3), (8, 5), (9, 5)):
                 for quiz, asked in ((True, False), (True, True), (False, False)):

@@ -123,11 +123,16 @@ class Watched(View):
         self.open()
         self.until(lambda: self.texts("#server article"), "branches are shown")
         self.browser.run("location.hash = '#judge'")
-        time.sleep(2.5)
         asked = "return performance.getEntriesByType('resource').filter((it) => it.name.endsWith('/api/server')).length"
+
+        def is_asked_no_more():
+            """While it is asked, it is each second. (What was asked before may still be answered.)"""
+            before = self.browser.run(asked)
+            time.sleep(2.5)
+            return self.browser.run(asked) == before
+
+        self.until(is_asked_no_more, "nothing is asked")
         before = self.browser.run(asked)
-        time.sleep(2.5)
-        self.assertEqual(self.browser.run(asked), before)
         self.browser.run("location.hash = '#server'")
         self.until(lambda: self.browser.run(asked) > before, "it is asked again")
 

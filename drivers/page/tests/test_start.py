@@ -141,8 +141,9 @@ class Opened(unittest.TestCase):
 
     def copied(self, browser):
         """What the button puts into the clipboard."""
+        browser.listen("#copy-link")
         browser.push("#copy-link")
-        browser.until(lambda: browser.text("#copy-link") == "Copied", "the link is copied")
+        browser.until(lambda: "Copied" in browser.heard(), "the link is copied")
         browser.replace('#entry input[name="1"]', "")
         browser.chord(Keys.CONTROL, "v")
         return browser.one('#entry input[name="1"]').get_property("value")
