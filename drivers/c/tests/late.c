@@ -6,14 +6,16 @@
    nothing that it needs is overwritten yet, and reads a row in the same way: the control. So it goes TRIES times, or
    until SECONDS have gone by. A `GET` outside of a branch adds nothing, so it can't be overtaken: it is answered, or the
    session is behind, and tries again. On a busy machine it may lose its processor in the middle of a try, and be behind
-   for that reason. So with 50 tries or more the test fails if that comes more often than in the control, by more than
-   one try in fifty and one besides. With fewer it only prints how often it came. It fails, too, if a read takes 30
-   seconds.
+   for that reason, as the system counts it: such a try says nothing. With 50 others or more the test fails if they are
+   behind more often than those of the control, by more than one in fifty and one besides. With fewer it only prints how
+   often they were. It fails, too, if a read takes 30 seconds.
 
    No call of nigbaru.h says how many entries were replayed for an answer, so they are counted by what they allocate. A
    branch of one `PUT` that is replayed takes one block for the value. A copy of a checkpoint shares values, and takes
    none. How large such a block is, is found at first: a known number of branches is replayed. So the counts are exact
    but for some entries of branches that are replayed in part. The test is linked with --wrap for malloc. */
+#define _GNU_SOURCE /* for RUSAGE_THREAD */
+
 #include "nigbaru.h"
 
 #include "check.h"
@@ -21,6 +23,7 @@
 #include <pthread.h>
 #include <sched.h>
 #include <stdatomic.h>
+#include <sys/resource.h>
 #include <time.h>
 
 #define WORKERS 15
@@ -31,7 +34,7 @@
 #define SIZES 512 /* blocks are counted up to this size */
 #define KINDS 2
 #define SLOWEST 30000000 /* microseconds */
-#define JUDGED 50 /* tries, from which on it is judged how many were behind */
+#define JUDGED 50 /* tries that say something, from which on it is judged how many were behind */
 
 struct worker {
   pthread_t thread;
@@ -45,6 +48,7 @@ struct worker {
 static struct found {
   const char *name;
   int behind; /* at the first try */
+  int lost; /* behind, since it lost its processor */
   unsigned long *replayed, *times; /* branches, about; microseconds */
 } kinds[KINDS] = {{.name = "late"}, {.name = "control"}};
 
@@ -129,13 +133,24 @@ static void open_store(void) {
   }
 }
 
-/* Reads a row, and returns whether the first try was answered. */
-static int reads(unsigned long *replayed, unsigned long *time) {
+/* How often this thread had to make room for another. */
+static long losses(void) {
+  struct rusage used;
+  SAME(getrusage(RUSAGE_THREAD, &used), 0);
+  return used.ru_nivcsw;
+}
+
+/* How the first try of a read ended. */
+enum first { ANSWERED, BEHIND, LOST };
+
+/* Reads a row. */
+static enum first reads(unsigned long *replayed, unsigned long *time) {
   struct worker *it = &workers[LATE];
   nigbaru_answer answer;
+  long lost = losses();
   unsigned long begun = now(), before = blocks[block];
   uint32_t status = nigbaru_attempt(&it->session, "GET 'row0000000'", 16, &answer, NULL, 0);
-  int is_first = status == NIGBARU_VALUE;
+  enum first first = status == NIGBARU_VALUE ? ANSWERED : losses() == lost ? BEHIND : LOST;
   while (status == NIGBARU_BEHIND) {
     CHECK(now() - begun < SLOWEST);
     sched_yield();
@@ -144,7 +159,7 @@ static int reads(unsigned long *replayed, unsigned long *time) {
   *time = now() - begun;
   *replayed = blocks[block] - before;
   ends_unless(status == NIGBARU_VALUE, it, "GET", status);
-  return is_first;
+  return first;
 }
 
 /* Finds the size of the block that each replayed branch takes: the one of which there are `KNOWN` most often. */
@@ -181,10 +196,11 @@ static void tell(struct found *it, int tries) {
   qsort(it->replayed, (size_t)tries, sizeof *it->replayed, in_order);
   qsort(it->times, (size_t)tries, sizeof *it->times, in_order);
   int last = tries - 1, most = last - tries / 100;
-  printf("%s: %d of %d answered at the first try; entries replayed: middle %lu, 99 of 100 at most %lu, most %lu; "
-         "microseconds: %lu, %lu, %lu\n",
-         it->name, tries - it->behind, tries, TEXTS * it->replayed[tries / 2], TEXTS * it->replayed[most],
-         TEXTS * it->replayed[last], it->times[tries / 2], it->times[most], it->times[last]);
+  printf("%s: %d of %d answered at the first try, %d behind since they lost their processor; entries replayed: "
+         "middle %lu, 99 of 100 at most %lu, most %lu; microseconds: %lu, %lu, %lu\n",
+         it->name, tries - it->behind - it->lost, tries, it->lost, TEXTS * it->replayed[tries / 2],
+         TEXTS * it->replayed[most], TEXTS * it->replayed[last], it->times[tries / 2], it->times[most],
+         it->times[last]);
 }
 
 /* Returns how many tries there were. */
@@ -195,7 +211,9 @@ static int try_each(int tries, unsigned long rounds, unsigned long seconds) {
     for (int kind = 0; kind < KINDS; kind++) {
       struct found *it = &kinds[kind];
       sleep_until(atomic_load(&length) + (kind == 0 ? rounds * ring : ring / 2));
-      it->behind += !reads(&it->replayed[turn], &it->times[turn]);
+      enum first first = reads(&it->replayed[turn], &it->times[turn]);
+      it->behind += first == BEHIND;
+      it->lost += first == LOST;
     }
   }
   return turn;
@@ -231,5 +249,6 @@ int main(int count, char **words) {
   }
   for (int index = 0; index <= WORKERS; index++)
     SAME(nigbaru_leave(&workers[index].session), NIGBARU_OK);
-  return tries >= JUDGED && kinds[0].behind > kinds[1].behind + 1 + tries / 50;
+  int judged = tries - kinds[0].lost;
+  return judged >= JUDGED && kinds[0].behind > kinds[1].behind + 1 + judged / 50;
 }
