@@ -9,7 +9,7 @@ use crate::login;
 use crate::packets::status;
 use crate::pool::{Lent, Need};
 use crate::sql;
-use crate::statements::{self, canonical, Kind, Shape, Statement};
+use crate::statements::{self, canonical, write_literal, Kind, Shape, Statement};
 use crate::status::table_of;
 use crate::store::{lock, Connection, Prepared, Store};
 use crate::variables::Variables;
@@ -79,6 +79,8 @@ pub struct Guest {
     turn: Option<Turn>,
     /// Whether nothing is lost if the branch, or what there is in its place, is given up that tries to have a row.
     is_fresh: bool,
+    /// What the store wasn't asked, since others wait for its row, for the record.
+    unasked: Option<Vec<u8>>,
     /// The identifier of the client's branch that was rolled back.
     rolled_back: Option<Vec<u8>>,
 }
@@ -102,6 +104,7 @@ impl Guest {
             savepoints: Vec::new(),
             turn: None,
             is_fresh: false,
+            unasked: None,
             rolled_back: None,
         }
     }
@@ -260,6 +263,7 @@ impl Guest {
             self.access = None;
         }
         self.turn = None;
+        self.end_call();
         if !matches!(self.state, State::Active | State::Idle) && self.own.is_none() {
             self.give_back();
         }
@@ -319,19 +323,9 @@ impl Guest {
         }
     }
 
-    /// Asks for a row, and keeps what undoes that behind a savepoint.
-    fn change_row(&mut self, it: &Statement) -> Result<Answer, End> {
-        if self.savepoints.is_empty() || it.kind == Kind::Get || !self.is_within() {
-            return self.ask_for_row(it);
-        }
-        if let refused @ Answer::Refused(_) = self.remember(it)? {
-            return Ok(refused);
-        }
-        let answer = self.ask_for_row(it)?;
-        if !answer.is_ok() {
-            self.undo.pop();
-        }
-        Ok(answer)
+    /// Whether what undoes a statement for a row is to be kept: behind a savepoint that of a PUT or DEL.
+    fn keeps_undo(&self, it: &Statement) -> bool {
+        !self.savepoints.is_empty() && it.kind != Kind::Get && self.is_within()
     }
 
     fn ask_for_row(&mut self, it: &Statement) -> Result<Answer, End> {
@@ -573,9 +567,16 @@ impl Guest {
 
     fn ask_in_turn(&mut self, it: &Statement) -> Result<Answer, End> {
         if self.is_within() && self.would_pass(it) {
-            return Ok(refusal(3572).into());
+            return Ok(self.leave_unasked(it));
         }
         self.ask_for_row(it)
+    }
+
+    /// Whether the branch holds a row exclusively.
+    pub fn holds(&self, key: &[u8]) -> bool {
+        let mut subject = Vec::new();
+        write_literal(&mut subject, key);
+        lock(&self.connection.look).rows.get(&subject) == Some(&true)
     }
 
     /// Writes a row in a branch, or deletes it, and keeps what undoes that: the value that it has now.
@@ -609,11 +610,11 @@ impl Guest {
         Ok(())
     }
 
-    /// Keeps what undoes a PUT or DEL of the client's behind a savepoint. The refusal where the row is locked.
-    fn remember(&mut self, it: &Statement) -> Result<Answer, End> {
-        let key = it.key();
-        let answer = self.ask_for_row(&statements::of_row(Kind::Get, &key, b""))?;
+    /// Keeps what undoes a PUT or DEL of the client's: what a GET of its row answers. The refusal if the row is locked.
+    fn remember(&mut self, get: &Statement) -> Result<Answer, End> {
+        let answer = self.ask_for_row(get)?;
         if let Answer::Table(table) = &answer {
+            let key = get.key();
             self.undo.push(match table.value() {
                 Some(value) => statements::of_row(Kind::Put, &key, value),
                 None => statements::of_row(Kind::Del, &key, b""),

@@ -6,11 +6,12 @@ use crate::pool::Lent;
 use crate::statements::write_literal;
 use crate::stop::Stop;
 use nigbaru::{Error, Reply, Statement};
+use std::collections::BTreeMap;
 use std::fs::{self, File};
 use std::io::{self, BufWriter, Write};
 use std::path::{Path, PathBuf};
 use std::sync::atomic::{AtomicBool, Ordering};
-use std::sync::{Arc, Mutex, MutexGuard, RwLock};
+use std::sync::{Arc, Mutex, MutexGuard, RwLock, RwLockReadGuard};
 
 /// How a record goes on in pieces.
 struct Pieces {
@@ -19,22 +20,38 @@ struct Pieces {
     mirror: Arc<Mutex<Mirror>>,
 }
 
-/// The file that is written, as which piece of the record, and how many bytes it has.
+/// The file that is written, as which piece of the record, how many bytes it has, and the call that each session has
+/// open in it.
 struct Piece {
     file: File,
     number: u64,
     length: u64,
+    open: BTreeMap<u64, Call>,
+}
+
+/// A call that is open, and whether the store was asked since it is and has refused the row. Then its statement may
+/// wait, and the store is asked again in the same call.
+struct Call {
+    text: Vec<u8>,
+    is_refused: bool,
+}
+
+impl Piece {
+    fn create(path: &Path, number: u64) -> io::Result<Piece> {
+        Ok(Piece { file: File::create(path)?, number, length: 0, open: BTreeMap::new() })
+    }
 }
 
 /// Calls and returns in the order in which they happened: each is written under the lock, a call before the store is
 /// asked, a return after it has answered. So two calls overlap in the record if and only if they did, as the threads
-/// saw it.
+/// saw it. The refusal of a row is returned when its statement asks no more for it.
 pub struct Record {
     path: PathBuf,
     piece: Mutex<Piece>,
     pieces: Option<Pieces>,
     is_full: AtomicBool,
-    /// Shared by all whose call is open, and taken alone to begin a piece: so no call is open then.
+    /// Shared by all who write or ask the store, and taken alone to begin a piece: the calls that are open then are of
+    /// statements that wait.
     gate: RwLock<()>,
     stop: Arc<Stop>,
     store: usize,
@@ -46,6 +63,9 @@ fn behind(path: &Path, more: &str) -> PathBuf {
     name.push(more);
     PathBuf::from(name)
 }
+
+/// The refusal of a row.
+const HELD: u32 = 3572;
 
 fn locked<T>(mutex: &Mutex<T>) -> MutexGuard<'_, T> {
     mutex.lock().unwrap_or_else(|poisoned| poisoned.into_inner())
@@ -62,7 +82,7 @@ impl Record {
         }
         Ok(Record {
             path: path.to_path_buf(),
-            piece: Mutex::new(Piece { file: File::create(path)?, number: 0, length: 0 }),
+            piece: Mutex::new(Piece::create(path, 0)?),
             pieces: size.map(|size| Pieces { size, mirror: Arc::default() }),
             is_full: AtomicBool::new(false),
             gate: RwLock::new(()),
@@ -77,7 +97,8 @@ impl Record {
         Some(Box::new(move |session, text| locked(&mirror).apply(session, text)))
     }
 
-    /// Asks the store, and writes call and return with the statement's canonical text.
+    /// Asks the store, and writes call and return with the statement's canonical text. A refusal of the row stays open
+    /// for who asks the same again, until `end`.
     pub fn ask(
         &self,
         session: &mut Lent,
@@ -89,11 +110,27 @@ impl Record {
         if self.is_full.load(Ordering::Relaxed) {
             self.go_on(follower);
         }
-        let _open = self.gate.read().unwrap_or_else(|poisoned| poisoned.into_inner());
-        self.call(session.number, text);
+        let _open = self.gate();
+        self.call(&mut locked(&self.piece), session.number, text);
         let reply = session.ask(asked);
-        self.returned(session.number, &reply, state);
+        self.replied(&mut locked(&self.piece), session.number, &reply, state);
         reply
+    }
+
+    /// A statement waits to ask the store, since others wait for its row: its call is open from now on.
+    pub fn wait(&self, session: u64, text: &[u8]) {
+        let _open = self.gate();
+        self.call(&mut locked(&self.piece), session, text);
+    }
+
+    /// A statement asks no more for its row: its call is returned, if it is open.
+    pub fn end(&self, session: u64) {
+        let _open = self.gate();
+        self.end_in(&mut locked(&self.piece), session);
+    }
+
+    fn gate(&self) -> RwLockReadGuard<'_, ()> {
+        self.gate.read().unwrap_or_else(|poisoned| poisoned.into_inner())
     }
 
     /// Begins the next piece, unless somebody else has: its state is what all entries of the history until now lead to.
@@ -112,39 +149,64 @@ impl Record {
         }
     }
 
+    /// Calls of statements that wait are returned first: those are new calls when they ask again.
     fn begin_piece(&self, state: &[u8]) -> io::Result<()> {
         let mut piece = locked(&self.piece);
+        let waiting: Vec<u64> = piece.open.keys().copied().collect();
+        waiting.into_iter().for_each(|session| self.end_in(&mut piece, session));
         let number = piece.number + 1;
         let path = behind(&self.path, &format!(".{}", number));
         fs::write(behind(&path, ".state"), state)?;
-        *piece = Piece { file: File::create(path)?, number, length: 0 };
+        *piece = Piece::create(&path, number)?;
         self.is_full.store(false, Ordering::Relaxed);
         Ok(())
     }
 
-    fn call(&self, session: u64, text: &[u8]) {
-        self.write(&[session.to_string().as_bytes(), b" > ", text, b"\n"].concat());
+    /// Writes a call, unless it is open.
+    fn call(&self, piece: &mut Piece, session: u64, text: &[u8]) {
+        if piece.open.get(&session).map_or(false, |it| it.text == text) {
+            return;
+        }
+        self.end_in(piece, session);
+        self.write(piece, &[session.to_string().as_bytes(), b" > ", text, b"\n"].concat());
+        piece.open.insert(session, Call { text: text.to_vec(), is_refused: false });
     }
 
-    fn returned(&self, session: u64, reply: &Result<Reply, Error>, state: &str) {
+    fn replied(&self, piece: &mut Piece, session: u64, reply: &Result<Reply, Error>, state: &str) {
+        if let (Err(Error::Refused(HELD)), Some(call)) = (reply, piece.open.get_mut(&session)) {
+            call.is_refused = true;
+            return;
+        }
         let mut text = session.to_string().into_bytes();
         write_reply(&mut text, reply, state);
-        self.write(&text);
+        piece.open.remove(&session);
+        self.write(piece, &text);
+    }
+
+    /// Returns a call that is open with what the store has said of it: the row's refusal, or nothing if it wasn't
+    /// asked.
+    fn end_in(&self, piece: &mut Piece, session: u64) {
+        if let Some(call) = piece.open.remove(&session) {
+            let said =
+                if call.is_refused { format!("< ERROR {}", HELD) } else { "? ERROR it had no turn".to_string() };
+            self.write(piece, format!("{} {}\n", session, said).as_bytes());
+        }
     }
 
     /// An answer that the store didn't give.
     pub fn wrong(&self, session: u64, text: &[u8], number: u16, sqlstate: &str, why: &str) {
-        let call = [session.to_string().as_bytes(), b" > ", text, b"\n"].concat();
-        self.write(&[&call, format!("{} < ERROR {} ({}): {}\n", session, number, sqlstate, why).as_bytes()].concat());
+        let mut piece = locked(&self.piece);
+        self.call(&mut piece, session, text);
+        piece.open.remove(&session);
+        self.write(&mut piece, format!("{} < ERROR {} ({}): {}\n", session, number, sqlstate, why).as_bytes());
     }
 
     /// A comment.
     pub fn note(&self, text: &str) {
-        self.write(format!("# {}\n", text).as_bytes());
+        self.write(&mut locked(&self.piece), format!("# {}\n", text).as_bytes());
     }
 
-    fn write(&self, text: &[u8]) {
-        let mut piece = locked(&self.piece);
+    fn write(&self, piece: &mut Piece, text: &[u8]) {
         if let Err(fault) = piece.file.write_all(text) {
             self.fail(&fault);
         }

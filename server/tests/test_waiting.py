@@ -1,10 +1,12 @@
 """Waiting for rows: who has them next, time-outs, deadlocks, and what ends a wait; some of it beside MariaDB."""
 import contextlib
+import re
 import threading
 import time
 import unittest
 
 from mariadb import mariadb
+from pieces import pieces_of, verdicts
 from support import Case, wait_for
 from wire import Client, Closed
 
@@ -466,6 +468,184 @@ class Plain(Waits):
         self.assertLess(time.monotonic() - began, 10)
         self.assertEqual(said, "row locked by another branch: 'k' is held by 'g','',1 (ACTIVE, connection 1); "
                          "roll back, or send it again when that has ended")
+
+
+GET_A, STRIPE = "GET 0x742f61", re.compile("DEL 0x2f742f..$")
+
+
+def calls(path, about):
+    """Of each call in a record that a pattern finds, what it has returned: `<` or `?` and the words behind; None if it
+    is open."""
+    found, session_of = [], {}
+    for line in path.read_text().splitlines():
+        session, sign, words = line.split(" ", 2)
+        if sign == ">" and re.search(about, words):
+            session_of[session] = len(found)
+            found.append(None)
+        elif sign in "<?" and session in session_of:
+            found[session_of.pop(session)] = f"{sign} {words}"
+        elif sign == ">":
+            session_of.pop(session, None)
+    return found
+
+
+class Recorded(Waits):
+    """A wait in the record."""
+
+    def setUp(self):
+        super().setUp()
+        self.ok(self.one, "XA START 'g'", add("a"))
+        self.before = len(calls(self.server.record, GET_A))
+
+    def waits_of(self, about=GET_A):
+        return calls(self.server.record, about)[self.before if about == GET_A else 0:]
+
+    def comes(self, *expected, since=0, about=GET_A):
+        """A statement that waits is listed before its call is written."""
+        wait_for(lambda: self.waits_of(about)[since:] == list(expected), f"{expected} in {self.waits_of(about)}", 20)
+
+    def commit(self):
+        self.ok(self.one, "XA END 'g'", "XA COMMIT 'g' ONE PHASE")
+
+    def test_a_wait_is_one_call(self):
+        """From the statement to its answer, also of one that waits behind another, and isn't asked before."""
+        self.ok(self.two, "XA START 'h'")
+        self.ok(self.three, "BEGIN", add("b"))
+        laters = [self.later(self.two, add("a")), self.later(self.three, add("a"))]
+        self.comes(None, None)
+        self.commit()
+        self.done(laters[0])
+        first, second = self.waits_of()
+        self.assertRegex(first, "^< VALUE")
+        self.assertIsNone(second)
+        self.ok(self.two, "XA END 'h'", "XA ROLLBACK 'h'")
+        self.done(laters[1])
+        self.assertRegex(self.waits_of()[1], "^< VALUE")
+        self.assertEqual(len(self.waits_of()), 2)
+
+    def test_a_row_that_is_shared_already(self):
+        """Its writer asks no more for what it has: neither for its value, nor for the key's place."""
+        self.commit()
+        self.ok(self.one, "BEGIN")
+        self.one.ask("SELECT * FROM t WHERE k = 'a'")
+        self.ok(self.two, "BEGIN", add("b"))
+        later = self.later(self.two, add("a"))
+        self.comes("< OK", "< OK", None, about="PUT 0x742f61")
+        self.ok(self.one, "COMMIT")
+        self.done(later)
+        self.assertEqual(len(self.waits_of()), 2)
+        self.assertEqual(self.waits_of("PUT 0x742f61"), ["< OK"] * 3)
+        self.ok(self.one, "BEGIN")
+        self.one.ask("SELECT * FROM t WHERE k = 'none'")
+        later = self.later(self.two, "INSERT INTO t VALUES ('none', 1)")
+        self.ok(self.one, "COMMIT")
+        places = self.waits_of(STRIPE)
+        self.done(later)
+        self.assertEqual(self.waits_of(STRIPE), places)
+        self.assertEqual(calls(self.server.record, "PUT 0x742f6e6f6e65"), ["< OK"])
+
+    def test_a_place_for_a_new_key(self):
+        self.commit()
+        self.ok(self.two, "BEGIN", "PUT 'own','x'")
+        self.ok(self.three, "BEGIN")
+        self.three.ask("SELECT COUNT(*) FROM t")
+        before = len(self.waits_of(STRIPE))
+        later = self.later(self.two, "INSERT INTO t VALUES ('new', 1)")
+        self.comes(None, since=before, about=STRIPE)
+        self.ok(self.three, "COMMIT")
+        self.done(later)
+        self.assertEqual(self.waits_of(STRIPE)[before:], ["< OK"])
+        self.assertEqual(calls(self.server.record, "GET 0x742f6e6577"), ["< NONE"])
+
+    def test_one_that_ends_without_its_row(self):
+        """Is returned as the store has answered it; one that had no turn is returned without an answer."""
+        self.ok(self.two, "SET innodb_lock_wait_timeout = 1", "XA START 'h'")
+        self.late(self.two, add("a"), 1)
+        self.assertEqual(self.waits_of(), ["< ERROR 3572"])
+        self.ok(self.three, "XA START 'i'")
+        later = self.later(self.three, add("a"))
+        self.late(self.two, add("a"), 1)
+        self.comes(None, "? ERROR it had no turn", since=1)
+        self.commit()
+        self.done(later)
+
+    def test_one_that_gives_its_session_back(self):
+        """It is refused and given up with its branch, and begins anew when it has its turn."""
+        for text in ((), ("BEGIN",)):
+            before = len(self.waits_of())
+            self.ok(self.two, *text)
+            later = self.later(self.two, add("a"))
+            self.comes("< ERROR 3572", since=before)
+            self.commit()
+            self.done(later)
+            self.assertRegex(self.waits_of()[-1], "^< VALUE")
+            self.assertEqual(len(self.waits_of()), before + 2)
+            self.ok(self.two, "COMMIT")
+            self.ok(self.one, "XA START 'g'", add("a"))
+        self.commit()
+
+    def test_many_calls_at_once(self):
+        """Of branches that wait for one row, which each of them changes."""
+        self.ok(self.one, "XA END 'g'", "XA PREPARE 'g'")
+        clients = [self.client(self.server) for _ in range(14)]
+        for number, client in enumerate(clients):
+            self.ok(client, f"XA START 'x{number}'")
+        laters = [self.later(client, add("a")) for client in clients]
+        self.comes(*[None] * 14)
+        self.ok(self.watcher, "XA COMMIT 'g'")
+        for number, later in enumerate(laters):
+            self.done(later)
+            self.ok(later.client, f"XA END 'x{number}'", f"XA COMMIT 'x{number}' ONE PHASE")
+        self.assertEqual(len(self.waits_of()), 14)
+
+
+class RecordedRows(Waits):
+    WORDS = ("--lock-wait", "600")
+
+    def test_behind_a_savepoint_a_wait_is_one_call(self):
+        """What undoes the change is read once, by a call that waits."""
+        self.ok(self.one, "XA START 'g'", "PUT 'k','v'")
+        self.ok(self.two, "XA START 'h'", "PUT 'j','w'", "SAVEPOINT s")
+        later = self.later(self.two, "PUT 'k','w'")
+        self.ok(self.watcher, "KILL QUERY 2")
+        self.assertEqual(later.answer().number, 1317)
+        self.ok(self.two, "PUT 'l','w'")
+        later = self.later(self.two, "PUT 'k','w'")
+        self.assertEqual(calls(self.server.record, "GET 0x6b$"), ["< ERROR 3572", None])
+        self.ok(self.one, "XA END 'g'", "XA COMMIT 'g' ONE PHASE")
+        self.done(later)
+        self.assertEqual(calls(self.server.record, "GET 0x6b$"), ["< ERROR 3572", "< VALUE 0x76"])
+        self.assertEqual(calls(self.server.record, "PUT 0x6b,"), ["< OK", "< OK"])
+        self.ok(self.two, "ROLLBACK TO s", "XA END 'h'", "XA COMMIT 'h' ONE PHASE")
+        self.assertEqual([self.value(self.one, key) for key in "jkl"], [b"w", b"v", None])
+
+
+class PiecesOfWaits(Waits):
+    WORDS = ("--record-size", "4096")
+
+    def test_a_piece_ends_while_statements_wait(self):
+        """Each is returned in it, and is a new call in the piece in which the store is asked again."""
+        self.ok(self.one, "XA START 'g'", add("a"))
+        self.ok(self.two, "XA START 'h'")
+        self.ok(self.three, "XA START 'i'")
+        laters = [self.later(self.two, add("a")), self.later(self.three, add("a"))]
+        begun = len(pieces_of(self.server.record))
+        path = pieces_of(self.server.record)[-1] if begun else self.server.record
+        wait_for(lambda: calls(path, GET_A)[-2:] == [None, None], "both calls are written", 20)
+        while len(pieces_of(self.server.record)) < begun + 3:
+            self.ok(self.watcher, "PUT 'fill','x'")
+        self.assertEqual(calls(path, GET_A)[-2:], ["< ERROR 3572", "? ERROR it had no turn"])
+        for piece in pieces_of(self.server.record)[begun:]:
+            self.assertEqual(calls(piece, GET_A), [])
+        self.ok(self.one, "XA END 'g'", "XA COMMIT 'g' ONE PHASE")
+        self.done(laters[0])
+        self.ok(self.two, "XA END 'h'", "XA COMMIT 'h' ONE PHASE")
+        self.done(laters[1])
+        self.ok(self.three, "XA END 'i'", "XA COMMIT 'i' ONE PHASE")
+        self.assertEqual(self.numbers()["a"], 4)
+
+    def tearDown(self):
+        self.assertEqual(set(verdicts(self.server.record)), {"LEGAL"})
 
 
 # Conversations of two clients: `1` and `2` name who speaks, `1>` sends what waits, and `1<` reads its answer.

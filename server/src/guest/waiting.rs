@@ -7,7 +7,7 @@ use crate::answers::{refusal, refusal_with, wrong_state, Answer, Refusal};
 use crate::channel::End;
 use crate::pool::Need;
 use crate::sql::Value;
-use crate::statements::{write_literal, Kind, Statement};
+use crate::statements::{self, write_literal, Kind, Statement};
 use crate::store::lock;
 use crate::variables::LOCK_WAIT;
 use crate::waits::Fate;
@@ -28,23 +28,60 @@ fn is_held(answer: &Answer) -> bool {
 }
 
 impl Guest {
-    /// A statement of the client's for a row, which waits for it if that is wanted.
+    /// A statement of the client's for a row, which waits for it if that is wanted, and keeps what undoes it behind a
+    /// savepoint.
     pub(super) fn wait_for_row(&mut self, it: &Statement) -> Result<Answer, End> {
-        let patience = self.store.lock_wait;
-        if patience.is_zero() || it.kind == Kind::Get && !self.is_within() {
-            return self.change_row(it);
+        let kept = self.undo.len();
+        let answer = self.have_row(it, kept)?;
+        if matches!(answer, Answer::Refused(_)) {
+            self.undo.truncate(kept);
         }
+        Ok(answer)
+    }
+
+    fn have_row(&mut self, it: &Statement, kept: usize) -> Result<Answer, End> {
+        let mut patience = self.store.lock_wait;
+        if it.kind == Kind::Get && !self.is_within() {
+            patience = Duration::ZERO;
+        }
+        let get = statements::of_row(Kind::Get, &it.key(), b"");
         loop {
             self.begin_try();
-            let answer = if self.would_pass(it) { refusal(3572).into() } else { self.change_row(it)? };
-            if !is_held(&answer) {
+            let answer = self.try_row(it, &get, kept, !patience.is_zero())?;
+            if !is_held(&answer) || patience.is_zero() {
                 return Ok(answer);
             }
             let is_new = self.queue_up(it.subject(), it.kind != Kind::Get);
             if let Some(refused) = self.sleep(is_new, patience)? {
                 return Ok(refused.into());
             }
+            if self.is_fresh {
+                // (a branch that is given up has read nothing)
+                self.undo.truncate(kept);
+            }
         }
+    }
+
+    /// Asks for a row, and before that for what undoes the change, unless that is kept already.
+    fn try_row(&mut self, it: &Statement, get: &Statement, kept: usize, waits: bool) -> Result<Answer, End> {
+        let reads_first = self.keeps_undo(it) && self.undo.len() == kept;
+        if waits && self.would_pass(it) {
+            return Ok(self.leave_unasked(if reads_first { get } else { it }));
+        }
+        if reads_first {
+            if let refused @ Answer::Refused(_) = self.remember(get)? {
+                return Ok(refused);
+            }
+        }
+        self.ask_for_row(it)
+    }
+
+    /// Has a statement wait, since others wait for its row whom it would pass.
+    pub(super) fn leave_unasked(&mut self, it: &Statement) -> Answer {
+        if self.store.record.is_some() {
+            self.unasked = Some(it.text.clone());
+        }
+        refusal(3572).into()
     }
 
     /// How long a statement of SQL waits for a row.
@@ -112,6 +149,8 @@ impl Guest {
         let had_own = self.own.is_some();
         if self.is_fresh {
             self.step_back()?;
+        } else {
+            self.open_call();
         }
         match self.turn.as_ref().map_or(Fate::Called, |turn| turn.sleep(patience)) {
             Fate::Left => Err(End::Left("while it waited for a row")),
@@ -132,6 +171,27 @@ impl Guest {
             _ if self.is_fresh && had_own => self.step_forward(),
             _ => Ok(None),
         }
+    }
+
+    /// The record has a wait as one call, also if the store wasn't asked yet.
+    fn open_call(&mut self) {
+        let unasked = self.unasked.take();
+        if let (Some(record), Some(lent), Some(text)) = (&self.store.record, &self.lent, unasked) {
+            record.wait(lent.number, &text);
+        }
+    }
+
+    /// The statement asks no more for its row.
+    pub(super) fn end_call(&mut self) {
+        self.unasked = None;
+        if let (Some(record), Some(lent)) = (&self.store.record, &self.lent) {
+            record.end(lent.number);
+        }
+    }
+
+    /// Whether the branch keeps its rows while its statement waits.
+    pub fn keeps_rows(&self) -> bool {
+        !self.is_fresh
     }
 
     /// Gives up a branch that has nothing, and its session.
@@ -189,6 +249,7 @@ impl Guest {
 
     /// Gives the session back, and calls those who wait for the branch's rows.
     pub(super) fn give_back(&mut self) {
+        self.end_call();
         if self.lent.take().is_some() {
             let rows = {
                 let mut look = lock(&self.connection.look);

@@ -119,13 +119,19 @@ impl<'a> Rows<'a> {
         mut decide: impl FnMut(Option<&Row>) -> Done<Change>,
     ) -> Done<()> {
         let row_key = table.row_key(key);
+        let mut read = None;
         loop {
             let store = Arc::clone(&self.store);
             let latch = store.tables.latch(&row_key);
             self.guest.begin_try();
-            let held = match self.try_get(&row_key)? {
-                Got::Held => Some(row_key.clone()),
-                Got::Is(old) => {
+            if read.is_none() {
+                if let Got::Is(old) = self.try_get(&row_key)? {
+                    read = Some(old);
+                }
+            }
+            let held = match &read {
+                None => Some(row_key.clone()),
+                Some(old) => {
                     self.is_there(table)?;
                     let row = old.as_ref().map(|value| table.read(key, value)).transpose()?;
                     let change = decide(row.as_ref())?;
@@ -139,6 +145,8 @@ impl<'a> Rows<'a> {
                 None => break,
                 Some(is_new) => self.sleep(is_new)?,
             }
+            // (who shares a row needn't read it again)
+            read = read.filter(|_| self.guest.keeps_rows());
         }
         self.guest.end_turn();
         Ok(())
@@ -162,8 +170,10 @@ impl<'a> Rows<'a> {
         };
         if old.is_none() && new.is_some() {
             let stripe = table.stripe_of(key);
-            if let Got::Held = self.try_change(&stripe, None, None)? {
-                return Ok(Some(stripe));
+            if !self.guest.holds(&stripe) {
+                if let Got::Held = self.try_change(&stripe, None, None)? {
+                    return Ok(Some(stripe));
+                }
             }
             // (who drops a table holds all stripes)
             self.is_there(table)?;
