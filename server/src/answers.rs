@@ -36,13 +36,15 @@ impl Table {
 pub enum Answer {
     /// Done, with so many rows changed.
     Ok(u64),
+    /// The same of rows that were inserted, with the number of the first one that was given one.
+    Numbered(u64, u64),
     Refused(Refusal),
     Table(Table),
 }
 
 impl Answer {
     pub fn is_ok(&self) -> bool {
-        matches!(self, Answer::Ok(_))
+        matches!(self, Answer::Ok(_) | Answer::Numbered(..))
     }
 
     pub fn refusal(self) -> Option<Refusal> {
@@ -54,7 +56,8 @@ impl Answer {
 
     pub fn write(&self, out: &mut Out, status: u16, is_binary: bool) {
         match self {
-            Answer::Ok(affected) => out.ok(*affected, status),
+            Answer::Ok(affected) => out.ok(*affected, 0, status),
+            Answer::Numbered(affected, number) => out.ok(*affected, *number, status),
             Answer::Refused(it) => out.error(it.number, it.sqlstate, &it.text),
             Answer::Table(it) => out.table(&it.columns, &it.rows, status, is_binary),
         }

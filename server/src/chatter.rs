@@ -67,6 +67,8 @@ pub struct Facts {
     pub has_tls: bool,
     pub agreed: Option<(String, String)>,
     pub variables: Arc<Variables>,
+    /// LAST_INSERT_ID().
+    pub last_number: u64,
 }
 
 impl Facts {
@@ -83,6 +85,14 @@ impl Facts {
             "transaction_read_only" | "tx_read_only" => number(self.is_read_only.into()),
             "max_allowed_packet" => number(self.longest),
             name => self.variables.get(name),
+        }
+    }
+
+    /// Whether a column that is numbered keeps a 0, and isn't given the next number.
+    pub fn keeps_zero(&self) -> bool {
+        match self.setting("sql_mode") {
+            Some(Value::Text(modes)) => modes.split(|byte| *byte == b',').any(|it| it == b"NO_AUTO_VALUE_ON_ZERO"),
+            _ => false,
         }
     }
 
@@ -465,6 +475,7 @@ mod tests {
             has_tls: false,
             agreed: None,
             variables: Arc::default(),
+            last_number: 0,
         }
     }
 

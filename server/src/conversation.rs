@@ -301,6 +301,7 @@ impl Conversation {
             has_tls: self.tls.is_some(),
             agreed: self.channel.agreed(),
             variables: Arc::clone(&self.guest.variables),
+            last_number: self.guest.last_number,
         }
     }
 

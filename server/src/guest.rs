@@ -65,6 +65,8 @@ pub struct Guest {
     next: Option<bool>,
     /// What the client has set without an effect on the store.
     pub variables: Arc<Variables>,
+    /// The first number that its last INSERT was given that was given any: LAST_INSERT_ID().
+    pub last_number: u64,
     /// Of a transaction that has begun, whether it reads alone.
     access: Option<bool>,
     /// Whether a local transaction was asked for.
@@ -97,6 +99,7 @@ impl Guest {
             is_read_only: false,
             next: None,
             variables: Arc::default(),
+            last_number: 0,
             access: None,
             has_begun: false,
             own: None,
@@ -721,6 +724,7 @@ impl Guest {
         self.is_read_only = false;
         self.next = None;
         self.variables = Arc::default();
+        self.last_number = 0;
         self.own = None;
         self.has_begun = false;
         self.forget_savepoints();

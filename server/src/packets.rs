@@ -91,6 +91,7 @@ pub mod flag {
     pub const BLOB: u16 = 16;
     pub const UNSIGNED: u16 = 32;
     pub const BINARY: u16 = 128;
+    pub const AUTO_INCREMENT: u16 = 512;
 }
 
 /// Bytes that are no packet of this protocol; the text says which.
@@ -249,11 +250,12 @@ impl Out {
         self.number = self.number.wrapping_add(1);
     }
 
-    pub fn ok(&mut self, affected: u64, status: u16) {
+    /// Done: how many rows are changed, and the number that was given to the first of them, or 0.
+    pub fn ok(&mut self, affected: u64, number: u64, status: u16) {
         self.packet(|it| {
             it.push(0);
             put_length(it, affected);
-            it.push(0);
+            put_length(it, number);
             put_status(it, status);
         });
     }

@@ -187,8 +187,7 @@ impl Record {
     /// asked.
     fn end_in(&self, piece: &mut Piece, session: u64) {
         if let Some(call) = piece.open.remove(&session) {
-            let said =
-                if call.is_refused { format!("< ERROR {}", HELD) } else { "? ERROR it had no turn".to_string() };
+            let said = if call.is_refused { format!("< ERROR {}", HELD) } else { "? ERROR it had no turn".to_string() };
             self.write(piece, format!("{} {}\n", session, said).as_bytes());
         }
     }

@@ -253,6 +253,108 @@ SET autocommit=1
 DROP TABLE u
 DROP TABLE m
 """
+# Rows that are given numbers, and tables without a primary key.
+NUMBERED = """
+CREATE TABLE bad (id VARCHAR(9) AUTO_INCREMENT PRIMARY KEY)
+CREATE TABLE bad (id DECIMAL(9,2) AUTO_INCREMENT PRIMARY KEY)
+CREATE TABLE bad (id INT AUTO_INCREMENT, v INT PRIMARY KEY)
+CREATE TABLE bad (id INT AUTO_INCREMENT PRIMARY KEY, v INT AUTO_INCREMENT)
+CREATE TABLE bad (id INT AUTO_INCREMENT)
+CREATE TABLE bad (id INT DEFAULT 3 AUTO_INCREMENT PRIMARY KEY)
+CREATE TABLE n (`id` int(11) NOT NULL AUTO_INCREMENT, v VARCHAR(9) DEFAULT 'x', PRIMARY KEY (`id`)) ENGINE=InnoDB AUTO_INCREMENT=7 DEFAULT CHARSET=utf8mb4
+SELECT LAST_INSERT_ID()
+INSERT INTO n (v) VALUES ('a'), ('b'), ('c')
+SELECT LAST_INSERT_ID()
+INSERT INTO n () VALUES ()
+INSERT INTO n VALUES (), ()
+INSERT INTO n VALUES (NULL, 'd'), (0, 'e'), ('0', 'f'), (DEFAULT, 'g')
+SELECT LAST_INSERT_ID() AS id
+INSERT INTO n VALUES (100, 'h'), (NULL, 'i'), (50, 'j'), (NULL, 'k')
+SELECT * FROM n
+SELECT last_insert_id() + 1, LAST_INSERT_ID() = 101
+INSERT INTO n VALUES (200, 'l'), (300, 'm')
+SELECT LAST_INSERT_ID()
+INSERT INTO n VALUES (NULL, 'too long for it')
+INSERT INTO n VALUES (NULL, 'ok'), (7, 'twice')
+SELECT LAST_INSERT_ID()
+SHOW CREATE TABLE n
+INSERT IGNORE INTO n VALUES (7, 'p'), (NULL, 'q')
+INSERT IGNORE INTO n VALUES (7, 'p')
+INSERT INTO n VALUES (7, 'r') ON DUPLICATE KEY UPDATE v = 'r'
+INSERT INTO n VALUES (NULL, 's') ON DUPLICATE KEY UPDATE v = 's'
+REPLACE INTO n VALUES (7, 't'), (NULL, 'u')
+REPLACE INTO n (v) VALUES ('v')
+SELECT LAST_INSERT_ID()
+BEGIN
+INSERT INTO n (v) VALUES ('gone')
+ROLLBACK
+INSERT INTO n (v) VALUES ('w')
+INSERT INTO n VALUES (-5, 'x')
+SELECT * FROM n
+SELECT id, v FROM n WHERE id = 7
+DESCRIBE n
+SHOW FULL COLUMNS FROM n
+SHOW CREATE TABLE n
+DELETE FROM n
+INSERT INTO n (v) VALUES ('y')
+TRUNCATE n
+SHOW CREATE TABLE n
+INSERT INTO n (v) VALUES ('z')
+SELECT * FROM n
+SET sql_mode = 'STRICT_TRANS_TABLES,NO_AUTO_VALUE_ON_ZERO'
+INSERT INTO n VALUES (0, 'zero')
+SET sql_mode = 'STRICT_TRANS_TABLES'
+SELECT * FROM n
+CREATE TABLE small (id TINYINT KEY AUTO_INCREMENT)
+INSERT INTO small VALUES (126)
+INSERT INTO small VALUES (), ()
+INSERT INTO small VALUES ()
+SHOW CREATE TABLE small
+DELETE FROM small
+INSERT INTO small VALUES (127), (NULL)
+INSERT INTO small VALUES (127)
+INSERT INTO small VALUES (NULL)
+SELECT * FROM small
+CREATE TABLE big (id BIGINT AUTO_INCREMENT PRIMARY KEY, v INT)
+INSERT INTO big (v) VALUES (1)
+INSERT INTO big VALUES (4294967296, 2)
+INSERT INTO big (v) VALUES (3)
+SELECT * FROM big
+CREATE TABLE h (a INT, b VARCHAR(9) NOT NULL DEFAULT 'x', c INT, d INT, e INT, f INT, g INT, h VARCHAR(5))
+INSERT INTO h (a) VALUES (3), (1), (1)
+INSERT INTO h VALUES (NULL, 'b', NULL, NULL, NULL, NULL, NULL, NULL)
+INSERT INTO h (a, a) VALUES (1, 1)
+INSERT INTO h VALUES (1)
+INSERT INTO h (a, h) VALUES (9, 'toolong')
+INSERT INTO h () VALUES ()
+SELECT LAST_INSERT_ID()
+SELECT * FROM h
+SELECT a, h.b FROM h WHERE a = 1
+SELECT `` FROM h
+SELECT COUNT(*), SUM(a) FROM h
+UPDATE h SET a = a + 1 WHERE a = 1
+UPDATE h SET h = 'last' WHERE b = 'b'
+DELETE FROM h WHERE a = 2
+REPLACE INTO h (a) VALUES (3)
+INSERT IGNORE INTO h (a) VALUES (3)
+INSERT INTO h (a) VALUES (3) ON DUPLICATE KEY UPDATE a = 5
+SELECT * FROM h
+SELECT * FROM h LIMIT 2 OFFSET 1
+DESCRIBE h
+SHOW CREATE TABLE h
+SHOW INDEX FROM h
+SELECT COUNT(*) FROM information_schema.columns WHERE table_name = 'h'
+SELECT COUNT(*) FROM information_schema.key_column_usage WHERE table_name = 'h'
+SELECT COUNT(*) FROM information_schema.table_constraints WHERE table_name = 'h'
+SELECT COUNT(*) FROM information_schema.statistics WHERE table_name = 'h'
+SELECT column_name, extra, column_key FROM information_schema.columns WHERE table_name = 'n'
+TRUNCATE h
+SELECT * FROM h
+DROP TABLE h
+DROP TABLE big
+DROP TABLE small
+DROP TABLE n
+"""
 # Questions and settings, whose words random texts are made of, too.
 ASKED = """
 SELECT CASE a WHEN 1 THEN IF ( 1 , 'x' , NULL ) ELSE SUBSTRING ( 'abc' , -2 , 9 ) END , @a , @@sql_mode FROM DUAL
@@ -287,7 +389,7 @@ def described(answer, with_text=True):
     """What the two have to have in common of an answer; a state is described in other words."""
     if answer.kind == "error":
         return answer.number, answer.sqlstate, answer.text if with_text and answer.number != 1399 else ""
-    return answer.kind, answer.affected, answer.columns, answer.rows
+    return answer.kind, answer.affected, answer.given, answer.columns, answer.rows
 
 
 class Agreement(Case):
@@ -326,6 +428,38 @@ class Agreement(Case):
                 continue
             with self.subTest(text):
                 self.same(pair, text)
+
+    def test_numbers_and_tables_without_a_key(self):
+        pair = self.pair()
+        for text in lines(NUMBERED):
+            with self.subTest(text):
+                self.same(pair, text)
+
+    def test_random_numbers(self):
+        """INSERTs of rows with numbers, without, and with some, drawn from a seed: which each row has, and what is
+        told of them."""
+        draw = random.Random(SEED)
+        for program in range(30 if LONG else 6):
+            pair = self.pair()
+            kind = draw.choice(("TINYINT", "SMALLINT UNSIGNED", "INT", "BIGINT"))
+            first = draw.choice(("", " AUTO_INCREMENT=3", " AUTO_INCREMENT = 90"))
+            self.same(pair, "DROP TABLE IF EXISTS n")
+            self.same(pair, f"CREATE TABLE n (id {kind} AUTO_INCREMENT PRIMARY KEY, v INT NOT NULL){first}")
+            for step in range(40):
+                note = f"program {program}, step {step}, {kind}: "
+                ids = [draw.choice(("NULL", "0", "DEFAULT", "NULL", str(draw.randint(1, 120))))
+                       for _ in range(draw.randint(1, 5))]
+                values = ", ".join(f"({one}, {draw.randint(0, 3)})" for one in ids)
+                word, end = draw.choice((("INSERT", ""), ("INSERT", ""), ("REPLACE", ""), ("INSERT IGNORE", ""),
+                                         ("INSERT", " ON DUPLICATE KEY UPDATE v = v + 1"),
+                                         ("INSERT", " ON DUPLICATE KEY UPDATE v = VALUES(v)")))
+                for text in (f"{word} INTO n VALUES {values}{end}", "SELECT LAST_INSERT_ID()", "SELECT * FROM n",
+                             "SHOW CREATE TABLE n"):
+                    self.same(pair, text, note)
+                if draw.random() < 0.2:
+                    self.same(pair, f"DELETE FROM n WHERE id > {draw.randint(0, 60)}", note)
+            for client in pair:
+                client.quit()
 
     def test_prepared(self):
         """The same numbers of parameters and columns, and the same values in binary rows."""
@@ -705,7 +839,6 @@ class Tables(Own):
                 ("UPDATE t SET n = n * 2", "near '* 2'", "column + number"),
                 ("DELETE FROM t WHERE n = 1 OR n = 2", "near 'OR n = 2'", "WHERE column = value AND .."),
                 ("CREATE TABLE x (a DATETIME PRIMARY KEY)", "near 'DATETIME", "DECIMAL"),
-                ("CREATE TABLE x (a INT)", "a table without a primary key", "one of one column"),
                 ("CREATE TABLE x (a INT, b INT, PRIMARY KEY (a, b))", "several columns", "one of one column"),
                 ("INSERT INTO t SELECT * FROM t", "near 'SELECT * FROM t'", "VALUES (values)"),
                 ("SELECT * FROM t ORDER BY n", "another column", "ORDER BY the primary key"),
@@ -764,7 +897,7 @@ class Crowds(Own):
         """Texts of the grammar's words: each is answered, none that is refused changes anything, and no thread of the
         server is aborted."""
         draw = random.Random(SEED)
-        texts = lines(SENT) + lines(REFUSED) + lines(ASKED)
+        texts = lines(SENT) + lines(REFUSED) + lines(NUMBERED) + lines(ASKED)
         words = sorted({word for text in texts for word in text.split(" ")})
         forms = [text.split(" ") for text in texts]
         for number in range(100_000 if LONG else 10_000):

@@ -15,12 +15,12 @@ class Closed(Exception):
 
 class Answer:
     """What came back: `kind`, and of an error number, sqlstate and text, of a table names and rows, of what is done how
-    many rows were affected."""
+    many rows were affected, and the number that the first of them was given."""
 
     def __init__(self, kind, status=None, number=None, sqlstate=None, text=None, columns=None, rows=None,
-                 affected=None):
+                 affected=None, given=None):
         self.kind, self.status, self.number, self.sqlstate, self.text = kind, status, number, sqlstate, text
-        self.columns, self.rows, self.affected = columns, rows, affected
+        self.columns, self.rows, self.affected, self.given = columns, rows, affected, given
 
     @property
     def names(self):
@@ -132,8 +132,8 @@ class Client:
     def read(self, packet, is_binary=False):
         if packet[0] == 0:
             affected, place = number_at(packet, 1)
-            _, place = number_at(packet, place)
-            return Answer(OK, status=int.from_bytes(packet[place:place + 2], "little"), affected=affected)
+            given, place = number_at(packet, place)
+            return Answer(OK, status=int.from_bytes(packet[place:place + 2], "little"), affected=affected, given=given)
         if packet[0] == 0xFF:
             return Answer(ERROR, number=int.from_bytes(packet[1:3], "little"), sqlstate=packet[4:9].decode(),
                           text=packet[9:].decode())

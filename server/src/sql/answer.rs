@@ -3,6 +3,7 @@ use super::change::{Change, Rows};
 use super::define::{self, table_of};
 use super::filter::Scope;
 use super::grammar::{Assignment, Expression, Insert, Mode, Named, Sql, Update};
+use super::numbers::Numbers;
 use super::project::{self, Projection};
 use super::show::Show;
 use super::table::{Row, Table};
@@ -73,7 +74,7 @@ fn carry_out(rows: &mut Rows, asked: &Asked) -> Done<Answer> {
                 return Ok(refused);
             }
             match sql {
-                Sql::Insert(it) => insert(rows, it, asked.counts_found),
+                Sql::Insert(it) => insert(rows, asked, it),
                 Sql::Update(it) => update(rows, it, asked.counts_found),
                 Sql::Delete { table, filter } => {
                     let found = table_of(rows, table)?;
@@ -268,7 +269,7 @@ fn update(rows: &mut Rows, it: &Update, counts_found: bool) -> Done<Answer> {
 /// The columns that an INSERT names, or all.
 fn targets(scope: &Scope, it: &Insert) -> Result<Vec<usize>, Refusal> {
     let names = match &it.columns {
-        None => return Ok((0..scope.table.columns.len()).collect()),
+        None => return Ok((0..scope.table.named().len()).collect()),
         Some(names) => names,
     };
     let mut found = Vec::new();
@@ -291,14 +292,14 @@ fn check_counts(table: &Table, targets: &[usize], it: &Insert) -> Result<(), Ref
         }
     }
     for (index, column) in table.columns.iter().enumerate() {
-        if !targets.contains(&index) && column.default.is_none() {
+        if !targets.contains(&index) && column.default.is_none() && !column.is_numbered {
             return Err(refused(1364, "HY000", format!("Field '{}' doesn't have a default value", column.name)));
         }
     }
     Ok(())
 }
 
-fn insert(rows: &mut Rows, it: &Insert, counts_found: bool) -> Done<Answer> {
+fn insert(rows: &mut Rows, asked: &Asked, it: &Insert) -> Done<Answer> {
     let table = table_of(rows, &it.table)?;
     let scope = Scope::new(&table, &it.table, rows.database);
     let targets = targets(&scope, it)?;
@@ -308,30 +309,44 @@ fn insert(rows: &mut Rows, it: &Insert, counts_found: bool) -> Done<Answer> {
         _ => Vec::new(),
     };
     let name = table.full_name(rows.database);
-    write(rows, |rows| {
+    let mut numbers = Numbers::new(&table, it.rows.len(), asked.facts.keeps_zero());
+    let done = write(rows, |rows| {
         let mut affected = 0;
         for (index, literals) in it.rows.iter().enumerate() {
             let place = Place { table: &name, row: index + 1 };
-            let row = new_row(&table, &targets, literals, &place)?;
-            affected += insert_row(rows, &table, &row, &place, |old| match &it.mode {
+            let mut row = new_row(&table, &targets, literals, &place)?;
+            let is_given = numbers.fill(&mut row, &place)?;
+            let count = insert_row(rows, &table, &row, &place, |old| match &it.mode {
                 Mode::Plain => Err(duplicate(&table, &row)),
                 Mode::Ignore => Ok((Change::Keep, 0)),
                 Mode::Replace if *old == row => Ok((Change::Lock, 1)),
                 Mode::Replace => Ok((Change::Put(row.clone()), 2)),
                 Mode::Update(_) => match assigned(&table, &set, old, &row, &place)? {
-                    new if new == *old => Ok((Change::Lock, u64::from(counts_found))),
+                    new if new == *old => Ok((Change::Lock, u64::from(asked.counts_found))),
                     new => Ok((Change::Put(new), 2)),
                 },
             })?;
+            if count > 0 {
+                numbers.has_written(&row, is_given);
+            }
+            affected += count;
         }
-        Ok(Answer::Ok(affected))
-    })
+        Ok(affected)
+    });
+    if let Some(first) = numbers.first.filter(|_| table.has_key()) {
+        rows.guest.last_number = first;
+    }
+    done.map(|affected| Answer::Numbered(affected, numbers.told()))
 }
 
 fn new_row(table: &Table, targets: &[usize], literals: &[Literal], place: &Place) -> Result<Row, Refusal> {
     let mut row: Row = table.columns.iter().map(|it| it.default.clone().unwrap_or(Value::Null)).collect();
     for (index, literal) in targets.iter().zip(literals) {
-        row[*index] = table.columns[*index].store(literal, place)?;
+        let column = &table.columns[*index];
+        // (a column that is numbered takes no value at all for the next number)
+        if !column.is_numbered || !matches!(literal, Literal::Default | Literal::Value(Value::Null)) {
+            row[*index] = column.store(literal, place)?;
+        }
     }
     Ok(row)
 }

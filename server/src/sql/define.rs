@@ -58,6 +58,7 @@ fn table(create: &Create, database: &str) -> Result<Table, Refusal> {
         return Err(refused(1059, "42000", format!("Identifier name '{}' is too long", name)));
     }
     let mut columns = create.columns.clone();
+    check_numbered(&columns)?;
     for (index, it) in columns.iter().enumerate() {
         if it.name.is_empty() || it.name.ends_with(|it: char| it.is_ascii_whitespace()) {
             return Err(refused(1166, "42000", format!("Incorrect column name '{}'", it.name)));
@@ -70,23 +71,58 @@ fn table(create: &Create, database: &str) -> Result<Table, Refusal> {
         }
     }
     let key = match &create.keys[..] {
-        [] => return Err(untaken("a table without a primary key", "one of one column")),
+        [] => None,
         [key] => match &key[..] {
-            [key] => key,
+            [key] => Some(key),
             _ => return Err(untaken("a primary key of several columns", "one of one column")),
         },
         _ => return Err(refused(1068, "42000", "Multiple primary key defined")),
     };
-    let key = columns
-        .iter()
-        .position(|it| it.name.eq_ignore_ascii_case(key))
-        .ok_or_else(|| refused(1072, "42000", format!("Key column '{}' doesn't exist in table", key)))?;
+    let key = key.map(|key| {
+        let found = columns.iter().position(|it| it.name.eq_ignore_ascii_case(key));
+        found.ok_or_else(|| refused(1072, "42000", format!("Key column '{}' doesn't exist in table", key)))
+    });
+    let key = key.transpose()?;
+    let is_single = |(index, it): (usize, &Column)| !it.is_numbered || Some(index) == key;
+    if !columns.iter().enumerate().all(is_single) {
+        return Err(refused(1075, "42000", WRONG_NUMBERED));
+    }
     if columns.len() > COLUMNS {
         return Err(untaken("more than 8 columns", "up to 8 columns"));
     }
-    check_key(&mut columns[key])?;
+    if let Some(key) = key {
+        check_key(&mut columns[key])?;
+    }
     columns.iter_mut().try_for_each(|it| check(it, &name, database))?;
-    Ok(Table::new(name, columns, key))
+    let key = key.unwrap_or_else(|| {
+        columns.push(unnamed());
+        columns.len() - 1
+    });
+    let table = Table::new(name, columns, key);
+    table.set_next_number(create.first.into());
+    Ok(table)
+}
+
+const WRONG_NUMBERED: &str =
+    "Incorrect table definition; there can be only one auto column and it must be defined as a key";
+
+/// Whether AUTO_INCREMENT stands at whole numbers without a default.
+fn check_numbered(columns: &[Column]) -> Result<(), Refusal> {
+    for it in columns.iter().filter(|it| it.is_numbered) {
+        if !matches!(it.kind, Type::Whole { .. }) {
+            return Err(refused(1063, "42000", format!("Incorrect column specifier for column '{}'", it.name)));
+        }
+        if it.has_default && it.default != Some(Value::Null) {
+            return Err(refused(1067, "42000", format!("Invalid default value for '{}'", it.name)));
+        }
+    }
+    Ok(())
+}
+
+/// The primary key of a table that was made without one: its rows are numbered.
+fn unnamed() -> Column {
+    let kind = Type::Whole { bytes: 8, is_unsigned: false, is_boolean: false };
+    Column { name: String::new(), kind, is_nullable: false, default: None, has_default: false, is_numbered: true }
 }
 
 fn check_key(column: &mut Column) -> Result<(), Refusal> {
@@ -95,8 +131,8 @@ fn check_key(column: &mut Column) -> Result<(), Refusal> {
         return Err(refused(1170, "42000", text));
     }
     column.is_nullable = false;
-    if !column.has_default {
-        column.default = None;
+    if !column.has_default || column.is_numbered {
+        (column.default, column.has_default) = (None, false);
     }
     Ok(())
 }
@@ -165,6 +201,7 @@ pub fn truncate(rows: &mut Rows, named: &Named) -> Done<Answer> {
     let done = rows.alone(|it| {
         gone = it.clear(&table)?;
         table.forget_keys(&gone);
+        table.set_next_number(1);
         Ok(OK)
     });
     if done.is_err() {
@@ -223,14 +260,21 @@ pub fn creation(table: &Table) -> answers::Table {
         };
         let exact = if let Type::Text { is_exact: true, .. } = it.kind { " COLLATE utf8mb4_bin" } else { "" };
         let null = if it.is_nullable { "" } else { " NOT NULL" };
-        format!("  `{}` {}{}{}{},\n", it.name.replace('`', "``"), it.kind.name(), exact, null, default)
+        let numbered = if it.is_numbered { " AUTO_INCREMENT" } else { "" };
+        format!("  `{}` {}{}{}{}{}", it.name.replace('`', "``"), it.kind.name(), exact, null, default, numbered)
+    };
+    let key = || format!("  PRIMARY KEY (`{}`)", table.columns[table.key].name.replace('`', "``"));
+    let lines: Vec<String> =
+        table.named().iter().map(line).chain(Some(key).filter(|_| table.has_key()).map(|it| it())).collect();
+    let next = match table.next_number() {
+        next if next > 1 && table.has_key() && table.is_numbered() => format!(" AUTO_INCREMENT={}", next),
+        _ => String::new(),
     };
     let text = format!(
-        "CREATE TABLE `{}` (\n{}  PRIMARY KEY (`{}`)\n) ENGINE=InnoDB DEFAULT CHARSET=utf8mb4 \
-         COLLATE=utf8mb4_general_ci",
+        "CREATE TABLE `{}` (\n{}\n) ENGINE=InnoDB{} DEFAULT CHARSET=utf8mb4 COLLATE=utf8mb4_general_ci",
         table.name.replace('`', "``"),
-        table.columns.iter().map(line).collect::<String>(),
-        table.columns[table.key].name.replace('`', "``")
+        lines.join(",\n"),
+        next
     );
     let row = vec![packets::Value::from(table.name.as_str()), packets::Value::from(text.as_str())];
     answers::Table { columns: vec![said("Table"), said("Create Table")], rows: vec![row] }

@@ -129,6 +129,8 @@ pub struct Create {
     pub columns: Vec<Column>,
     /// What is said to be the primary key, each time with its columns.
     pub keys: Vec<Vec<String>>,
+    /// The first number of AUTO_INCREMENT.
+    pub first: u64,
 }
 
 #[derive(Clone, Debug, PartialEq, Eq)]
@@ -538,12 +540,27 @@ impl Reader<'_> {
 
     fn rows(&mut self, mode: Mode) -> Read<Insert> {
         let table = self.named()?;
-        let columns = if self.peeks_sign(b'(') { Some(self.bracketed(|it| it.list(Reader::name))?) } else { None };
+        let mut columns = None;
+        if self.peeks_sign(b'(') {
+            columns = Some(self.bracketed(|it| it.list_or_nothing(Reader::name))?);
+        }
         if !self.sees(&["values"]) {
             self.wants(&["value"])?;
         }
-        let rows = self.list(|it| it.bracketed(|it| it.list(Reader::literal)))?;
+        let rows = self.list(|it| it.bracketed(|it| it.list_or_nothing(Reader::literal)))?;
+        if rows.iter().all(Vec::is_empty) {
+            // (all columns have their defaults)
+            columns = columns.or(Some(Vec::new()));
+        }
         Ok(Insert { table, columns, rows, mode })
+    }
+
+    /// A list in brackets, in which nothing may stand.
+    fn list_or_nothing<T>(&mut self, inner: impl FnMut(&mut Self) -> Read<T>) -> Read<Vec<T>> {
+        if self.peeks_sign(b')') {
+            return Ok(Vec::new());
+        }
+        self.list(inner)
     }
 
     /// `column = value`; `row` is what an INSERT calls its row.
@@ -624,11 +641,11 @@ impl Reader<'_> {
                 Ok(())
             })
         })?;
-        let is_exact = self.table_options()?;
+        let (is_exact, first) = self.table_options()?;
         if is_exact {
             columns.iter_mut().for_each(|it| it.kind = exact(it.kind));
         }
-        Ok(Create { table, if_not_exists, columns, keys })
+        Ok(Create { table, if_not_exists, columns, keys, first })
     }
 
     fn primary_key(&mut self, keys: &mut Vec<Vec<String>>) -> Read<()> {
@@ -640,9 +657,9 @@ impl Reader<'_> {
         Ok(())
     }
 
-    /// Whether letters are told apart by the table's collation.
-    fn table_options(&mut self) -> Read<bool> {
-        let mut is_exact = false;
+    /// Whether letters are told apart by the table's collation, and the first number of AUTO_INCREMENT.
+    fn table_options(&mut self) -> Read<(bool, u64)> {
+        let (mut is_exact, mut first) = (false, 1);
         while !self.is_over() {
             self.sees_sign(b',');
             self.sees(&["default"]);
@@ -652,13 +669,16 @@ impl Reader<'_> {
             } else if self.sees(&["collate"]) {
                 self.sees_sign(b'=');
                 is_exact = self.collation()?;
+            } else if self.sees(&["auto_increment"]) {
+                self.sees_sign(b'=');
+                first = self.count()?.max(1);
             } else {
                 self.wants(&["comment"])?;
                 self.sees_sign(b'=');
                 self.text()?;
             }
         }
-        Ok(is_exact)
+        Ok((is_exact, first))
     }
 
     /// Whether letters are told apart by a collation: by `.._bin`, and not by `.._ci`.
@@ -677,13 +697,16 @@ impl Reader<'_> {
     /// A column's definition, and whether it is said to be the primary key.
     fn column(&mut self) -> Read<(Column, bool)> {
         let name = self.name()?;
-        let mut column = Column { name, kind: self.kind()?, is_nullable: true, default: None, has_default: false };
+        let (kind, default) = (self.kind()?, None);
+        let mut column = Column { name, kind, is_nullable: true, default, has_default: false, is_numbered: false };
         let mut is_key = false;
         loop {
             if self.sees(&["not", "null"]) {
                 column.is_nullable = false;
-            } else if self.sees(&["primary", "key"]) {
+            } else if self.sees(&["primary", "key"]) || self.sees(&["key"]) {
                 is_key = true;
+            } else if self.sees(&["auto_increment"]) {
+                column.is_numbered = true;
             } else if self.sees(&["default"]) {
                 column.default = Some(self.value()?);
                 column.has_default = true;
@@ -826,7 +849,7 @@ const FORMS: [(&str, &str); 10] = [
     (
         "create",
         "CREATE TABLE [IF NOT EXISTS] table (up to 8 columns of texts, binaries, whole numbers and DECIMAL, \
-         one of them the PRIMARY KEY)",
+         one of them or none the PRIMARY KEY)",
     ),
     ("drop", "DROP TABLE [IF EXISTS] table"),
     ("truncate", "TRUNCATE [TABLE] table"),
@@ -909,7 +932,7 @@ mod tests {
             ("INSERT INTO t SELECT 1", 14),
             ("CREATE TABLE t (a DATETIME)", 18),
             ("CREATE TABLE t (a BIGINT UNSIGNED)", 25),
-            ("CREATE TABLE t (a INT AUTO_INCREMENT)", 22),
+            ("CREATE TABLE t (a INT UNIQUE)", 22),
             ("DELETE FROM t WHERE (((((((((a = 1)))))))))", 28),
             ("DROP TABLE a, b", 12),
             ("SELECT 'a FROM t", 7),

@@ -1,7 +1,7 @@
 //! A small face of SQL over a store: tables of a few columns, whose rows are rows of the store.
 //!
 //! `grammar` reads a text, `table` knows what tables there are, `value` turns literals into values of a column's type,
-//! `change` and `scan` write and read rows in a branch, and `answer` carries a statement out. `question`, `show`,
+//! `change` and `scan` write and read rows in a branch, and `numbers` counts, and `answer` carries a statement out. `question`, `show`,
 //! `schema` and `term` answer what no row of the store does.
 //!
 //! A row's key is the table's name, a `/`, and the primary key; its value has the other columns. So locks, branches and
@@ -12,6 +12,7 @@ mod change;
 mod define;
 mod filter;
 mod grammar;
+mod numbers;
 mod project;
 mod question;
 mod reader;

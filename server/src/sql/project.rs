@@ -52,7 +52,7 @@ impl Projection {
                 if let Some(name) = table.as_ref().filter(|name| *name != scope.name) {
                     return Err(refused(1051, "42S02", format!("Unknown table '{}.{}'", scope.database, name)));
                 }
-                for (index, column) in scope.table.columns.iter().enumerate() {
+                for (index, column) in scope.table.named().iter().enumerate() {
                     self.push(Shown::Column(index), column.wire(&column.name, index == scope.table.key));
                 }
             }

@@ -36,7 +36,14 @@ impl Relation {
 
 /// A column as a client is told of it.
 pub fn wire(name: &str, kind: Type) -> packets::Column {
-    let column = Column { name: name.to_string(), kind, is_nullable: true, default: None, has_default: false };
+    let column = Column {
+        name: name.to_string(),
+        kind,
+        is_nullable: true,
+        default: None,
+        has_default: false,
+        is_numbered: false,
+    };
     column.wire(name, false)
 }
 
@@ -110,13 +117,13 @@ pub fn relation(store: &Store, named: &Named, database: &str) -> Result<Relation
         _ if !is_schema => Err(super::change::no_table(&named.table, database)),
         "tables" => each(TABLES, &mut |it| vec![table_row(it, database)]),
         "columns" => each(COLUMNS, &mut |it| columns_of(it, database)),
-        "statistics" => each(STATISTICS, &mut |it| vec![index_row(it, database)]),
-        "key_column_usage" => each(USAGE, &mut |it| vec![usage_row(it, database)]),
+        "statistics" => each(STATISTICS, &mut |it| with_key(it, index_row(it, database))),
+        "key_column_usage" => each(USAGE, &mut |it| with_key(it, usage_row(it, database))),
         "table_constraints" => each(
             "CONSTRAINT_CATALOG CONSTRAINT_SCHEMA CONSTRAINT_NAME TABLE_SCHEMA TABLE_NAME CONSTRAINT_TYPE",
             &mut |it| {
                 let texts = ["def", database, "PRIMARY", database, &it.name, "PRIMARY KEY"];
-                vec![texts.into_iter().map(text).collect()]
+                with_key(it, texts.into_iter().map(text).collect())
             },
         ),
         "schemata" => Ok(schemata(database)),
@@ -129,6 +136,16 @@ pub fn relation(store: &Store, named: &Named, database: &str) -> Result<Relation
             None => Err(refused(1109, "42S02", format!("Unknown table '{}' in {}", named.table, NAME))),
         },
     }
+}
+
+/// What is said of a table's primary key, if it has one.
+fn with_key(table: &table::Table, row: Row) -> Vec<Row> {
+    Some(row).filter(|_| table.has_key()).into_iter().collect()
+}
+
+/// What is said of a column beside its type and default.
+pub fn extra(column: &Column) -> Value {
+    text(if column.is_numbered { "auto_increment" } else { "" })
 }
 
 fn table_row(it: &table::Table, database: &str) -> Row {
@@ -211,11 +228,11 @@ fn columns_of(table: &table::Table, database: &str) -> Vec<Row> {
         row.extend([default, text(null), text(it.kind.word())]);
         row.extend(sizes(it.kind));
         row.extend([Value::Null, charset, collation, text(&it.kind.name())]);
-        row.extend([text(if index == table.key { "PRI" } else { "" }), text(""), text(PRIVILEGES), text("")]);
+        row.extend([text(if index == table.key { "PRI" } else { "" }), extra(it), text(PRIVILEGES), text("")]);
         row.extend([text("NEVER"), Value::Null]);
         row
     };
-    table.columns.iter().enumerate().map(row).collect()
+    table.named().iter().enumerate().map(row).collect()
 }
 
 pub const PRIVILEGES: &str = "select,insert,update,references";

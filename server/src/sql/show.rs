@@ -208,7 +208,8 @@ fn index(rows: &Rows, named: &Named) -> Result<Relation, Refusal> {
     row.extend([text(""), text("NO")]);
     let list = "Table Non_unique:n Key_name Seq_in_index:i Column_name Collation Cardinality:n Sub_part:n Packed Null \
                 Index_type Comment Index_comment Ignored";
-    Ok(Relation { columns: columns(list), rows: vec![row] })
+    let rows = Some(row).filter(|_| table.has_key()).into_iter().collect();
+    Ok(Relation { columns: columns(list), rows })
 }
 
 fn table_status(rows: &Rows) -> Relation {
@@ -231,7 +232,7 @@ fn described(rows: &Rows, named: &Named, is_full: bool) -> Result<Relation, Refu
         let null = text(if it.is_nullable { "YES" } else { "NO" });
         let key = text(if index == table.key { "PRI" } else { "" });
         let collation = schema::collation_of(it.kind).map_or(Value::Null, text);
-        let mut row = vec![text(&it.name), text(&it.kind.name()), collation, null, key, default, text("")];
+        let mut row = vec![text(&it.name), text(&it.kind.name()), collation, null, key, default, schema::extra(it)];
         row.extend([text(schema::PRIVILEGES), text("")]);
         if !is_full {
             row.truncate(7);
@@ -244,7 +245,7 @@ fn described(rows: &Rows, named: &Named, is_full: bool) -> Result<Relation, Refu
     } else {
         "Field Type:l Null Key Default:l Extra"
     };
-    Ok(Relation { columns: columns(list), rows: table.columns.iter().enumerate().map(row).collect() })
+    Ok(Relation { columns: columns(list), rows: table.named().iter().enumerate().map(row).collect() })
 }
 
 fn wires(columns: &[(String, Type)]) -> Vec<packets::Column> {

@@ -1,6 +1,6 @@
 //! What tables there are, and how a row of one is a row of the store.
 use super::value::{Column, Number, Type, Value};
-use super::{refused, untaken};
+use super::{numbers, refused, untaken};
 use crate::answers::Refusal;
 use crate::store::lock;
 use std::collections::hash_map::DefaultHasher;
@@ -26,9 +26,12 @@ pub type Row = Vec<Value>;
 
 pub struct Table {
     pub name: String,
+    /// The columns that it was made with. If none of them is the primary key, one more is, of which no client hears.
     pub columns: Vec<Column>,
     /// Which column is the primary key.
     pub key: usize,
+    /// The next number that a row is given by AUTO_INCREMENT.
+    next: Mutex<i128>,
     /// The keys of all rows that there are, and maybe more: one is added before its row is written, in a branch that
     /// holds the stripe.
     keys: Mutex<BTreeSet<Vec<u8>>>,
@@ -88,11 +91,56 @@ impl Catalog {
 
 impl Table {
     pub fn new(name: String, columns: Vec<Column>, key: usize) -> Table {
-        Table { name, columns, key, keys: Mutex::default(), is_dropped: AtomicBool::new(false) }
+        let (keys, is_dropped) = (Mutex::default(), AtomicBool::new(false));
+        Table { name, columns, key, next: Mutex::new(1), keys, is_dropped }
     }
 
     pub fn column(&self, name: &str) -> Option<usize> {
-        self.columns.iter().position(|it| it.name.eq_ignore_ascii_case(name))
+        self.named().iter().position(|it| it.name.eq_ignore_ascii_case(name))
+    }
+
+    /// The columns that clients know of.
+    pub fn named(&self) -> &[Column] {
+        &self.columns[..self.columns.len() - usize::from(!self.has_key())]
+    }
+
+    /// Whether one of these is the primary key.
+    pub fn has_key(&self) -> bool {
+        !self.columns[self.key].name.is_empty()
+    }
+
+    // numbers
+
+    pub fn is_numbered(&self) -> bool {
+        self.columns[self.key].is_numbered
+    }
+
+    pub fn most_number(&self) -> i128 {
+        numbers::most(self.key_type())
+    }
+
+    /// Takes so many numbers, which nobody else is given; the first one. Of those that are too great none is taken.
+    pub fn take_numbers(&self, count: i128) -> i128 {
+        let mut next = lock(&self.next);
+        let first = *next;
+        if first <= self.most_number() {
+            *next = first + count;
+        }
+        first
+    }
+
+    /// A row has a number: greater ones come next.
+    pub fn has_number(&self, number: i128) {
+        let mut next = lock(&self.next);
+        *next = (*next).max(number + 1);
+    }
+
+    pub fn next_number(&self) -> i128 {
+        *lock(&self.next)
+    }
+
+    pub fn set_next_number(&self, number: i128) {
+        *lock(&self.next) = number;
     }
 
     pub fn key_type(&self) -> Type {
@@ -209,7 +257,8 @@ impl Table {
 
     fn parts(&self, key: &[u8], value: &[u8]) -> Option<Row> {
         let (flags, mut rest) = value.split_first()?;
-        let spelled = if flags & 0x80 != 0 { text_at(&mut rest)? } else { key.to_vec() };
+        let is_text = !self.key_type().is_number();
+        let spelled = if is_text && flags & 0x80 != 0 { text_at(&mut rest)? } else { key.to_vec() };
         let mut row = vec![Value::Null; self.columns.len()];
         row[self.key] = match self.key_type() {
             Type::Whole { .. } | Type::Decimal { .. } => Value::Number(Number::read(&spelled)?.0),
@@ -296,6 +345,7 @@ mod tests {
             is_nullable: true,
             default: Some(Value::Null),
             has_default: false,
+            is_numbered: false,
         };
         let text = Type::Text { form: Form::Varying, length: 64, is_exact: false };
         let columns = vec![

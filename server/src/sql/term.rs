@@ -349,7 +349,7 @@ impl At<'_> {
         match name {
             "version" => text(VERSION),
             "connection_id" => Value::Number(Number::whole(self.facts.connection.into())),
-            "last_insert_id" => Value::Number(Number::whole(0)),
+            "last_insert_id" => Value::Number(Number::whole(self.facts.last_number.into())),
             "database" | "schema" => self.database.map_or(Value::Null, text),
             _ => text("nigbaru"),
         }

@@ -72,6 +72,8 @@ pub struct Column {
     pub default: Option<Value>,
     /// Whether DEFAULT was written.
     pub has_default: bool,
+    /// Whether it is AUTO_INCREMENT.
+    pub is_numbered: bool,
 }
 
 fn power(scale: u32) -> i128 {
@@ -273,6 +275,7 @@ impl Column {
         let flags = [
             (!self.is_nullable, packets::flag::NOT_NULL),
             (is_key, packets::flag::PRIMARY_KEY),
+            (self.is_numbered, packets::flag::AUTO_INCREMENT),
             (is_long, packets::flag::BLOB),
             (is_unsigned, packets::flag::UNSIGNED),
             (matches!(self.kind, Type::Bytes { .. }), packets::flag::BINARY),
@@ -411,7 +414,14 @@ mod tests {
     use super::*;
 
     fn column(kind: Type) -> Column {
-        Column { name: "c".to_string(), kind, is_nullable: false, default: None, has_default: false }
+        Column {
+            name: "c".to_string(),
+            kind,
+            is_nullable: false,
+            default: None,
+            has_default: false,
+            is_numbered: false,
+        }
     }
 
     fn stored(kind: Type, value: Value) -> Result<String, u16> {
