@@ -194,6 +194,7 @@ impl Guest {
             Ok(lent) => lent,
             Err(refused) => return Ok(refused.into()),
         };
+        self.unasked = None;
         let state =
             if kind == Some(Kind::OnePhase) && self.state == State::Free { "PREPARED" } else { self.state.name() };
         let reply = match self.hold_history(kind) {

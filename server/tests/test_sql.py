@@ -175,6 +175,12 @@ SELECT * FROM zz
 SELECT id FROM u LIMIT 0
 SELECT id FROM u LIMIT 1, 2
 SELECT COUNT(*) FROM u LIMIT 0
+SELECT id, v AS t FROM u ORDER BY t DESC, id
+SELECT id, c FROM u ORDER BY c, ui DESC, u.id DESC
+SELECT id, bg FROM u x ORDER BY x.bg DESC, x.id LIMIT 3
+SELECT id FROM u ORDER BY v, b, id DESC LIMIT 1 OFFSET 1
+SELECT id FROM u ORDER BY u.zz
+SELECT COUNT(*) FROM u ORDER BY v
 DELETE FROM u WHERE zz=1
 DELETE FROM zz
 DELETE t0 FROM u t0 WHERE t0.id=2
@@ -841,7 +847,6 @@ class Tables(Own):
                 ("CREATE TABLE x (a DATETIME PRIMARY KEY)", "near 'DATETIME", "DECIMAL"),
                 ("CREATE TABLE x (a INT, b INT, PRIMARY KEY (a, b))", "several columns", "one of one column"),
                 ("INSERT INTO t SELECT * FROM t", "near 'SELECT * FROM t'", "VALUES (values)"),
-                ("SELECT * FROM t ORDER BY n", "another column", "ORDER BY the primary key"),
                 ("SELECT k, COUNT(*) FROM t", "a column beside COUNT", "either"),
                 ("UPDATE t SET k = 'z'", "the primary key", "the other columns"),
                 ("SELECT * FROM t WHERE k = 1", "a text compared with a number", "quotes"),

@@ -1,8 +1,8 @@
 //! Columns of a statement found in its table, and its conditions.
 use super::grammar::{Compare, Condition, Named, Of, Test};
+use super::refused;
 use super::table::Table;
 use super::value::Value;
-use super::{refused, untaken};
 use crate::answers::Refusal;
 use std::cmp::Ordering;
 
@@ -118,12 +118,4 @@ impl Compare {
             Compare::GreaterOrEqual => found.is_ge(),
         }
     }
-}
-
-/// A column that only the primary key may be, of a part of a statement.
-pub fn is_key(index: usize, table: &Table) -> Result<(), Refusal> {
-    if index == table.key {
-        return Ok(());
-    }
-    Err(untaken("an order by another column", "ORDER BY the primary key"))
 }

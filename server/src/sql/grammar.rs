@@ -837,7 +837,7 @@ const FORMS: [(&str, &str); 10] = [
     (
         "select",
         "SELECT * or columns or COUNT(..) or SUM(column) FROM one table [WHERE column = value AND ..] \
-         [ORDER BY the primary key] [LIMIT n] [FOR UPDATE]",
+         [ORDER BY columns] [LIMIT n] [FOR UPDATE]",
     ),
     (
         "insert",

@@ -2,13 +2,14 @@
 use super::answer::begin;
 use super::change::Rows;
 use super::define::table_of;
-use super::filter::{is_key, Scope};
-use super::grammar::{Item, Lock, Select};
+use super::filter::Scope;
+use super::grammar::{Item, Lock, Of, Select};
 use super::table::{Row, Table};
 use super::value::{Column, Number, Type, Value};
 use super::{refused, untaken, Done};
 use crate::answers::{self, Refusal};
 use crate::packets::{self, flag, kind};
+use std::cmp::Ordering;
 use std::time::Duration;
 
 /// What stands in a column of the answer.
@@ -24,11 +25,13 @@ enum Shown {
 pub struct Projection {
     shown: Vec<Shown>,
     pub columns: Vec<packets::Column>,
+    /// By which columns the rows are ordered, and whether down.
+    order: Vec<(usize, bool)>,
 }
 
 impl Projection {
     pub fn new(scope: &Scope, select: &Select) -> Result<Projection, Refusal> {
-        let mut it = Projection { shown: Vec::new(), columns: Vec::new() };
+        let mut it = Projection { shown: Vec::new(), columns: Vec::new(), order: Vec::new() };
         for item in &select.items {
             it.add(scope, item)?;
         }
@@ -36,13 +39,37 @@ impl Projection {
         if is_mixed {
             return Err(untaken("a column beside COUNT or SUM", "either of them"));
         }
-        for (index, (of, _)) in select.order.iter().enumerate() {
-            let found = scope.find(of, "ORDER BY")?;
-            if index == 0 && !it.is_of_all() {
-                is_key(found, scope.table)?;
-            }
+        for (of, is_down) in &select.order {
+            it.order.push((it.ordered(scope, select, of)?, *is_down));
         }
         Ok(it)
+    }
+
+    /// The column that ORDER BY names: what it is called in the answer comes before what it is called in the table.
+    fn ordered(&self, scope: &Scope, select: &Select, of: &Of) -> Result<usize, Refusal> {
+        let is_meant = |item: &&Item| match item {
+            Item::Column(_, name) => of.table.is_none() && name.eq_ignore_ascii_case(&of.name),
+            _ => false,
+        };
+        match select.items.iter().find(is_meant) {
+            Some(Item::Column(of, _)) => scope.find(of, "ORDER BY"),
+            _ => scope.find(of, "ORDER BY"),
+        }
+    }
+
+    /// Orders rows that come in the order of their keys.
+    fn sort(&self, table: &Table, rows: &mut [Row]) {
+        rows.sort_by(|one, two| {
+            let compare = |(index, is_down): &(usize, bool)| {
+                let found = table.columns[*index].kind.compare(&one[*index], &two[*index]);
+                if *is_down {
+                    found.reverse()
+                } else {
+                    found
+                }
+            };
+            self.order.iter().map(compare).find(|it| it.is_ne()).unwrap_or(Ordering::Equal)
+        });
     }
 
     fn add(&mut self, scope: &Scope, item: &Item) -> Result<(), Refusal> {
@@ -178,9 +205,7 @@ pub fn select(rows: &mut Rows, it: &Select) -> Done<answers::Table> {
 
 /// The rows of an answer in their order, as many as are asked for.
 fn answered(table: &Table, projection: Projection, mut found: Vec<Row>, it: &Select) -> Done<answers::Table> {
-    if it.order.first().map_or(false, |(_, is_down)| *is_down) {
-        found.reverse();
-    }
+    projection.sort(table, &mut found);
     let (offset, count) = it.limit.unwrap_or((0, u64::MAX));
     let range = |length: usize| {
         let begin = usize::try_from(offset).unwrap_or(usize::MAX).min(length);
