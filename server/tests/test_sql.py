@@ -447,7 +447,7 @@ class Agreement(Case):
         draw = random.Random(SEED)
         for program in range(30 if LONG else 6):
             pair = self.pair()
-            kind = draw.choice(("TINYINT", "SMALLINT UNSIGNED", "INT", "BIGINT"))
+            kind = draw.choice(("SMALLINT", "SMALLINT UNSIGNED", "INT", "BIGINT"))
             first = draw.choice(("", " AUTO_INCREMENT=3", " AUTO_INCREMENT = 90"))
             self.same(pair, "DROP TABLE IF EXISTS n")
             self.same(pair, f"CREATE TABLE n (id {kind} AUTO_INCREMENT PRIMARY KEY, v INT NOT NULL){first}")

@@ -696,9 +696,13 @@ class BesideMariaDB(Case):
 
     def setUp(self):
         super().setUp()
-        self.ports = [self.ends.enter_context(mariadb()), self.serve(record=False).port]
+        self.server = self.serve()
+        self.ports = [self.ends.enter_context(mariadb()), self.server.port]
         with Client(self.ports[0]) as client:
             self.ok(client, "CREATE DATABASE any")
+
+    def tearDown(self):
+        self.assertEqual(self.server.verdicts(), ["LEGAL"])
 
     def later(self, port, client, text):
         """Sends a statement, which is seen to wait."""
