@@ -1,9 +1,9 @@
 /* A store that threads share, over nigbaru.h: its sessions are lent, and given back, from any thread.
 
    A seat is a session that is lent, to one thread at a time. No call takes a lock. If a thread is stopped in the middle
-   of a call, the others go on, except in the cases of docs/EMBEDDING.md#threads. A handle of
-   a seat is a value: it may be copied and passed on. After nigbaru_seat_leave no copy of it does anything any more,
-   also if another thread has the same session by then. This file is tested, not proved. */
+   of a call, the others go on, except in the cases of docs/EMBEDDING.md#threads. A handle of a seat is a value: it may
+   be copied and passed on. After nigbaru_seat_leave no copy of it does anything any more, also if another thread has the
+   same session by then. This file is tested, not proved. */
 #ifndef NIGBARU_SHARED_H
 #define NIGBARU_SHARED_H
 
@@ -22,7 +22,7 @@ typedef struct nigbaru_seat {
   uint64_t turn;
 } nigbaru_seat;
 
-/* Opens an empty store. rows: how many entries its ring keeps, in [1, 65536]. sessions: how many it has, in [1, 16].
+/* Opens an empty store. rows: how many slots its ring has, in [1, 65536]. sessions: how many it has, in [1, 16].
    NIGBARU_NO_POINTER, NIGBARU_OUT_OF_RANGE, NIGBARU_NO_MEMORY. */
 uint32_t nigbaru_shared_open(uint64_t rows, uint64_t sessions, nigbaru_shared **shared);
 
