@@ -2,9 +2,9 @@
 """Runs the sessions of a script against a MySQL, MariaDB or PostgreSQL server at the same time, and writes what they \
 saw as a record.
 
-    record.py --socket PATH [--postgresql [--isolation LEVEL] [--wait MS]] [--user NAME] [--password WORD]
-              [--database NAME] [--in-turn | --pauses SEED] [--first N] [--any-text] [--timeout SECONDS]
-              [--lose S:N ..] [--cut S:N ..] SCRIPT > RECORD
+    record.py --socket PATH | --address HOST:PORT [--postgresql [--isolation LEVEL] [--wait MS]] [--user NAME]
+              [--password WORD] [--database NAME] [--in-turn | --pauses SEED] [--first N] [--any-text]
+              [--timeout SECONDS] [--lose S:N ..] [--cut S:N ..] SCRIPT > RECORD
 
 Each session of the script has a thread and a connection of its own. All begin together, and each gives its statements
 in order, as fast as they are answered. The lines of the record stand in the order in which they were seen
@@ -18,7 +18,7 @@ import sys
 
 sys.dont_write_bytecode = True  # where it is installed, nothing is left beside it
 
-from databases import mysql, postgresql  # noqa: E402
+from databases import add_places, mysql, postgresql  # noqa: E402
 from faults import Fault  # noqa: E402
 from sessions import end, run_in_turn, run_together, sessions_of  # noqa: E402
 from spelling import row_statement  # noqa: E402
@@ -117,7 +117,7 @@ def seconds_of(word):
 def parser_of():
     """The command line."""
     parser = argparse.ArgumentParser(description=__doc__.split("\n", maxsplit=1)[0])
-    parser.add_argument("--socket", required=True, metavar="PATH", help="the server's socket")
+    add_places(parser, required=True)
     parser.add_argument("--postgresql", action="store_true", help="the server is a PostgreSQL, no MySQL or MariaDB")
     parser.add_argument("--isolation", choices=postgresql.LEVELS, metavar="LEVEL",
                         help="the isolation of PostgreSQL's transactions: read-committed where it isn't given, "

@@ -2,15 +2,15 @@
 """Draws loads of 2 to 16 clients, records each on a database, judges the records, and says how many there are of each \
 verdict.
 
-    survey.py mariadb|postgresql|mysql [--socket PATH] [--count N] [--first N] [--seed SEED] [--allow FILE]
-              [--seconds N] [--jobs N] [--record-only] FOLDER
+    survey.py mariadb|postgresql|mysql [--socket PATH | --address HOST:PORT] [--count N] [--first N] [--seed SEED]
+              [--allow FILE] [--seconds N] [--jobs N] [--record-only] FOLDER
 
 A load is statements of two-phase commits, in two phases. Clients of the first phase are lost in some loads, and in some
 the server is killed and started again. FOLDER gets each load's record. One that is there already isn't recorded again,
 so that a survey that was stopped goes on. Beside an ILLEGAL record, as 7.record, is 7.shrunk, what `judge --explain
 --shrink` says of it.
 
-Without --socket a server is started in FOLDER, which Debian's packages are needed for: mariadb-server and
+Without --socket and --address a server is started, for which Debian's packages are needed: mariadb-server and
 python3-pymysql, or postgresql and python3-psycopg2. Nothing of it is proved but the judge.
 """
 import argparse
@@ -26,7 +26,7 @@ from types import SimpleNamespace
 
 sys.dont_write_bytecode = True
 
-from databases import mysql, postgresql  # noqa: E402
+from databases import add_places, mysql, postgresql  # noqa: E402
 from faults import Fault  # noqa: E402
 from loads import Traits, load_of  # noqa: E402
 from servers import MariaDb, PostgreSql  # noqa: E402
@@ -191,7 +191,7 @@ def options_of():
     parser = argparse.ArgumentParser(description=__doc__.split("\n", maxsplit=1)[0])
     parser.add_argument("database", choices=KINDS, help="whose differences the loads keep clear of")
     parser.add_argument("folder", metavar="FOLDER", type=Path, help="where the records are kept")
-    parser.add_argument("--socket", metavar="PATH", help="a server that is there; it is never killed")
+    add_places(parser, required=False)
     parser.add_argument("--count", type=int, default=100, metavar="N", help="how many loads; 100 if it isn't given")
     parser.add_argument("--first", type=int, default=1, metavar="N", help="the first load's number; 1 if not given")
     parser.add_argument("--seed", default="1", metavar="SEED", help="what the loads are drawn by; 1 if it isn't given")
@@ -207,7 +207,7 @@ def main():
     parser = options_of()
     chosen = parser.parse_args()
     if not chosen.socket and not KINDS[chosen.database][1]:
-        parser.error("name the socket of a server by --socket")
+        parser.error("name a server by --socket or --address")
     chosen.numbers = range(chosen.first, chosen.first + chosen.count)
     usual = EXAMPLES / f"{chosen.database}.allow"
     chosen.allow = chosen.allow or (usual if usual.exists() else None)

@@ -3,6 +3,7 @@ import re
 import threading
 import time
 
+from databases import place_text
 from faults import Cut, Fault, Gone, Refused, Unread, one_line
 from spelling import hexadecimal, row_statement
 
@@ -27,8 +28,10 @@ PATIENCE = 120
 
 def connect(options, **more):
     """A connection that gives bytes, and no text."""
-    return pymysql.connect(unix_socket=options.socket, user=options.user or "root", password=options.password,
-                           autocommit=True, charset="latin1", use_unicode=False, **more)
+    place = options.socket
+    where = {"unix_socket": place} if isinstance(place, str) else {"host": place[0], "port": place[1]}
+    return pymysql.connect(**where, user=options.user or "root", password=options.password, autocommit=True,
+                           charset="latin1", use_unicode=False, **more)
 
 
 class Database:
@@ -51,7 +54,7 @@ class Database:
         try:
             self.connection = connect(self.options)
         except pymysql.MySQLError as error:
-            raise Gone(f"no server answers at {self.options.socket}: {one_line(error.args[-1])}") from error
+            raise Gone(f"no server answers at {place_text(self.options.socket)}: {one_line(error.args[-1])}") from error
 
     def ask(self, text):
         """The rows that the server gives for a query."""

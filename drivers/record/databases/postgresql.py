@@ -13,6 +13,7 @@ import threading
 import time
 from pathlib import Path
 
+from databases import place_text
 from faults import Cut, Fault, Gone, Refused, RolledBack, Unknown, Unread, one_line
 from spelling import BRANCH, RECOVER, hexadecimal, row_of, row_statement, xid_of
 
@@ -67,14 +68,18 @@ def bytea(data):
 
 
 def connect(options, database):
-    """A connection, on which nothing begins a transaction by itself. A socket's name ends in the server's port."""
-    place = Path(options.socket)
-    port = place.name.rpartition(".")[2] if place.name.startswith(".s.PGSQL.") else "5432"
-    folder = place if place.is_dir() else place.parent
-    connection = psycopg2.connect(host=str(folder.absolute()), port=port, user=options.user or "postgres",
-                                  password=options.password, dbname=database)
+    """A connection, on which nothing begins a transaction by itself."""
+    host, port = at_socket(Path(options.socket)) if isinstance(options.socket, str) else options.socket
+    connection = psycopg2.connect(host=host, port=port, user=options.user or "postgres", password=options.password,
+                                  dbname=database)
     connection.autocommit = True
     return connection
+
+
+def at_socket(place):
+    """A socket's folder, which stands for a host, and the server's port, in which its name ends."""
+    port = place.name.rpartition(".")[2] if place.name.startswith(".s.PGSQL.") else "5432"
+    return str((place if place.is_dir() else place.parent).absolute()), port
 
 
 class Database:
@@ -99,7 +104,7 @@ class Database:
         try:
             self.connection = connect(self.options, name or self.options.database)
         except psycopg2.Error as error:
-            raise Gone(f"no server answers at {self.options.socket}: {one_line(error)}") from error
+            raise Gone(f"no server answers at {place_text(self.options.socket)}: {one_line(error)}") from error
 
     def ask(self, text):
         """The rows that the server gives for a query; none for another statement."""

@@ -9,6 +9,7 @@ import tempfile
 import unittest
 from types import SimpleNamespace
 
+from forwarded import forwarded
 from support import ROOT
 
 sys.path.insert(0, str(ROOT / "drivers/record"))
@@ -61,6 +62,15 @@ class MariaDb(unittest.TestCase):
                                          stderr=subprocess.PIPE, text=True, timeout=600)
                     self.assertEqual((ran.stderr, ran.returncode), ("", 0))
                     self.assertEqual(numbers(ran.stdout), numbers(path.read_text()))
+
+    def test_an_address(self):
+        """A server that listens on the network is recorded as one that has a socket."""
+        with forwarded(self.server.socket) as address:
+            ran = subprocess.run([*RECORD, "--address", address, "--in-turn",
+                                  ROOT / "drivers/record/scripts/in_turn/formats.script"], stdout=subprocess.PIPE,
+                                 stderr=subprocess.PIPE, text=True, timeout=60)
+        self.assertEqual((ran.stderr, ran.returncode), ("", 0))
+        self.assertEqual(numbers(ran.stdout), numbers((EXAMPLES / "mariadb_formats.record").read_text()))
 
     def test_a_branch_that_was_rolled_back_before_the_server_is_killed(self):
         options = SimpleNamespace(socket=self.server.socket, user=None, password="", database="judged")

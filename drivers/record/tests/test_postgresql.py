@@ -9,6 +9,7 @@ import unittest
 from pathlib import Path
 from types import SimpleNamespace
 
+from forwarded import forwarded
 from support import ROOT, says
 
 sys.path.insert(0, str(ROOT / "drivers/record"))
@@ -126,6 +127,15 @@ class PostgreSql(unittest.TestCase):
                 words = [word for word in it[1].split() if word != "--postgresql"]
                 self.assertEqual(self.recorded(ROOT / it[2], *words), numbers(path.read_text()))
 
+    def test_an_address(self):
+        """A server that listens on the network is recorded as one that has a socket."""
+        with forwarded(self.server.socket) as address:
+            ran = subprocess.run([*RECORD, "--postgresql", "--address", address, "--in-turn",
+                                  ROOT / "drivers/record/scripts/in_turn/stays.script"], stdout=subprocess.PIPE,
+                                 stderr=subprocess.PIPE, text=True, timeout=60)
+        self.assertEqual((ran.stderr, ran.returncode), ("", 0))
+        self.assertEqual(numbers(ran.stdout), numbers((EXAMPLES / "postgresql_stays.record").read_text()))
+
     def test_a_prepared_branch_outlives_a_killed_server(self):
         """With what it has read and written; and the judge says so if it doesn't."""
         lines = numbers(b"\n".join(survey.record_load(KILLED, "1", self.server, self.database())).decode())
@@ -217,6 +227,15 @@ class Examples(unittest.TestCase):
 
 
 class CommandLine(unittest.TestCase):
+    def test_addresses(self):
+        for word in ("127.0.0.1", ":5432", "host:", "host:0", "host:65536", "host:port"):
+            self.assertEqual(self.said("--address", word, "script"),
+                             (f"record.py: error: argument --address: not HOST:PORT: {word!r}", 2))
+        self.assertEqual(self.said("--postgresql", "script"),
+                         ("record.py: error: one of the arguments --socket --address is required", 2))
+        self.assertEqual(self.said("--postgresql", "--socket", "s", "--address", "host:1", "script"),
+                         ("record.py: error: argument --address: not allowed with argument --socket", 2))
+
     def said(self, *words):
         ran = subprocess.run([*RECORD, *words], stdout=subprocess.PIPE, stderr=subprocess.PIPE, text=True, timeout=60)
         return ran.stderr.splitlines()[-1], ran.returncode

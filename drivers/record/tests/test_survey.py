@@ -80,7 +80,7 @@ class Table(unittest.TestCase):
         ran = subprocess.run([*SURVEY, "mysql", "/nowhere"], stdout=subprocess.PIPE, stderr=subprocess.PIPE, text=True,
                              timeout=60)
         self.assertEqual((ran.stderr.splitlines()[-1], ran.returncode),
-                         ("survey.py: error: name the socket of a server by --socket", 2))
+                         ("survey.py: error: name a server by --socket or --address", 2))
 
 
 if __name__ == "__main__":
