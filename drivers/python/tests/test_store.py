@@ -1,10 +1,12 @@
 """Stores in this process: the same calls, threads side by side, and what is refused."""
 import os
+import re
 import subprocess
 import sys
 import threading
 import time
 import unittest
+from pathlib import Path
 
 from nigbaru import DataError, IntegrityError, InternalError, OperationalError, ProgrammingError, Store, Xid
 
@@ -88,6 +90,12 @@ class InProcess(unittest.TestCase):
         for thread in threads:
             thread.join()
         self.assertEqual(self.connect(store).get("count"), b"400")
+
+    def test_the_program_of_the_page(self):
+        page = Path(__file__).parents[1].joinpath("README.md").read_text()
+        text = re.search(r"```python\n(# count\.py\n.*?)```", page, re.DOTALL)[1]
+        ran = subprocess.run([sys.executable, "-c", text], stdout=subprocess.PIPE, text=True, timeout=300)
+        self.assertEqual((ran.stdout, ran.returncode), ("b'240'\n", 0))
 
     @staticmethod
     def is_added(one, xid):
