@@ -94,7 +94,7 @@ class InProcess(unittest.TestCase):
     def test_the_program_of_the_page(self):
         page = Path(__file__).parents[1].joinpath("README.md").read_text()
         text = re.search(r"```python\n(# count\.py\n.*?)```", page, re.DOTALL)[1]
-        ran = subprocess.run([sys.executable, "-c", text], stdout=subprocess.PIPE, text=True, timeout=300)
+        ran = subprocess.run([sys.executable, "-c", text], stdout=subprocess.PIPE, text=True, timeout=1200)
         self.assertEqual((ran.stdout, ran.returncode), ("b'240'\n", 0))
 
     @staticmethod
