@@ -1,6 +1,7 @@
 """A store behind a server of MySQL's protocol: the same connections, each over a socket of its own."""
 from __future__ import annotations
 
+import contextlib
 import hashlib
 import socket
 import struct
@@ -13,7 +14,7 @@ from .server import checked_timeout, line_of
 # Long passwords, long flags, protocol 4.1, transactions, secure connection, plugins.
 CAN = 0x1 | 0x4 | 0x200 | 0x2000 | 0x8000 | 0x80000
 PLUGIN = b"mysql_native_password"
-QUERY, RESET = b"\x03", b"\x1f"
+QUIT, QUERY, RESET = b"\x01", b"\x03", b"\x1f"
 ONLY = 1  # the session's number in a Line, which has no other
 
 
@@ -87,7 +88,10 @@ class Line:
         return self._remote.connect()
 
     def give_back(self, session: int) -> None:
-        """Closes the socket, since the connection is."""
+        """Closes the socket, since the connection is. The server hears that this was meant."""
+        if not self.is_gone:
+            with contextlib.suppress(OSError):
+                self._send(QUIT, 0)
         self._end("it was closed")
 
     def _end(self, cause: str) -> None:

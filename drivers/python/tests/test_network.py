@@ -13,6 +13,9 @@ SERVER = os.environ["NIGBARU_SERVER"]
 
 class Network(unittest.TestCase):
     def start(self, *words, faults=""):
+        return int(self.process(*words, faults=faults).stderr.readline().rpartition(":")[2])
+
+    def process(self, *words, faults=""):
         folder = tempfile.TemporaryDirectory()
         self.addCleanup(folder.cleanup)
         (Path(folder.name) / "faults").write_text(faults)
@@ -21,7 +24,7 @@ class Network(unittest.TestCase):
         self.addCleanup(process.stderr.close)
         self.addCleanup(process.wait)
         self.addCleanup(process.terminate)
-        return int(process.stderr.readline().rpartition(":")[2])
+        return process
 
     def connect(self, port, **more):
         connection = Remote(port, **more).connect()
@@ -51,6 +54,12 @@ class Network(unittest.TestCase):
         with two.cursor() as cursor:
             cursor.execute("GET ?", ("k",))
             self.assertEqual(cursor.fetchall(), [(b"v",)])
+
+    def test_a_close_is_no_fault(self):
+        process = self.process()
+        Remote(int(process.stderr.readline().rpartition(":")[2])).connect().close()
+        process.terminate()
+        self.assertEqual((process.wait(), process.stderr.read()), (0, ""))
 
     def test_what_a_closed_connection_leaves(self):
         port = self.start()
