@@ -2,6 +2,8 @@
 
 Bytes go both ways as strings of the characters U+0000 to U+00FF, one a byte.
 """
+import functools
+
 from .child import Trouble
 from .diagram import FILE_WIDTH, diagram
 from .picture import picture
@@ -156,9 +158,14 @@ def judge(pool, question):
         return run_once(pool, ["judge", "--quiet", "--strict-calls", "--limit", str(limit)], text,
                         pool.limits.judge_seconds, pool.limits.judge_kib(limit))
 
+    @functools.cache
+    def explained(text):
+        return run(text)["output"].encode("latin-1")
+
     ran = run(record)
-    return {**ran, "picture": picture(record, ran["output"].encode("latin-1"),
-                                      lambda text: run(text)["output"].encode("latin-1"))}
+    drawn = {name: picture(record, ran["output"].encode("latin-1"), explained, is_narrow=name == "narrow")
+             for name in ("picture", "narrow")}
+    return {**ran, **drawn}
 
 
 def server(pool, _):

@@ -5,7 +5,7 @@ from xml.sax.saxutils import escape
 
 from .calls import calls_of, effects_of
 from .labels import Labels
-from .layout import BAR, EVENT, HEAD, LINE, Layout
+from .layout import BAR, EVENT, FOOT, HEAD, LINE, Layout, Narrow
 from .record_lines import EVENTS, GONE, LOSS, lines_of, read_lines
 from .svg import element, plain
 from .verdict import read_verdict
@@ -14,7 +14,7 @@ STYLE = (Path(__file__).resolve().parent.parent / "static/css/picture.css").read
 MOST_LINES = 400    # that are drawn where none are named
 BEFORE_MARK = 300   # of these, before a line that is marked
 MOST_ANSWERS = 12   # lines of what could have been answered
-CORNER = 5
+CORNER, LEFT = 5, 12
 READING = "A bar reaches from a call to its return."
 ORDER = "Numbered strokes: an order of the effects that explains"
 
@@ -27,7 +27,7 @@ def before_mark(lines, mark):
     return above + [line for line in below if line.kind == LOSS and line.text == GONE and line.session not in here]
 
 
-def picture(record, judged, judge, chosen=None):
+def picture(record, judged, judge, chosen=None, is_narrow=False):
     """The picture of a record of which this was judged, or none where that is no verdict. `judge` judges a record: an
     ILLEGAL one's lines before its mark are explained by an order of their own. `chosen` are the first and the last line
     that are drawn."""
@@ -40,7 +40,7 @@ def picture(record, judged, judge, chosen=None):
         explained, texts = before_mark(lines, verdict.line), lines_of(record)
         order = read_verdict(judge(b"".join(texts[line.number - 1] + b"\n" for line in explained))).order
     effects = effects_of(order, explained)
-    return Picture(lines, verdict, effects, chosen or cut(lines, verdict)).text()
+    return Picture(lines, verdict, effects, chosen or cut(lines, verdict), Narrow if is_narrow else Layout).text()
 
 
 def cut(lines, verdict):
@@ -63,7 +63,7 @@ def notes_of(verdict):
 
 
 class Picture:
-    def __init__(self, lines, verdict, effects, chosen):
+    def __init__(self, lines, verdict, effects, chosen, layout):
         first, last = min(chosen[0], max(1, len(lines))), min(chosen[1], len(lines))
         self.verdict, self.all = verdict, len(lines)
         self.first, self.last = first, last
@@ -76,16 +76,17 @@ class Picture:
                       if call.begin.number <= last
                       and (call.end is None or call.end.number >= first or call.begin.number in self.strokes)]
         notes = {number: note for number, note in notes_of(verdict).items() if number in numbers}
-        self.layout = Layout(drawn, self.calls, self.effects, notes)
+        self.layout = layout(drawn, self.calls, self.effects, notes)
         self.labels = Labels(self.layout, self.mark)
 
     def text(self):
-        width, height = round(self.layout.width), round(self.layout.height)
+        foot = self._foot()
+        width, height = round(self.layout.width), round(self.layout.bottom + max(FOOT, EVENT + LINE * len(foot)))
         inside = [
             element("title", {}, escape(self._heading())), element("style", {}, escape(STYLE)),
             element("rect", {"class_": "paper", "width": width, "height": height}),
             *self._heads(), *map(self._guide, self.layout.sessions), *map(self._bar, self.calls),
-            *self.labels.all(self.calls), *map(self._tick, self.effects), *self._foot()]
+            *self.labels.all(self.calls), *map(self._tick, self.effects), *foot]
         return element("svg", {"xmlns": "http://www.w3.org/2000/svg", "class_": "lanes-picture", "width": width,
                                "height": height, "viewBox": f"0 0 {width} {height}", "role": "img"}, "\n",
                        "\n".join(inside), "\n") + "\n"
@@ -96,12 +97,17 @@ class Picture:
         return self.verdict.kind + (f" at line {self.mark}" if self.mark else "")
 
     def _heads(self):
-        found = [element("text", {"class_": f"verdict {self.verdict.kind.lower()}", "x": 12, "y": 26}, self._heading())]
-        if self.last - self.first + 1 < self.all:
-            found.append(element("text", {"class_": "hint", "x": 250, "y": 26},
-                                 f"lines {self.first:,} to {self.last:,} of {self.all:,}"))
+        found = [element("text", {"class_": f"verdict {self.verdict.kind.lower()}", "x": LEFT, "y": 26},
+                         self._heading())]
+        if self.layout.part is not None:
+            found += [element("text", {"class_": "hint", "x": self.layout.part, "y": 26}, part) for part in self._part()]
         return found + [element("text", {"class_": f"session s{session}", "x": self.layout.bar(session), "y": 52},
-                                f"Session {session}") for session in self.layout.sessions]
+                                self.layout.head(session)) for session in self.layout.sessions]
+
+    def _part(self):
+        """Which lines are drawn, where that isn't all."""
+        return ([f"lines {self.first:,} to {self.last:,} of {self.all:,}"]
+                if self.last - self.first + 1 < self.all else [])
 
     def _guide(self, session):
         """The line of a lane, up to where its client is lost."""
@@ -153,10 +159,12 @@ class Picture:
                              "data_line": effect.call.begin.number if effect.call else None}, *parts)
 
     def _foot(self):
-        said = [READING]
+        said = [*(self._part() if self.layout.part is None else []), READING]
         if self.effects:
             said.append(f"{ORDER} {f'all above line {self.mark}' if self.mark else 'all'}.")
         if self.mark is not None and any(line.number > self.mark and line.kind in EVENTS for line in self.layout.lines):
             said.append("What is pale comes later, and wasn't judged.")
         y = self.layout.bottom + EVENT
-        return [element("text", {"class_": "hint", "x": 12, "y": y + LINE * at}, text) for at, text in enumerate(said)]
+        lines = [line.decode() for text in said for line in self.layout.wrapped(text.encode(), LEFT)]
+        return [element("text", {"class_": "hint", "x": LEFT, "y": y + LINE * at}, text)
+                for at, text in enumerate(lines)]

@@ -36,7 +36,8 @@ export class Judge {
     byId("record-example").addEventListener("change", (event) => this.openExample(event.target.value));
     byId("play-order").addEventListener("click",
       () => this.app.visit("sessions", { script: fromText(readable(this.verdict.order.join("\n"))) }));
-    byId("save-picture").addEventListener("click", () => save(this.picture));
+    byId("save-picture").addEventListener("click", () => save(this.drawn.picture));
+    addEventListener("resize", () => this.redraw());
     addEventListener("keydown", (event) => this.clickerKey(event));
   }
 
@@ -77,15 +78,19 @@ export class Judge {
     this.asks = Math.max(this.asks, whole(state.go, 1, 1e9, 0));
     const wanted = JSON.stringify(state);
     if (wanted === this.judged) {
-      if (this.picture) drawInto(byId("picture"), this.picture);
+      this.redraw();
       return;
     }
-    this.picture = null;
+    this.drawn = null;
     this.judged = null;
     byId("verdict-room").hidden = true;
     byId("judge-welcome").hidden = false;
     fill(byId("judge-progress"));
     if (state.go) this.judge(wanted);
+  }
+
+  redraw() {
+    if (this.drawn?.picture) drawInto(byId("picture"), this.drawn);
   }
 
   async judge(wanted) {
@@ -117,9 +122,9 @@ export class Judge {
     const faulty = new Map(this.verdict.faults.map(({ line, cause }) => [line, cause]));
     fill(byId("record-lines"), linesOf(record).map((line, at) => this.lineItem(line, at + 1, faulty.get(at + 1))));
     printedInto(byId("judge-printed"), ran.output);
-    this.picture = ran.picture;
-    byId("picture").hidden = byId("save-picture").hidden = this.picture === null;
-    if (this.picture !== null) drawInto(byId("picture"), this.picture);
+    this.drawn = ran;
+    byId("picture").hidden = byId("save-picture").hidden = ran.picture === null;
+    this.redraw();
   }
 
   lineItem(line, number, fault) {

@@ -1,4 +1,5 @@
-// The picture of a record: the server makes its SVG, which is shown as it is and saved as it is.
+// The picture of a record: the server makes its SVG, which is shown as it is and saved as it is. On a telephone the
+// narrow one is shown, which is never wider than the screen.
 import { bringIntoView, el, fill } from "./dom.js";
 import { isProjected } from "./projector.js";
 
@@ -6,10 +7,13 @@ const UNITS = 16; // of the picture for the height of the page's letters
 const PROJECTED = 11; // and on a projector, where its smallest letters are as high as those
 const BELOW = 120; // pixels that are seen below the mark
 const BESIDE = 24; // and beside it
+const TELEPHONE = "(max-width: 40rem)"; // as the style sheets have it
 
 // Its style stands in a style sheet of the page's own.
-export function drawInto(room, svg) {
-  const [head, , rest] = svg.split(/<\/?style>/);
+export function drawInto(room, { picture, narrow }) {
+  const isNarrow = matchMedia(TELEPHONE).matches;
+  room.classList.toggle("narrow", isNarrow);
+  const [head, , rest] = (isNarrow ? narrow : picture).split(/<\/?style>/);
   const made = document.importNode(new DOMParser().parseFromString(head + rest, "image/svg+xml").documentElement, true);
   const units = isProjected() ? PROJECTED : UNITS;
   for (const side of ["width", "height"]) made.setAttribute(side, `${Number(made.getAttribute(side)) / units}rem`);
