@@ -49,12 +49,13 @@ class Canvas:
             is_part = lifeline in map(self.store, self.participants) and 0.54 * size * 11 <= room
             part = "participant" if is_part else ""
             wide = min(room, max(0.68 * size * len(name), 0.54 * size * len(part)) + 0.8 * size)
-            found += [element("rect", {"class_": "head-box", "x": x - wide / 2, "y": 0.25 * size, "width": wide,
-                                       "height": (HEAD - 0.6) * size, "rx": 0.3 * size}),
-                      element("text", {"class_": "head", "x": x, "y": (1.3 if part else 1.8) * size},
-                              element("title", {}, escape(names[0])), escape(name))]
-            if part:
-                found.append(element("text", {"class_": "role", "x": x, "y": 2.35 * size}, part))
+            found.append(element(
+                "g", {"class_": "lane-head", "data_lane": self.number_of(lifeline)},
+                element("rect", {"class_": "head-box", "x": x - wide / 2, "y": 0.25 * size, "width": wide,
+                                 "height": (HEAD - 0.6) * size, "rx": 0.3 * size}),
+                element("text", {"class_": "head", "x": x, "y": (1.3 if part else 1.8) * size},
+                        element("title", {}, escape(names[0])), escape(name)),
+                *([element("text", {"class_": "role", "x": x, "y": 2.35 * size}, part)] if part else [])))
         return element(
             "g", {"class_": "heads"},
             element("rect", {"class_": "paper", "width": self.width, "height": (HEAD - 0.2) * size}), *found)

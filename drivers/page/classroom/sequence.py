@@ -19,6 +19,7 @@ MOST_CALLS = 400
 # words of the textbook that are shorter where there is no room for them
 SHORT = {"acknowledgement": "ack", "heuristic outcome": "heuristic"}
 LISTED = re.compile(rb"(\d+) (\d+) (\d+) (.*)", re.S)  # a row of XA RECOVER as its bytes are
+PREPARES, ENDS = (b"XA PREPARE",), (b"XA COMMIT", b"XA ROLLBACK")
 GOOD = ("atomic", "heuristic, told")  # verdicts of a manager that is right
 BEFORE = 300        # of these, before the cursor
 LEGEND = [
@@ -324,6 +325,7 @@ class Sequence(Canvas):
                 self.message(receiver, sender, QUESTION, "answer")
             return
         if it.kind == STRANGER:
+            self.end_branch(it, it.store, it.statement, ENDS)
             self.show_rows(it, it.store, it.store, is_left=not it.is_managers)
         self.notes_before(it)
         for at, (store, said) in enumerate(it.groups):
@@ -402,6 +404,7 @@ class Sequence(Canvas):
         lost = "" if is_whole else " The message is lost, and there is no answer."
         self.message(COORDINATOR, lifeline, runs, "inner" if is_whole else "inner broken", is_lost=not is_whole,
                      says=asked + lost)
+        self.end_branch(it, store, said[-1].text, ENDS)
         self.show_rows(it, at, store)
         if is_whole:
             is_bad = said[-1].answer.startswith((b"ERROR", b"XAER", b"FAULT"))
@@ -413,7 +416,12 @@ class Sequence(Canvas):
                          "inner-answer fails" if is_bad else "inner-answer",
                          says=answered.format(store=store, answer=plain(said[-1].answer)))
             self.leave_box()
-        if said[-1].text.startswith((b"XA PREPARE", b"XA COMMIT", b"XA ROLLBACK")):
+        self.end_branch(it, store, said[-1].text, PREPARES)
+
+    def end_branch(self, it, store, text, kinds):
+        """Keeps where a branch's band begins or ends: it is in doubt from its vote on until the store hears how the
+        transaction ends."""
+        if text.upper().startswith(kinds):
             self.ended[(it.place, store)] = self.y - 0.3 * self.size
 
     @staticmethod

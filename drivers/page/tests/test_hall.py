@@ -20,6 +20,9 @@ FONTS = """return [...document.querySelectorAll('body *')].filter((it) => it.che
     [...it.childNodes].some((node) => node.nodeType === 3 && node.data.trim()))
     .map((it) => [Math.round(10 * parseFloat(getComputedStyle(it).fontSize) * (it.getScreenCTM?.().a ?? 1)) / 10, `${it.tagName}.${it.className.baseVal ?? it.className} ${it.textContent.slice(0, 20)}`])"""
 WIDE = "return document.documentElement.scrollWidth - document.documentElement.clientWidth"
+# What can be moved sidewards, so that a part of it isn't seen.
+SIDEWARDS = """return [...document.querySelectorAll('main:not([hidden]) :not(input, .unseen)')].filter((it) => it.checkVisibility()
+    && it.scrollWidth > it.clientWidth + 1 && getComputedStyle(it).overflowX !== 'visible').map((it) => it.id || it.outerHTML.slice(0, 90))"""
 IN_SIGHT = """return arguments[0].map((css) => {
     const box = document.querySelector(css).getBoundingClientRect();
     return box.width > 0 && box.left >= 0 && box.top >= 0 && box.right <= innerWidth + 1 && box.bottom <= innerHeight + 1; })"""
@@ -256,6 +259,24 @@ class Hall(View):
                     *self.browser.run("""return [document.querySelector(arguments[0]).getBoundingClientRect().bottom,
                     document.querySelector(arguments[1]).closest('.tape').getBoundingClientRect().top + 1]""", *seen),
                     "the tools aren't over it")
+
+    def test_a_telephone_cuts_nothing(self):
+        """Also where there are three sessions; and who turns it sees the lanes."""
+        self.sized(390, 844)
+        writers = (PAGE / "races/two_writers.script").read_text().partition("\n")[2]
+        record = (PAGE / "records/handed_over.record").read_text()
+        for view, state, there in [("sessions", {"script": STORY}, "#given .reply"),
+                                   ("commit", {"calls": CALLS}, "#sequence .reply"),
+                                   ("race", {"script": writers, "runs": 2, "go": 1}, "#history .s3"),
+                                   ("race", {"script": writers, "hand": "1.2.3"}, "#hand-lines .reply"),
+                                   ("judge", {"record": record, "go": 1}, "#picture .s3")]:
+            self.at(view, **state)
+            self.until(lambda there=there: self.browser.all(there), f"{view} is drawn")
+            self.assertEqual((self.browser.run(WIDE), self.browser.run(SIDEWARDS)), (0, []), view)
+        said = self.browser.texts("#picture .statement")
+        self.assertEqual([it.partition(" > ")[0] for it in said], re.findall(r"(?m)^(\d) >", record))
+        self.sized(844, 390)
+        self.until(lambda: "Session 3" in self.browser.texts("#picture .session"), "a lane for each session")
 
     def test_a_step_of_calls_is_in_sight_on_a_telephone(self):
         """The page moves as a whole there, below the heads and above the tape."""

@@ -27,8 +27,8 @@ def judged(record):
 class Drawn:
     """A picture as elements."""
 
-    def __init__(self, record, chosen=None, verdict=None):
-        self.text = picture(record, judged(record) if verdict is None else verdict, judged, chosen)
+    def __init__(self, record, chosen=None, verdict=None, is_narrow=False):
+        self.text = picture(record, judged(record) if verdict is None else verdict, judged, chosen, is_narrow)
         self.root = xml.fromstring(self.text)
 
     def of(self, kind):
@@ -169,6 +169,25 @@ class Pictures(unittest.TestCase):
     def test_sixteen_lanes(self):
         drawn = Drawn(b"".join(b"%d > GET 'k'\n%d < NONE\n" % (session, session) for session in range(1, 17)))
         self.assertEqual(drawn.texts("session"), [f"Session {session}" for session in range(1, 17)])
+
+    def test_a_narrow_picture_has_one_column_beside_its_bars(self):
+        """What is said there says whose it is. Nothing is wider than a telephone, whatever could have been answered."""
+        record = RECORDS["dirty_read"]
+        could = b"ILLEGAL line 7\nCOULD BE ERROR 1399 (XAE07): XAER_RMFAIL state ACTIVE\n"
+        drawn = Drawn(record, verdict=could, is_narrow=True)
+        self.assertEqual(drawn.texts("session"), ["1", "2"])
+        said = [it for it in record.decode().splitlines() if ">" in it]
+        self.assertEqual(drawn.texts("statement"), said)
+        self.assertEqual(drawn.texts("reply"), ["1 < OK", "1 < OK", "2 < VALUE '9'", "1 < OK"])
+        self.assertEqual(len({it.get("x") for it in [*drawn.of("statement"), *drawn.of("reply")]}), 1)
+        width = float(drawn.root.get("width"))
+        self.assertLessEqual(width, 350)
+        for it in drawn.root.iter(f"{SVG}rect"):
+            self.assertLessEqual(float(it.get("x") or 0) + float(it.get("width")), width)
+        self.assertTrue(drawn.texts("could")[0].endswith("…"))
+        self.assertEqual(Drawn(RECORDS["lost_client"], is_narrow=True).texts("refused"), ["1 ! LOST", "2 < ERROR 3572"])
+        part = Drawn(b"1 > GET 'k'\n1 < NONE\n", (1, 1), b"LEGAL\n", True)
+        self.assertIn("lines 1 to 1 of 2", part.texts("hint"))
 
 
 class Command(unittest.TestCase):

@@ -6,6 +6,7 @@ from support import PAGE
 from views import View
 
 CALLS = (PAGE / "scenarios/01_all_yes.calls").read_text()
+BLOCKING = (PAGE / "scenarios/05_in_doubt_and_blocking.calls").read_text()
 LINES = CALLS.splitlines()
 FINISH = 1 + LINES.index("FINISH 1")
 PREPARE = 1 + LINES.index("PREPARE 1")
@@ -14,6 +15,9 @@ SEEN = """const curtain = document.querySelector('#sequence .curtain');
     const top = curtain ? Number(curtain.getAttribute('y')) : Infinity;
     return [...document.querySelectorAll(`#sequence .call[data-line="${arguments[0]}"] .message`)]
         .filter((it) => it.getBBox().y < top).length;"""
+# Who stands otherwise than well, by the heads that stay.
+HEADS = """return [...document.querySelectorAll('#sequence-heads :is(.in-doubt, .gone)')].map((it) =>
+    `${it.querySelector('title').textContent}: ${it.matches('.gone') ? 'gone' : 'in doubt'}`)"""
 # Counts what moves from now on.
 WATCH = """window.moved = [];
     const real = Element.prototype.animate;
@@ -75,17 +79,44 @@ class Playing(View):
         self.until(lambda: self.place()[0] < FINISH, "the call before it")
 
     def test_alice_loses_10_before_bob_has_them(self):
-        """Beside the drawing, as in it."""
+        """Beside the drawing, as in it. A store that has heard how it ends is in doubt no more."""
         self.open(calls=CALLS, at=FINISH - 1)
         self.at(FINISH - 1)
         locked = ["alice 100 T1 makes it 90", "bob 100 T1 makes it 110"]
         self.until(lambda: self.browser.run(ROWS) == locked, "both are locked")
         for message, rows, doubt in [
-                (1, locked, 2), (2, ["*alice 100 90 free", locked[1]], 2), (3, ["alice 90 free", locked[1]], 1),
-                (4, ["alice 90 free", "*bob 100 110 free"], 1), (5, ["alice 90 free", "bob 110 free"], 0)]:
+                (1, locked, 2), (2, ["*alice 100 90 free", locked[1]], 1), (3, ["alice 90 free", locked[1]], 1),
+                (4, ["alice 90 free", "*bob 100 110 free"], 0), (5, ["alice 90 free", "bob 110 free"], 0)]:
             self.step(FINISH, message)
             self.until(lambda rows=rows: self.browser.run(ROWS) == rows, f"{message}: {rows}")
             self.assertEqual(len(self.browser.all("#doubt .card")), doubt, message)
+            self.assertEqual(self.browser.texts("#sequence-heads .in-doubt .role"), ["in doubt"] * doubt, message)
+
+    def test_heads_say_who_is_in_doubt_and_who_is_gone(self):
+        lines = BLOCKING.splitlines()
+        prepare, stop, recover = (1 + lines.index(call) for call in ("PREPARE 1", "STOP", "RECOVER"))
+        self.open(calls=BLOCKING, at=prepare - 1)
+        self.at(prepare - 1)
+        self.assertEqual(self.browser.run(HEADS), [])
+        for _ in range(3):
+            self.browser.press(Keys.PAGE_DOWN)
+        self.at(prepare, 3)
+        self.until(lambda: self.browser.run(HEADS) == ["Store 0: in doubt"], "it has voted")
+        both = ["Store 0: in doubt", "Store 1: in doubt"]
+        for given, wanted in ((prepare, both), (stop, ["Coordinator: gone", *both]), (recover, [])):
+            self.browser.push(f'#sequence .call[data-line="{given}"] .go')
+            self.at(given)
+            self.until(lambda wanted=wanted: self.browser.run(HEADS) == wanted, f"line {given}: {wanted}")
+
+    def test_a_scenario_leads_to_the_next_one(self):
+        self.open(calls=CALLS, at=FINISH - 1)
+        self.at(FINISH - 1)
+        self.assertFalse(self.browser.one("#next-scenario").is_displayed(), "it isn't over")
+        self.browser.chord(Keys.ALT, Keys.END)
+        self.until(lambda: self.browser.text("#next-scenario") == "Next: a no vote", "it is")
+        self.browser.push("#next-scenario")
+        self.until(lambda: "vote" in self.browser.text("#calls-remark") and self.place() == (0, 0), "it begins")
+        self.assertFalse(self.browser.one("#next-scenario").is_displayed())
 
     def test_each_message_is_said(self):
         self.open(calls=CALLS, at=PREPARE - 1)

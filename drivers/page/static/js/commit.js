@@ -59,6 +59,7 @@ export class Commit {
     byId("any-call").addEventListener("keydown", (event) => this.enterKey(event));
     byId("stores").addEventListener("change", (event) => this.setStores(event.target));
     byId("transfer-form").addEventListener("submit", (event) => this.openTransfer(event));
+    byId("next-scenario").addEventListener("click", () => this.openExample(this.nextScenario()));
     byId("save-svg").addEventListener("click", () => this.save(saveSvg));
     byId("save-png").addEventListener("click", () => this.save(savePng));
     byId("calls-example").addEventListener("change", (event) => this.openExample(this.examples[event.target.value]));
@@ -116,6 +117,7 @@ export class Commit {
   }
 
   offer({ scenarios, calls }) {
+    this.scenarios = scenarios;
     this.examples = [...scenarios, ...calls];
     const listed = (all, from) => all.map((story, at) => [String(from + at), ...titleOf(story)]);
     options(byId("calls-example"),
@@ -126,6 +128,17 @@ export class Commit {
       first.map((story) => el("button.story", { type: "button", onclick: () => this.openExample(story) },
       el("strong", {}, story.name.replaceAll("_", " ")), " ", story.title)));
     legend(byId("legend"), rules.words());
+  }
+
+  isOpen(example) {
+    return linesOf(example.text).join("\n") === this.tape.lines.join("\n");
+  }
+
+  // The scenario behind the one that is open and was seen to its end.
+  nextScenario() {
+    const isOver = this.tape.at >= this.tape.lines.length && !this.messages.isWithin();
+    const at = this.scenarios.findIndex((one) => this.isOpen(one));
+    return isOver && at >= 0 ? this.scenarios[at + 1] : undefined;
   }
 
   openExample(example) {
@@ -278,8 +291,7 @@ export class Commit {
     this.draw();
     this.showNow();
     fill(byId("calls-remark"), remarkOf(this.tape.lines));
-    const isOpen = (example) => linesOf(example.text).join("\n") === this.tape.lines.join("\n");
-    follow(byId("calls-example"), this.examples, isOpen);
+    follow(byId("calls-example"), this.examples, (example) => this.isOpen(example));
     if (this.shown !== null && this.shown !== this.tape.lines.join("\n")) this.whole = this.shown = null;
     this.offerStops();
     this.followNumber(answers);
@@ -294,12 +306,15 @@ export class Commit {
     const within = this.messages.shown;
     const last = within === null ? at : line - 1;
     const behind = this.read[last - 1];
-    doubtList(byId("doubt"), within === null ? behind : { stores: this.sequence.doubtAt(line, within) });
+    const stores = within === null ? behind?.stores ?? [] : this.sequence.doubtAt(line, within);
+    doubtList(byId("doubt"), stores);
+    this.sequence.markHeads(line, within, stores.filter(({ prepared }) => prepared.length).map(({ store }) => store));
     drawRows(byId("store-rows"), this.sequence.rows, line, within);
     fill(byId("decisions"),
       NUMBERS.flatMap((name) => [el("dt", {}, name), el("dd", {}, behind?.[name].join(" ") || "none")]));
     printedInto(byId("calls-printed"), answers[last - 1]?.join("") ?? "");
     this.announce();
+    this.offerNext();
     this.showProgress();
     enable(this.view, this.tape, { isWithin: within !== null, isAsked: this.quiz.isOn });
   }
@@ -359,6 +374,12 @@ export class Commit {
       `. Branches in doubt: ${doubt}`] : told ? `Line ${line}: ${told}` : null;
     fill(byId("commit-said"), said);
     markWords(byId("legend"), told ?? "");
+  }
+
+  offerNext() {
+    const next = this.nextScenario();
+    byId("next-scenario").hidden = !next;
+    fill(byId("next-scenario"), next ? `Next: ${titleOf(next)[0]}` : null);
   }
 
   // Prints the whole diagram in pages, and comes back to the call that was shown.

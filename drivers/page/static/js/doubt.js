@@ -10,8 +10,8 @@ function branchName(xid) {
   return found ? el("span.xid", { title: xid }, branchText(found)) : xidText(xid);
 }
 
-export function doubtList(room, behind) {
-  const all = (behind?.stores ?? []).flatMap(({ store, prepared }) => prepared.map((xid) => ({ store, xid })));
+export function doubtList(room, stores) {
+  const all = stores.flatMap(({ store, prepared }) => prepared.map((xid) => ({ store, xid })));
   fill(room, all.length
     ? all.map(({ store, xid }) => el("p.card.prepared", { "data-xid": xid },
       transactionOf(xid)?.store === store ? null : `Store ${store}: `, branchName(xid)))

@@ -12,6 +12,7 @@ const SCALE = 2; // of a picture for others: pixels for each of the drawing's
 const NARROWEST = 260;
 const PAGE = [1000, 1300]; // of a page's drawing, in its own units
 const HEADS = 43;
+const FIRST_STORE = 2; // its lifeline's number, as the drawing counts them
 const PLACE = ["act", "line", "store", "call"];
 
 // Its style stands in a style sheet of the page's own.
@@ -162,6 +163,28 @@ export class Sequence {
       const box = band.querySelector("rect").getBBox();
       return box.y < at && box.y + box.height > at - 1;
     }).map(({ dataset }) => ({ store: Number(dataset.store), prepared: [dataset.xid] }));
+  }
+
+  // Where a message of a line ends, or the whole line where `step` is null.
+  endOf(line, step) {
+    const whole = this.room.querySelector(`.call[data-line="${line}"]`)?.dataset.bottom;
+    return step === null ? Number(whole ?? 0) : this.steps.find((it) => it.line === line)?.ends[step - 1];
+  }
+
+  // Has the heads say how it stands behind a message: these stores are in doubt, and whose lifeline has ended is gone.
+  markHeads(line, step, doubted) {
+    const end = this.endOf(line, step);
+    const lives = [...this.room.querySelectorAll(".lifeline")].map((it) =>
+      [it.dataset.lane, Number(it.getAttribute("y1")), Number(it.getAttribute("y2"))]);
+    for (const head of this.room.closest("main").querySelectorAll(".lane-head")) {
+      const { lane } = head.dataset;
+      const isDoubted = doubted.includes(Number(lane) - FIRST_STORE);
+      head.classList.toggle("in-doubt", isDoubted);
+      head.classList.toggle("gone",
+        end > 0 && !lives.some(([whose, from, to]) => whose === lane && from <= end && end <= to));
+      const role = head.querySelector(".role");
+      if (role) role.textContent = isDoubted ? "in doubt" : "participant";
+    }
   }
 
   // Lets the arrow of a message go its way, and what it changes appear once it has come.
