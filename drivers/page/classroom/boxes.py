@@ -77,8 +77,8 @@ class Box:
                 for it in self.all]
 
 
-def put_box(box, x, y, room, is_left):
-    """A box beside a lifeline, and how high it is with what stands below it."""
+def put_box(box, x, y, room, is_left, step):
+    """A box beside a lifeline, of this message of its call, and how high it is with what stands below it."""
     size = box.size
     room = max(SHORTEST * LETTER, room / size - AWAY - 2 * PADDING - 0.5)
     fitted = [(line, line.fitted(room)) for line in box.lines]
@@ -96,7 +96,7 @@ def put_box(box, x, y, room, is_left):
     if box.more:
         inside.append(element("text", {"class_": "row more", "x": left + PADDING * size, "y": top + 0.95 * size},
                               f"+ {box.more}"))
-    return element("g", {"class_": "rows"}, *inside), (high + 0.35) * size
+    return element("g", {"class_": "rows", "data_step": step}, *inside), (high + 0.35) * size
 
 
 def put_line(line, lines, left, top, wide, size):

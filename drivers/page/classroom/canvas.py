@@ -19,6 +19,11 @@ NAMES_OF = {MANAGER: ("Transaction manager", "Manager", "TM"), COORDINATOR: ("Co
             CLIENT: ("Other client", "Client", "Cl.")}
 
 
+def head_width(name):
+    """How wide a lifeline's name is, with the least that stands beside it in its frame."""
+    return Run("term", name).width() + 0.2
+
+
 class Canvas:
     """What a diagram is drawn with. Who draws on it sets the places and what was drawn so far."""
 
@@ -45,10 +50,10 @@ class Canvas:
             room = min(self.lanes.beside(lifeline, is_left) * (1 if self.is_end(lifeline, is_left) else 0.5)
                        for is_left in (True, False)) * 2 - 0.35 * size
             names = self.names(lifeline)
-            name = next((name for name in names if 0.68 * size * len(name) <= room), names[-1])
+            name = next((name for name in names if head_width(name) * size <= room), names[-1])
             is_part = lifeline in map(self.store, self.participants) and 0.54 * size * 11 <= room
             part = "participant" if is_part else ""
-            wide = min(room, max(0.68 * size * len(name), 0.54 * size * len(part)) + 0.8 * size)
+            wide = min(room, max(head_width(name) * size, 0.54 * size * len(part)) + 0.6 * size)
             found.append(element(
                 "g", {"class_": "lane-head", "data_lane": self.number_of(lifeline)},
                 element("rect", {"class_": "head-box", "x": x - wide / 2, "y": 0.25 * size, "width": wide,

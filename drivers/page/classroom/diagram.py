@@ -23,7 +23,9 @@ def diagram(run, show, counts, lines, stores, seconds, at=None, **drawing):
         known = counts.of(lambda text: run([], text)[0], given[:len(answers)], stores, deadline - time.monotonic())
         why = reasons(lambda text: run(["--verbose"], text)[1], given, answers)
         found = exchanges(lines, answers, known, why)
-        calls = {"found": found, "stores": stores, "at": len(answers), "changes": states(show, found, stores)}
+        # behind a call whose statements aren't known, nothing is known of rows
+        calls = {"found": found, "stores": stores, "at": len(answers),
+                 "changes": states(show, found[:len(known)], stores)}
         return calls, len(known) == len(answers)
 
     calls, is_whole = told(lines if at is None else lines[:at])

@@ -136,7 +136,8 @@ class Sequence(Canvas):
             return
         box = Box(change, self.signs, self.size)
         self.wants[None, (lane, is_left)] = max(self.wants.get((None, (lane, is_left)), 0), box.wanted() + 1.7)
-        made, high = put_box(box, self.x(lane), self.y - 0.1 * self.size, self.lanes.to_end(lane, is_left), is_left)
+        made, high = put_box(box, self.x(lane), self.y - 0.1 * self.size, self.lanes.to_end(lane, is_left), is_left,
+                             len(self.says))
         self.marks.append(made)
         self.floor = self.y + high
         self.says[-1] += " " + narration.changes(change, store, self.signs)

@@ -5,7 +5,7 @@ import { fromText, linesOf, readableValue } from "./bytes.js";
 import { asksStores, isCaption, isEvent, lastBegun } from "./calls.js";
 import { enable, wire } from "./controls.js";
 import {
-  bringIntoView, bringStartIntoView, byId, el, fill, options, printedInto, remarkOf, shown,
+  bringIntoView, bringStartIntoView, byId, el, fill, moves, options, printedInto, remarkOf, shown,
 } from "./dom.js";
 import { doubtList, legend, markWords } from "./doubt.js";
 import { Messages } from "./messages.js";
@@ -309,7 +309,7 @@ export class Commit {
     const stores = within === null ? behind?.stores ?? [] : this.sequence.doubtAt(line, within);
     doubtList(byId("doubt"), stores);
     this.sequence.markHeads(line, within, stores.filter(({ prepared }) => prepared.length).map(({ store }) => store));
-    drawRows(byId("store-rows"), this.sequence.rows, line, within);
+    drawRows(byId("store-rows"), this.sequence.isWhole ? this.sequence.rows : null, line, within);
     fill(byId("decisions"),
       NUMBERS.flatMap((name) => [el("dt", {}, name), el("dd", {}, behind?.[name].join(" ") || "none")]));
     printedInto(byId("calls-printed"), answers[last - 1]?.join("") ?? "");
@@ -428,8 +428,10 @@ export class Commit {
     const call = [...all].filter((it) => Number(it.dataset.line) <= until).at(-1);
     const step = this.messages.shown ?? (this.messages.isByMessage ? this.count() : null);
     const given = call?.querySelector(`.message[data-step="${step}"]`) ?? call;
+    const changed = call?.querySelector(`.rows[data-step="${step}"]`);
     room.style.setProperty("--above", `${byId("sequence-heads").firstElementChild.getBoundingClientRect().height}px`);
     if (given) bringIntoView(room, given, until === at && at < lines.length ? PEEK : BELOW);
+    if (changed && !moves(room)) changed.scrollIntoView({ block: "nearest" });
     else bringStartIntoView(room, [all[0], this.view.querySelector(".tools")]);
   }
 }

@@ -54,6 +54,7 @@ export class Sequence {
     this.wanted = null;
     this.shown = null;
     this.steps = this.rows = []; // of the drawing
+    this.isWhole = true; // whether it has all statements
     room.addEventListener("click", (event) => this.act(event.target.closest("[data-act]"), event));
     room.addEventListener("keydown", (event) => {
       if (event.key === "Enter" || event.key === " ") this.act(event.target.closest("[data-act]"), event);
@@ -150,8 +151,15 @@ export class Sequence {
     const width = drawing.getAttribute("width");
     const curtain = made("g", { class: "curtain-room" },
       made("rect", { class: "curtain", x: 0, y: top, width, height: bottom - top }),
-      ...[...drawing.querySelectorAll(".lifeline")].flatMap((it) => part(it, top, bottom)));
+      ...[...drawing.querySelectorAll(".lifeline")].flatMap((it) => part(it, top, bottom)),
+      ...this.shownRows(line, step).map((it) => it.cloneNode(true)));
     drawing.querySelector(".heads").before(curtain);
+  }
+
+  // The rows that were changed up to a message of a line: they stand beside the next one, which comes later.
+  shownRows(line, step) {
+    return [...this.room.querySelectorAll(`.call[data-line="${line}"] .rows`)]
+      .filter((it) => Number(it.dataset.step) <= step);
   }
 
   // The branches in doubt at the end of a message, as the drawing has their bands: [{store, prepared}].
@@ -199,13 +207,17 @@ export class Sequence {
     arrow.animate([{ transform: "scaleX(0)" }, { transform: "none" }], way);
     message.querySelector(".head-of, .cross")
       ?.animate([{ transform: `translateX(${start - end}px)` }, { transform: "none" }], way);
+    const later = [...this.room.querySelectorAll(`.curtain-room .rows[data-step="${step}"]`)];
     for (let next = message.nextElementSibling; next && !next.matches(".message"); next = next.nextElementSibling)
+      later.push(next);
+    for (const next of later)
       next.animate([{ opacity: 0 }, { opacity: 1 }], { duration: duration / 3, delay: duration, fill: "backwards" });
   }
 
   clear() {
     this.wanted = this.shown = null;
     this.steps = this.rows = [];
+    this.isWhole = true;
     fill(this.room);
     fill(byId("sequence-heads"));
     this.room.dataset.given = 0;

@@ -25,12 +25,13 @@ function rowLine(row, isNew) {
     valueCell(isNew ? row : { ...row, was: null }), lockCell(row));
 }
 
+// `rows` is null while they aren't all known yet.
 export function drawRows(room, rows, line, step) {
-  const stores = latest(rows, line, step);
+  const stores = latest(rows ?? [], line, step);
   fill(room, stores.length ? el("table.store-rows", {},
     el("thead", {}, el("tr", {}, ["Row", "Value", "Lock"].map((name) => el("th", { scope: "col" }, name)))),
     stores.map(({ store, rows: all, isNew }) => el("tbody", { "data-store": store },
       el("tr.store", {}, el("th", { colspan: 3, scope: "rowgroup" }, `Store ${store}`)),
       all.map((row) => rowLine(row, isNew)))))
-    : el("p.hint", {}, "No store was asked for a row yet."));
+    : el("p.hint", {}, rows ? "No store was asked for a row yet." : "They are being found out."));
 }
