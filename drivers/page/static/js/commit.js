@@ -430,8 +430,8 @@ export class Commit {
     const given = call?.querySelector(`.message[data-step="${step}"]`) ?? call;
     const changed = call?.querySelector(`.rows[data-step="${step}"]`);
     room.style.setProperty("--above", `${byId("sequence-heads").firstElementChild.getBoundingClientRect().height}px`);
-    if (given) bringIntoView(room, given, until === at && at < lines.length ? PEEK : BELOW);
+    if (!given) return bringStartIntoView(room, [all[0], this.view.querySelector(".tools")]);
+    bringIntoView(room, given, until === at && at < lines.length ? PEEK : BELOW);
     if (changed && !moves(room)) changed.scrollIntoView({ block: "nearest" });
-    else bringStartIntoView(room, [all[0], this.view.querySelector(".tools")]);
   }
 }
