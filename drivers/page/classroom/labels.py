@@ -56,7 +56,7 @@ class Labels:
         return [*self._mark(line), self._event(kind, line, self.layout.top[line.number] + BASE)]
 
     def _loss(self, line):
-        layout, x, y = self.layout, self.layout.bar(line.session) + BAR / 2, self.layout.middle(line.number)
+        x, y = self.layout.bar(line.session) + BAR / 2, self.layout.middle(line.number)
         cross = element("path", {"class_": "cross", "d": f"M{x - 7} {y - 7}l14 14m0 -14l-14 14"})
         return [cross, self._event("reply refused halo", line, y + 4.5)]
 
@@ -78,8 +78,8 @@ class Labels:
 
     def _other(self, line):
         most = int((self.layout.width - self.layout.gutter) / LETTER) - 2
-        return [element("text", {"class_": "text halo", "x": self.layout.gutter, "y": self.layout.top[line.number] + 13},
-                        shown(line.text, most))]
+        place = {"x": self.layout.gutter, "y": self.layout.top[line.number] + 13}
+        return [element("text", {"class_": "text halo", **place}, shown(line.text, most))]
 
     def _mark(self, line):
         """The frame of a marked return."""

@@ -1,5 +1,6 @@
 """Where everything in a picture stands: time goes down, and each session has a lane."""
 import math
+from typing import Optional
 
 from .record_lines import BLANK, CALL, EVENTS, LOSS, REMARK, RETURN, ROW
 from .svg import columns
@@ -24,7 +25,7 @@ class Layout:
     """Of the lines that are drawn, with the calls and effects among them. `notes` have what is said below a line, by
     its number: texts with their classes."""
     gutter = 56  # the numbers of the lines
-    part = 250  # where the head says which lines are drawn; where it has no room for that, the foot does
+    part: Optional[int] = 250  # where the head says which lines are drawn; where it has no room for that, the foot does
 
     def __init__(self, lines, calls, effects, notes):
         self.lines, self.effects, self.notes = lines, effects, notes

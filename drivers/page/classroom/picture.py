@@ -100,7 +100,8 @@ class Picture:
         found = [element("text", {"class_": f"verdict {self.verdict.kind.lower()}", "x": LEFT, "y": 26},
                          self._heading())]
         if self.layout.part is not None:
-            found += [element("text", {"class_": "hint", "x": self.layout.part, "y": 26}, part) for part in self._part()]
+            found += [element("text", {"class_": "hint", "x": self.layout.part, "y": 26}, said)
+                      for said in self._part()]
         return found + [element("text", {"class_": f"session s{session}", "x": self.layout.bar(session), "y": 52},
                                 self.layout.head(session)) for session in self.layout.sessions]
 

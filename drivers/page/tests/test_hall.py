@@ -260,19 +260,27 @@ class Hall(View):
                     document.querySelector(arguments[1]).closest('.tape').getBoundingClientRect().top + 1]""", *seen),
                     "the tools aren't over it")
 
-    def test_a_telephone_cuts_nothing(self):
-        """Also where there are three sessions; and who turns it sees the lanes."""
-        self.sized(390, 844)
+    def test_three_sessions_are_cut_nowhere(self):
+        """On a telephone, and on a projector of 1024 with its tools and without. Who turns the telephone sees lanes."""
         writers = (PAGE / "races/two_writers.script").read_text().partition("\n")[2]
         record = (PAGE / "records/handed_over.record").read_text()
-        for view, state, there in [("sessions", {"script": STORY}, "#given .reply"),
-                                   ("commit", {"calls": CALLS}, "#sequence .reply"),
-                                   ("race", {"script": writers, "runs": 2, "go": 1}, "#history .s3"),
-                                   ("race", {"script": writers, "hand": "1.2.3"}, "#hand-lines .reply"),
-                                   ("judge", {"record": record, "go": 1}, "#picture .s3")]:
-            self.at(view, **state)
-            self.until(lambda there=there: self.browser.all(there), f"{view} is drawn")
-            self.assertEqual((self.browser.run(WIDE), self.browser.run(SIDEWARDS)), (0, []), view)
+        views = [("sessions", {"script": STORY}, "#given .reply"), ("commit", {"calls": CALLS}, "#sequence .reply"),
+                 ("race", {"script": writers, "runs": 2, "go": 1}, "#history .s3"),
+                 ("race", {"script": writers, "hand": "1.2.3"}, "#hand-lines .reply"),
+                 ("judge", {"record": record, "go": 1}, "#picture .s3")]
+        for width, height in ((1024, 768), (390, 844)):
+            self.sized(width, height)
+            for view, state, there in views:
+                self.at(view, **state)
+                self.until(lambda there=there: self.browser.all(there), f"{view} is drawn")
+                for mode in ("plain", "projected") if width > 390 else ("plain",):
+                    if mode == "projected":
+                        self.browser.press("f")
+                        self.until(lambda: not self.browser.one("header").is_displayed(), "no tools")
+                    elif width > 390 and view in ("sessions", "commit"):
+                        self.assert_one_row(view)
+                    self.assertEqual((self.browser.run(WIDE), self.browser.run(SIDEWARDS)), (0, []),
+                                     (width, view, mode))
         said = self.browser.texts("#picture .statement")
         self.assertEqual([it.partition(" > ")[0] for it in said], re.findall(r"(?m)^(\d) >", record))
         self.sized(844, 390)

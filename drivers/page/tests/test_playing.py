@@ -15,6 +15,11 @@ SEEN = """const curtain = document.querySelector('#sequence .curtain');
     const top = curtain ? Number(curtain.getAttribute('y')) : Infinity;
     return [...document.querySelectorAll(`#sequence .call[data-line="${arguments[0]}"] .message`)]
         .filter((it) => it.getBBox().y < top).length;"""
+# The rows beside lifelines at a call that nothing covers.
+ON_TOP = """return [...document.querySelectorAll(`#sequence .call[data-line="${arguments[0]}"] .rows`)].flatMap((it) => {
+    const box = it.querySelector('.rows-box').getBoundingClientRect();
+    const seen = document.elementFromPoint(box.left + 4, box.bottom - 4)?.closest('.rows');
+    return seen ? [[...seen.querySelectorAll('.row')].map((one) => one.textContent).join('')] : []; })"""
 # Who stands otherwise than well, by the heads that stay.
 HEADS = """return [...document.querySelectorAll('#sequence-heads :is(.in-doubt, .gone)')].map((it) =>
     `${it.querySelector('title').textContent}: ${it.matches('.gone') ? 'gone' : 'in doubt'}`)"""
@@ -91,6 +96,20 @@ class Playing(View):
             self.until(lambda rows=rows: self.browser.run(ROWS) == rows, f"{message}: {rows}")
             self.assertEqual(len(self.browser.all("#doubt .card")), doubt, message)
             self.assertEqual(self.browser.texts("#sequence-heads .in-doubt .role"), ["in doubt"] * doubt, message)
+
+    def test_rows_are_seen_with_the_message_that_changed_them(self):
+        """Though they stand beside the next one, which isn't seen yet."""
+        self.open(calls=CALLS, at=FINISH - 1)
+        self.at(FINISH - 1)
+        self.step(FINISH, 1)
+        self.assertEqual(self.browser.run(ON_TOP, FINISH), [])
+        for message, rows in ((2, ["alice10090"]), (4, ["alice10090", "bob100110"])):
+            self.browser.press(Keys.PAGE_DOWN)
+            if message > 2:
+                self.at(FINISH, 3)
+                self.browser.press(Keys.PAGE_DOWN)
+            self.at(FINISH, message)
+            self.until(lambda rows=rows: self.browser.run(ON_TOP, FINISH) == rows, f"{message}: {rows}")
 
     def test_heads_say_who_is_in_doubt_and_who_is_gone(self):
         lines = BLOCKING.splitlines()

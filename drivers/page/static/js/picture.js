@@ -1,5 +1,5 @@
-// The picture of a record: the server makes its SVG, which is shown as it is and saved as it is. On a telephone the
-// narrow one is shown, which is never wider than the screen.
+// The picture of a record: the server makes its SVG, which is shown as it is and saved as it is. The narrow one is
+// shown on a telephone, where it is never wider than the screen, and on a projector that has no room for the lanes.
 import { bringIntoView, el, fill } from "./dom.js";
 import { isProjected } from "./projector.js";
 
@@ -10,12 +10,19 @@ const BESIDE = 24; // and beside it
 const TELEPHONE = "(max-width: 40rem)"; // as the style sheets have it
 
 // Its style stands in a style sheet of the page's own.
+function read(svg) {
+  const [head, , rest] = svg.split(/<\/?style>/);
+  return document.importNode(new DOMParser().parseFromString(head + rest, "image/svg+xml").documentElement, true);
+}
+
 export function drawInto(room, { picture, narrow }) {
-  const isNarrow = matchMedia(TELEPHONE).matches;
-  room.classList.toggle("narrow", isNarrow);
-  const [head, , rest] = (isNarrow ? narrow : picture).split(/<\/?style>/);
-  const made = document.importNode(new DOMParser().parseFromString(head + rest, "image/svg+xml").documentElement, true);
   const units = isProjected() ? PROJECTED : UNITS;
+  const letter = parseFloat(getComputedStyle(document.documentElement).fontSize);
+  const usual = read(picture);
+  const fits = Number(usual.getAttribute("width")) / units * letter <= room.clientWidth;
+  const isNarrow = matchMedia(TELEPHONE).matches || (isProjected() && !fits);
+  const made = isNarrow ? read(narrow) : usual;
+  room.classList.toggle("narrow", isNarrow);
   for (const side of ["width", "height"]) made.setAttribute(side, `${Number(made.getAttribute(side)) / units}rem`);
   fill(room, made);
   room.scrollTo(0, 0);
