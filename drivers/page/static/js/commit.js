@@ -42,7 +42,7 @@ export class Commit {
     this.stops = []; // of the whole lines, or of those that stand here
     this.stopped = null; // the lines of which these are
     this.sequence = new Sequence(byId("sequence"), {
-      go: (place) => this.tape.goTo(place + 1),
+      go: (place) => this.goToLine(place),
       fail: (place, { store, call }) => this.tape.insert(place, [`FAIL ${store} AFTER ${call}`], 1),
       stop: (place) => this.tape.insert(place + 1, ["STOP"]),
       remove: (place) => this.tape.remove(place),
@@ -109,6 +109,12 @@ export class Commit {
   toEnd() {
     this.messages.showAll();
     return this.tape.toEnd();
+  }
+
+  // To the end of a line, also where it is the one whose messages are being shown.
+  goToLine(place) {
+    this.messages.showAll();
+    return this.tape.goTo(place + 1);
   }
 
   goToCall(number) {
