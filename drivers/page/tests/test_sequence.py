@@ -21,9 +21,8 @@ BOXES = """return [...document.querySelectorAll('#sequence svg .label, #sequence
     const box = it.getBBox(); return [box.x, box.y, box.width, box.height, it.textContent]; })"""
 # How many lines were given, whether the drawing is as wide as its room and has all statements, and its calls.
 DRAWN = """const room = document.querySelector('#sequence'), svg = room.querySelector('svg');
-    const isWhole = !document.querySelector('#store-rows').textContent.startsWith('They are being found out');
     return [Number(room.dataset.given ?? 0),
-            isWhole && Number(svg?.getAttribute('width')) === Math.floor(room.clientWidth),
+            room.dataset.whole === 'true' && Number(svg?.getAttribute('width')) === Math.floor(room.clientWidth),
             [...room.querySelectorAll('.call[data-said]')].map((it) => it.dataset.said)]"""
 # The lines that can't be removed, since something else takes the click.
 COVERED = """return [...document.querySelectorAll('#sequence svg .remove')].filter((it) => {

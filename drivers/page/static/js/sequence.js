@@ -126,6 +126,7 @@ export class Sequence {
         ?.focus({ preventScroll: true });
     }
     this.room.dataset.given = asked.at;
+    this.room.dataset.whole = this.isWhole;
     this.drawn();
   }
 
