@@ -243,9 +243,12 @@ class Files(unittest.TestCase):
         with room(probe_seconds=0) as served:
             status, got = ask(served.server_port, "sequence", {"lines": lines})
             self.assertEqual((status, got["whole"]), (200, False))
+            early = got["rows"]
         with room(probe_seconds=60) as served:
             status, got = ask(served.server_port, "sequence", {"lines": lines})
             self.assertEqual((status, got["whole"]), (200, True))
+            self.assertGreater(len(got["rows"]), len(early))
+            self.assertEqual([it for it in early if it not in got["rows"]], [], "what was shown early is so")
             for bad in ({"lines": lines, "at": 99}, {"lines": lines, "width": 1}, {"lines": lines, "size": True},
                         {"lines": lines, "file": 1}, {"lines": "BEGIN"}):
                 self.assertEqual(ask(served.server_port, "sequence", bad)[0], 400)
