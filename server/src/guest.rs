@@ -352,7 +352,7 @@ impl Guest {
         if let Kind::Commit | Kind::Rollback = it.kind {
             if answer.is_ok() && self.state == State::Free {
                 let known = lock(&self.store.prepared).remove(it.subject());
-                known.iter().for_each(|known| self.store.waits.call(&known.rows));
+                known.iter().for_each(|known| self.store.waits.call(&known.rows, &self.connection));
             }
         }
         if answer.is_ok() {

@@ -151,10 +151,11 @@ impl Waits {
         Turn { waits: Arc::clone(self), waiter, has_row: false }
     }
 
-    /// A branch has ended that had these rows: calls those who may have them next.
-    pub fn call(&self, rows: &Rows) {
+    /// A branch of a connection has ended that had these rows: calls those who may have them next. Where the connection
+    /// waits itself, for a row that its branch shared, that was in the way of others alone.
+    pub fn call(&self, rows: &Rows, by: &Connection) {
         if !rows.is_empty() && self.count.load(Ordering::SeqCst) != 0 {
-            call_next(&self.queue(), |key| rows.contains_key(key));
+            call_next(&self.queue(), |it| rows.contains_key(&it.key) && it.connection.number != by.number);
         }
     }
 
@@ -188,8 +189,8 @@ fn has_turn(queue: &[Arc<Waiter>], index: usize) -> bool {
     it.has_share || !queue[..index].iter().any(|other| other.key == it.key && (other.alone || it.alone))
 }
 
-fn call_next(queue: &[Arc<Waiter>], is_meant: impl Fn(&[u8]) -> bool) {
-    let next = |index: &usize| is_meant(&queue[*index].key) && has_turn(queue, *index);
+fn call_next(queue: &[Arc<Waiter>], is_meant: impl Fn(&Waiter) -> bool) {
+    let next = |index: &usize| is_meant(&queue[*index]) && has_turn(queue, *index);
     (0..queue.len()).filter(next).for_each(|index| queue[index].call(Fate::Called));
 }
 
@@ -313,7 +314,7 @@ impl Drop for Turn {
         let mut queue = self.waits.queue();
         queue.retain(|it| !Arc::ptr_eq(it, &self.waiter));
         if !self.has_row {
-            call_next(&queue, |key| key == self.waiter.key);
+            call_next(&queue, |it| it.key == self.waiter.key);
         }
         if self.waits.count.fetch_sub(1, Ordering::SeqCst) == 1 {
             self.waits.pool.keep_one(false);

@@ -584,6 +584,18 @@ class Recorded(Waits):
             self.ok(self.one, "XA START 'g'", add("a"))
         self.commit()
 
+    def test_one_that_has_shared_its_row(self):
+        """It gives its share up with its branch, and sleeps: that it does so is no reason to try again."""
+        self.commit()
+        self.ok(self.one, "BEGIN")
+        self.one.ask("SELECT * FROM t WHERE k = 'a'")
+        later = self.later(self.two, add("a"))
+        for _ in range(100):
+            self.ok(self.watcher, "PUT 'other','x'")
+        self.assertLess(len(self.waits_of()), 8)
+        self.ok(self.one, "COMMIT")
+        self.done(later)
+
     def test_many_calls_at_once(self):
         """Of branches that wait for one row, which each of them changes."""
         self.ok(self.one, "XA END 'g'", "XA PREPARE 'g'")

@@ -257,7 +257,7 @@ impl Guest {
                 look.session = None;
                 std::mem::take(&mut look.rows)
             };
-            self.store.waits.call(&rows);
+            self.store.waits.call(&rows, &self.connection);
         }
     }
 }
