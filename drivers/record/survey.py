@@ -137,7 +137,7 @@ def record_missing(chosen):
     if chosen.socket:
         record_all(chosen, numbers, None)
         return
-    with tempfile.TemporaryDirectory() as room:
+    with tempfile.TemporaryDirectory(dir="/tmp") as room:  # (a folder that TMP names may be closed to postgres)
         server = KINDS[chosen.database][1](room)
         try:
             record_all(chosen, numbers, server)
