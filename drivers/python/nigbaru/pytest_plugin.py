@@ -23,6 +23,7 @@ from .network import Remote
 from .server import Word
 from .xid import Xid
 
+PREPARED = re.compile(r",\d+ PREPARED(,|$)")
 PATIENCE = 60.0  # seconds for anything that has to come
 HOLD = 600  # seconds that a statement is held while its client is killed
 LISTENS = re.compile(r"store \d+ listens on .*:(\d+)")
@@ -214,9 +215,10 @@ class NigbaruServer:
         found = []
         for store in range(1, self.stores + 1):
             with self.connect(store) as connection:
-                rows = [row.split(" ") for row in connection.ask("SHOW NIGBARU STATUS")]
-            found.append(sum(int(row[-1]) for row in rows if row[0] == "connections"))
-            found.append(sum(row[0] == "branch" and row[2] != "PREPARED," for row in rows))
+                rows = connection.ask("SHOW NIGBARU STATUS")
+            found.append(sum(int(row.split(" ")[-1]) for row in rows if row.startswith("connections ")))
+            # (an identifier may have spaces, and the state stands behind it, alone or with what is known of the branch)
+            found.append(sum(row.startswith("branch ") and not PREPARED.search(row) for row in rows))
         return found
 
 

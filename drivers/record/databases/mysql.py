@@ -121,12 +121,21 @@ class Client:
         self.await_end()
 
     def await_end(self):
-        """Waits until the server has ended the connection. It ends its branch before it takes it from the list."""
+        """Waits until the server has ended the connection, and what that left open."""
+        self.await_none(f"SELECT 1 FROM information_schema.processlist WHERE id = {self.thread}", 0.001)
+        if self.in_branch or self.cutting:
+            # A connection is off that list before its branch is rolled back. This one is made anew if nobody has asked
+            # for it for a tenth of a second.
+            self.await_none(f"SELECT 1 FROM information_schema.innodb_trx WHERE trx_mysql_thread_id = {self.thread}", 0.11)
+
+    def await_none(self, question, pause):
         end = time.monotonic() + PATIENCE
-        while self.database.ask(f"SELECT 1 FROM information_schema.processlist WHERE id = {self.thread}"):
+        while True:
+            time.sleep(pause)
+            if not self.database.ask(question):
+                return
             if time.monotonic() > end:
                 raise Fault(f"the server hasn't ended a closed connection after {PATIENCE} seconds")
-            time.sleep(0.001)
 
     def break_off(self):
         """Closes it without a word to the server."""
