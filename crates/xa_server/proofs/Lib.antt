@@ -26,3 +26,4 @@ pub mod Merging
 pub mod Underlying
 pub mod Layers
 pub mod Held
+pub mod Parted

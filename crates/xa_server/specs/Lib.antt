@@ -10,6 +10,7 @@ pub mod Recorded
 pub mod Rows
 pub mod View
 pub mod Layers
+pub mod Parts
 pub mod Merging
 pub mod Errors
 pub mod Overview

@@ -16,6 +16,7 @@ mod keys;
 pub mod laws;
 mod lock;
 mod overview;
+mod part;
 mod reply;
 mod row;
 mod row_table;

@@ -17,7 +17,6 @@ use crate::hold::{HeldRow, held_in};
 use crate::keys::Keys;
 use crate::lock::{Change, Lock};
 use crate::row::{self, RecentRow, RecentValue};
-use crate::run::Run;
 use crate::runs::Runs;
 use crate::shared_text::SharedText;
 use crate::shared_xid::SharedXid;
@@ -231,10 +230,9 @@ impl RowTable {
         if changes.is_empty() {
             return self.same_layers();
         }
-        let run = Run::of(self.alloc, changes)?;
         Ok(RowTable {
             recent: held_records(self.alloc, &self.recent)?,
-            runs: self.runs.with(run)?,
+            runs: self.runs.with(changes)?,
             alloc: self.alloc,
         })
     }

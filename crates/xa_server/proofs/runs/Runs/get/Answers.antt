@@ -1,15 +1,19 @@
-use Rattle.xa_server.proofs.Underlying.{ends_at, goes_on, ends_nowhere}
+use Rattle.std.proofs.Common.{sym, ap, ◌∙◌, arith}
+use Rattle.std.specs.FinMap as map
+use Rattle.xa_xid.specs.Xid.{bytes_cmp}
+use Rattle.xa_server.proofs.Parted.{get-at}
 use Rattle.xa_server.proofs.runs.Runs.get.Goals as goal
 
-pub returns-in-Some-find : goal.returns-in-Some-find
-returns-in-Some-find c =
-    ends_at c.in-Some.run'.now c.in-Some.older.now c.loop-run.left.now c.args.key.now _ _ _ c.in-Some.ensures.cases.0
-    c.loop-run.invariant c.find.ensures c.in-Some-find.is
+pub returns-in-None : goal.returns-in-None
+returns-in-None c =
+    sym (map.get-empty bytes_cmp c.args.key.now)
+    ∙ get-at c.parts.result.now c.args.key.now c.part_of.result map.empty c.part_of.ensures.which
+    (c.in-None.ensures.lookup.4 (omega arith) map.empty)
+    ∙ ap (λ m. map.get m c.args.key.now) c.parts.ensures
 
-pub loop-run-preserved : goal.loop-run-preserved
-loop-run-preserved c =
-    goes_on c.in-Some.run'.now c.in-Some.older.now c.loop-run.left.now c.args.key.now _ _ c.in-Some.ensures.cases.0
-    c.loop-run.invariant c.find.ensures c.in_default-find.is
-
-pub returns : goal.returns
-returns c = ends_nowhere c.loop-run.left.now c.args.key.now _ c.in_default.ensures.cases c.loop-run.invariant
+pub returns-in-Some : goal.returns-in-Some
+returns-in-Some c =
+    c.get-in-Some.ensures
+    ∙ get-at c.parts.result.now c.args.key.now c.part_of.result c.in-Some.part.now c.part_of.ensures.which
+    (c.in-Some.ensures.lookup.4 (omega arith) map.empty)
+    ∙ ap (λ m. map.get m c.args.key.now) c.parts.ensures

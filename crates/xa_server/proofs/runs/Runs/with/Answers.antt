@@ -1,14 +1,20 @@
-use Rattle.xa_server.proofs.Underlying.{merges_one, under_last, over_all}
+use Rattle.std.proofs.Common.{ap, ◌∙◌}
+use Rattle.std.specs.Option.{unwrap_or}
+use Rattle.std.specs.FinMap as map
+use Rattle.std.specs.FinMap.{find, is_sorted}
+use Rattle.xa_xid.specs.Xid.{bytes_cmp}
+use Rattle.xa_server.specs.Parts.{parted, rows_at}
+use Rattle.xa_server.proofs.Parted.{rewritten, sorted_out-ascend, part_below}
 use Rattle.xa_server.proofs.runs.Runs.with.Goals as goal
 
-pub loop-next-preserved : goal.loop-next-preserved
-loop-next-preserved c q =
-    merges_one c.is_empty.result c.loop-next.run c.in-Some.next.now c.in_ok-run.run' c.loop-next.left.now
-    c.in-Some.older.now _ q c.in-Some.ensures.cases.0 (under_last c.in-Some.older.now q c.is_empty.result
-    c.is_empty.ensures)
-    (c.in_ok-run.ensures q) (c.loop-next.invariant q)
+pub all_rewritten-requires : goal.all_rewritten-requires
+all_rewritten-requires c n =
+    ap (λ lists. is_sorted bytes_cmp (rows_at n lists)) c.in_ok-lists.ensures
+    ∙ sorted_out-ascend 64 0 c.args.rows.items c.requires n
 
 pub returns : goal.returns
 returns c q =
-    over_all c.loop-next.run c.loop-next.left.now c.in_ok-in_front.field-0.items _ q c.in_ok-in_front.ensures
-    (c.loop-next.invariant q)
+    ap (λ parts. map.get (parted parts.items) q) c.in_ok-new.ensures.ok
+    ∙ ap (λ parts. map.get (parted parts) q) c.in_ok-parts.ensures
+    ∙ rewritten c.args.rows.items c.parts.result.now _ q c.in_ok-lists.ensures (part_below q)
+    ∙ ap (λ m. unwrap_or (find bytes_cmp q c.args.rows.items) (map.get m q)) c.parts.ensures

@@ -1,7 +1,7 @@
 use Rattle.std.proofs.Common.{◌≡◌, length}
 use Rattle.std.specs.FinMap as map
 use Rattle.xa_server.specs.Layers.{under}
-use Rattle.xa_server.proofs.runs.Runs.get.Given as goal
+use Rattle.xa_server.proofs.part.Part.get.Given as goal
 
 -- the runs that are left have of the row what all have
 abbrev pub invariant-loop-run : goal.invariant-loop-run

@@ -1,5 +1,5 @@
 use Rattle.std.proofs.Common.{◌≡◌, ◌∷◌, take}
-use Rattle.xa_server.proofs.runs.in_front.Given as goal
+use Rattle.xa_server.proofs.part.in_front.Given as goal
 
 -- the run and those so far
 abbrev pub invariant-loop-shared : goal.invariant-loop-shared

@@ -1,5 +1,5 @@
 use Rattle.std.proofs.Common.{◌≡◌, length}
-use Rattle.xa_server.proofs.runs.has_same_runs.Given as goal
+use Rattle.xa_server.proofs.part.has_same_runs.Given as goal
 
 -- where what is left of both is the same, both are
 abbrev pub invariant-loop-run : goal.invariant-loop-run
