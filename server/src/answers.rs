@@ -22,16 +22,6 @@ pub struct Table {
     pub rows: Vec<Vec<Value>>,
 }
 
-impl Table {
-    /// Of a row that was asked for its value.
-    pub fn value(&self) -> Option<&[u8]> {
-        match self.rows.first().and_then(|row| row.first()) {
-            Some(Value::Text(value)) => Some(value),
-            _ => None,
-        }
-    }
-}
-
 #[derive(Clone, Debug, PartialEq, Eq)]
 pub enum Answer {
     /// Done, with so many rows changed.
@@ -39,6 +29,8 @@ pub enum Answer {
     /// The same of rows that were inserted, with the number of the first one that was given one.
     Numbered(u64, u64),
     Refused(Refusal),
+    /// A row's value; none where there is no such row.
+    Value(Option<Vec<u8>>),
     Table(Table),
 }
 
@@ -54,10 +46,15 @@ impl Answer {
         }
     }
 
-    pub fn write(&self, out: &mut Out, status: u16, is_binary: bool) {
+    /// Writes the packets. Values of rows are texts, or bytes.
+    pub fn write(self, out: &mut Out, status: u16, is_binary: bool, has_texts: bool) {
         match self {
-            Answer::Ok(affected) => out.ok(*affected, 0, status),
-            Answer::Numbered(affected, number) => out.ok(*affected, *number, status),
+            Answer::Ok(affected) => out.ok(affected, 0, status),
+            Answer::Numbered(affected, number) => out.ok(affected, number, status),
+            Answer::Value(found) => {
+                let row = found.map(|it| [vec![Value::Text(it)]]);
+                out.table(&value_columns(has_texts), row.as_ref().map_or(&[], |it| &it[..]), status, is_binary);
+            }
             Answer::Refused(it) => out.error(it.number, it.sqlstate, &it.text),
             Answer::Table(it) => out.table(&it.columns, &it.rows, status, is_binary),
         }
@@ -161,14 +158,6 @@ pub fn branch_columns() -> Vec<Column> {
         Column::number("bqual_length"),
         Column::text("data", MOST),
     ]
-}
-
-/// A row's value as a table; none where there is no such row.
-pub fn value(found: Option<Vec<u8>>, is_text: bool) -> Answer {
-    Answer::Table(Table {
-        columns: value_columns(is_text),
-        rows: found.into_iter().map(|it| vec![Value::Text(it)]).collect(),
-    })
 }
 
 /// The rows of XA RECOVER, their data as the client asked.

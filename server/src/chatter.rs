@@ -6,8 +6,9 @@
 //! SERIALIZABLE asks. A name that isn't known is refused, so that a client learns of it.
 use crate::answers::Refusal;
 use crate::sql::{refused, At, Given, Number, Reader, Term, Value};
-use crate::tokens::{quoted_at, words, Placed, Word};
+use crate::tokens::{quoted_at, Placed, Text, Word};
 use crate::variables::Variables;
+use std::borrow::Cow;
 use std::sync::Arc;
 
 /// A text that is read.
@@ -76,6 +77,11 @@ impl Facts {
         self.database.as_deref().and_then(|it| std::str::from_utf8(it).ok())
     }
 
+    /// The database that a refusal names, and that tables are said to be in.
+    pub fn database_name(&self) -> Cow<'_, str> {
+        String::from_utf8_lossy(self.database.as_deref().unwrap_or(b"nigbaru"))
+    }
+
     /// The value of a variable of the server's; none where there is no such one.
     pub fn setting(&self, name: &str) -> Option<Value> {
         let number = |it: usize| Some(Value::Number(Number::whole(it as i128)));
@@ -112,7 +118,7 @@ impl Facts {
 /// Words of a text, taken from the left.
 struct Words<'a> {
     text: &'a [u8],
-    words: &'a [Placed],
+    words: &'a [Placed<'a>],
     facts: &'a Facts,
     /// What is bound to the `?`; in a text that isn't prepared they are no terms.
     given: Option<&'a [Given]>,
@@ -121,16 +127,10 @@ struct Words<'a> {
     refusal: Option<Refusal>,
 }
 
-/// How long a text may be, so that its words take no more memory than a few megabytes.
-const LONGEST: usize = 65_536;
-
 /// What a text is, and how many `?` it has; none if it is nothing that is known.
-pub fn read(text: &[u8], facts: &Facts, given: Option<&[Given]>) -> Option<(Other, usize)> {
-    if text.len() > LONGEST {
-        return None;
-    }
-    let found = words(text);
-    let mut it = Words { text, words: &found, facts, given, parameters: 0, refusal: None };
+pub fn read(read: &Text, facts: &Facts, given: Option<&[Given]>) -> Option<(Other, usize)> {
+    let (text, words) = (read.text, &read.words[..]);
+    let mut it = Words { text, words, facts, given, parameters: 0, refusal: None };
     let other = match it.run()? {
         "set" => it.set()?,
         "show" if it.sees("nigbaru") && it.sees("status") => Other::Status,
@@ -149,7 +149,7 @@ pub fn read(text: &[u8], facts: &Facts, given: Option<&[Given]>) -> Option<(Othe
 }
 
 impl<'a> Words<'a> {
-    fn next(&mut self) -> Option<&'a Word> {
+    fn next(&mut self) -> Option<&'a Word<'a>> {
         let (first, rest) = self.words.split_first()?;
         self.words = rest;
         Some(&first.word)
@@ -479,16 +479,20 @@ mod tests {
         }
     }
 
+    fn heard(text: &str, given: Option<&[Given]>) -> Option<(Other, usize)> {
+        read(&Text::new(text.as_bytes(), &text.to_ascii_lowercase()), &facts(), given)
+    }
+
     /// What a text is; of settings those that have an effect.
     fn said(text: &str) -> Option<Other> {
-        match read(text.as_bytes(), &facts(), None) {
+        match heard(text, None) {
             Some((Other::Set(settings), 0)) => Some(Other::Set(Settings { changes: Vec::new(), ..settings })),
             found => found.map(|(other, _)| other),
         }
     }
 
     fn refused(text: &str) -> u16 {
-        match read(text.as_bytes(), &facts(), None) {
+        match heard(text, None) {
             Some((Other::Refused(it), _)) => it.number,
             other => panic!("{}: {:?}", text, other),
         }
@@ -659,7 +663,7 @@ mod tests {
 
     #[test]
     fn what_is_kept() {
-        let kept = |text: &str| match read(text.as_bytes(), &facts(), None) {
+        let kept = |text: &str| match heard(text, None) {
             Some((Other::Set(settings), 0)) => settings.changes,
             other => panic!("{}: {:?}", text, other),
         };
@@ -676,12 +680,12 @@ mod tests {
         );
         assert_eq!(kept("SET sql_mode = ANSI"), [Change::Variable("sql_mode".to_string(), Some(text("ANSI")))]);
         let bound = [Given { value: Some(b"v".to_vec()), is_number: false }];
-        match read(b"SET @a = ?", &facts(), Some(&bound)) {
+        match heard("SET @a = ?", Some(&bound)) {
             Some((Other::Set(it), 1)) => assert_eq!(it.changes, [Change::User("a".to_string(), text("v"))]),
             other => panic!("{:?}", other),
         }
-        assert_eq!(read(b"DO ?, 1, ?", &facts(), Some(&[])), Some((Other::Nothing, 2)));
-        assert_eq!(read(b"DO ?", &facts(), None), None);
+        assert_eq!(heard("DO ?, 1, ?", Some(&[])), Some((Other::Nothing, 2)));
+        assert_eq!(heard("DO ?", None), None);
     }
 
     #[test]

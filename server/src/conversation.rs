@@ -11,7 +11,7 @@ use crate::sql::{self, Asked, Sql};
 use crate::statements::{self, Kind, Statement};
 use crate::store::{lock, Connection, Store};
 use crate::tls::Keys;
-use crate::tokens;
+use crate::tokens::{self, Text};
 use std::collections::HashMap;
 use std::sync::atomic::Ordering;
 use std::sync::Arc;
@@ -63,7 +63,7 @@ pub struct Conversation {
 
 /// Sends a refusal of the server's own before there is a session.
 pub fn refuse(channel: &mut Channel, refused: Refusal) -> Result<(), End> {
-    Answer::Refused(refused).write(&mut channel.out, packets::status::NONE, false);
+    Answer::Refused(refused).write(&mut channel.out, packets::status::NONE, false, false);
     channel.send()
 }
 
@@ -169,7 +169,7 @@ impl Conversation {
 
     fn commands(&mut self) -> Result<(), End> {
         self.channel.has_logged_in();
-        self.answer(&OK, false)?;
+        self.answer(OK, false)?;
         let mut packet = Vec::new();
         while !self.store.stop.is_over() {
             self.channel.receive(&mut packet)?;
@@ -181,17 +181,18 @@ impl Conversation {
         Ok(())
     }
 
-    fn answer(&mut self, answer: &Answer, is_binary: bool) -> Result<(), End> {
+    fn answer(&mut self, answer: Answer, is_binary: bool) -> Result<(), End> {
         self.write(answer, is_binary, packets::status::NONE);
         self.channel.send()
     }
 
     /// Writes an answer, with flags beside those of the client's state.
-    fn write(&mut self, answer: &Answer, is_binary: bool, flags: u16) {
-        if let Answer::Refused(it) = answer {
+    fn write(&mut self, answer: Answer, is_binary: bool, flags: u16) {
+        if let Answer::Refused(it) = &answer {
             self.connection.counts.count_refusal(it.number);
         }
-        answer.write(&mut self.channel.out, self.guest.status() | flags, is_binary);
+        let status = self.guest.status() | flags;
+        answer.write(&mut self.channel.out, status, is_binary, self.store.has_texts);
     }
 
     // commands
@@ -202,7 +203,7 @@ impl Conversation {
             command::QUERY => self.queries(rest),
             command::STMT_EXECUTE => {
                 let answer = self.execute(packet)?;
-                self.answer(&answer, true)
+                self.answer(answer, true)
             }
             command::STMT_PREPARE => self.prepare(rest),
             command::STMT_SEND_LONG_DATA => self.keep_long_data(packet),
@@ -212,28 +213,28 @@ impl Conversation {
             }
             command::STMT_RESET => {
                 let answer = self.reset_prepared(packet)?;
-                self.answer(&answer, false)
+                self.answer(answer, false)
             }
             command::QUIT => Err(End::Quit),
             command::INIT_DB => {
                 self.use_database(rest);
-                self.answer(&OK, false)
+                self.answer(OK, false)
             }
-            command::PING => self.answer(&OK, false),
+            command::PING => self.answer(OK, false),
             command::CHANGE_USER => self.change_user(packet),
             command::RESET_CONNECTION => {
                 let answer = self.reset()?;
-                self.answer(&answer, false)
+                self.answer(answer, false)
             }
             command::PROCESS_INFO => self.queries(b"SHOW PROCESSLIST"),
             command::PROCESS_KILL => {
                 let connection = packets::statement_number(packet)?.into();
                 let answer = self.other(Other::Kill { connection, is_query: false })?;
-                self.answer(&answer, false)
+                self.answer(answer, false)
             }
             command::SHUTDOWN => {
                 let answer = self.other(Other::ShutDown)?;
-                self.answer(&answer, false)
+                self.answer(answer, false)
             }
             // No table has a column.
             command::SET_OPTION | command::FIELD_LIST | command::DEBUG => {
@@ -246,7 +247,7 @@ impl Conversation {
                 self.channel.send()
             }
             command::STATISTICS => self.statistics(),
-            _ => self.answer(&refusal(1047).into(), false),
+            _ => self.answer(refusal(1047).into(), false),
         }
     }
 
@@ -286,7 +287,7 @@ impl Conversation {
         self.reset()?;
         self.use_database(&login.database);
         self.prove(&login)?;
-        self.answer(&OK, false)
+        self.answer(OK, false)
     }
 
     // texts
@@ -309,11 +310,15 @@ impl Conversation {
     /// read.
     fn queries(&mut self, text: &[u8]) -> Result<(), End> {
         let is_one = self.can & packets::can::MULTI_STATEMENTS == 0 || !text.contains(&b';');
-        let all = if is_one { vec![text] } else { tokens::statements(text) };
+        if is_one {
+            let answer = self.query(text)?;
+            return self.answer(answer, false);
+        }
+        let all = tokens::statements(text);
         for (index, text) in all.iter().enumerate() {
             let answer = self.query(text)?;
             let is_last = index + 1 == all.len() || matches!(answer, Answer::Refused(_));
-            self.write(&answer, false, if is_last { packets::status::NONE } else { packets::status::MORE });
+            self.write(answer, false, if is_last { packets::status::NONE } else { packets::status::MORE });
             if is_last {
                 break;
             }
@@ -323,36 +328,27 @@ impl Conversation {
 
     /// A text: a statement of the store, or one of the others that are known.
     fn query(&mut self, text: &[u8]) -> Result<Answer, End> {
-        match statements::read(text) {
-            Ok(statement) => self.statement(&statement),
-            Err(fault) => match chatter::read(text, &self.facts(), None) {
-                Some((other, _)) => self.other(other),
-                None => match sql::read(text, &self.database_name(), None) {
-                    Some(Ok(sql)) => self.sql(&sql),
-                    Some(Err(place)) => Ok(sql::not_taken(text, place).into()),
-                    None => Ok(syntax(text, fault).into()),
-                },
-            },
+        let fault = match statements::read(text) {
+            Ok(statement) => return self.statement(&statement),
+            Err(fault) => fault,
+        };
+        let (small, facts) = (tokens::small(text), self.facts());
+        let text = Text::new(text, &small);
+        if let Some((other, _)) = chatter::read(&text, &facts, None) {
+            return self.other(other);
+        }
+        match sql::read(&text, &facts.database_name(), None) {
+            Some(Ok(sql)) => self.sql(&sql, &facts),
+            Some(Err(place)) => Ok(sql::not_taken(&text, place).into()),
+            None => Ok(syntax(text.text, fault).into()),
         }
     }
 
-    /// The database that a refusal names, and that tables are said to be in.
-    fn database_name(&self) -> String {
-        self.database.as_ref().map_or("nigbaru".to_string(), |it| String::from_utf8_lossy(it).into_owned())
-    }
-
     /// A statement of SQL.
-    fn sql(&mut self, sql: &Sql) -> Result<Answer, End> {
+    fn sql(&mut self, sql: &Sql, facts: &Facts) -> Result<Answer, End> {
         self.connection.counts.count(None);
-        let (database, facts) = (self.database_name(), self.facts());
         let counts_found = self.can & packets::can::FOUND_ROWS != 0;
-        sql::answer(&mut self.guest, &Asked { sql, database: &database, facts: &facts, counts_found })
-    }
-
-    /// The columns that a statement of SQL gives.
-    fn columns(&mut self, sql: &Sql) -> Result<Vec<Column>, Refusal> {
-        let (database, facts) = (self.database_name(), self.facts());
-        sql::columns_of(&mut self.guest, &Asked { sql, database: &database, facts: &facts, counts_found: false })
+        sql::answer(&mut self.guest, &Asked { sql, database: &facts.database_name(), facts, counts_found })
     }
 
     /// A statement, with the fault that is meant for it.
@@ -455,7 +451,7 @@ impl Conversation {
     fn prepare(&mut self, text: &[u8]) -> Result<(), End> {
         let (parameters, columns, form) = match self.preparation(text) {
             Ok(found) => found,
-            Err(refused) => return self.answer(&refused.into(), false),
+            Err(refused) => return self.answer(refused.into(), false),
         };
         let held: usize = self.prepared.values().map(|it| it.text.len()).sum();
         if self.prepared.len() >= PREPARED || text.len() > LONGEST_PREPARED || held + text.len() > ALL_PREPARED {
@@ -463,7 +459,7 @@ impl Conversation {
                 "more than {} prepared statements, or one of more than {} bytes, or all of more than {}",
                 PREPARED, LONGEST_PREPARED, ALL_PREPARED
             );
-            return self.answer(&refusal_with(1295, why).into(), false);
+            return self.answer(refusal_with(1295, why).into(), false);
         }
         self.last = self.last.wrapping_add(1);
         let it = Prepared { text: text.to_vec(), parameters, form, kinds: Vec::new(), long: vec![None; parameters] };
@@ -474,17 +470,27 @@ impl Conversation {
 
     /// Of a text the number of its `?`, what it gives, and what it is.
     fn preparation(&mut self, text: &[u8]) -> Result<(usize, Vec<Column>, Form), Refusal> {
-        match statements::count_parameters(text) {
-            Ok((statement, parameters)) => Ok((parameters, columns_of(&self.store, statement.kind), Form::Statement)),
-            Err(fault) => match chatter::read(text, &self.facts(), Some(&[])) {
-                Some((Other::Status, _)) => Err(refusal(1295)),
-                Some((_, parameters)) => Ok((parameters, Vec::new(), Form::Other)),
-                None => match sql::count_parameters(text, &self.database_name()) {
-                    Some(Ok((found, parameters))) => Ok((parameters, self.columns(&found)?, Form::Sql)),
-                    Some(Err(place)) => Err(sql::not_taken(text, place)),
-                    None => Err(syntax(text, fault)),
-                },
-            },
+        let fault = match statements::count_parameters(text) {
+            Ok((statement, parameters)) => {
+                return Ok((parameters, columns_of(&self.store, statement.kind), Form::Statement));
+            }
+            Err(fault) => fault,
+        };
+        let (small, facts) = (tokens::small(text), self.facts());
+        let text = Text::new(text, &small);
+        match chatter::read(&text, &facts, Some(&[])) {
+            Some((Other::Status, _)) => return Err(refusal(1295)),
+            Some((_, parameters)) => return Ok((parameters, Vec::new(), Form::Other)),
+            None => (),
+        }
+        let database = &facts.database_name();
+        match sql::count_parameters(&text, database) {
+            Some(Ok((sql, parameters))) => {
+                let asked = Asked { sql: &sql, database, facts: &facts, counts_found: false };
+                Ok((parameters, sql::columns_of(&mut self.guest, &asked)?, Form::Sql))
+            }
+            Some(Err(place)) => Err(sql::not_taken(&text, place)),
+            None => Err(syntax(text.text, fault)),
         }
     }
 
@@ -500,14 +506,16 @@ impl Conversation {
         let bound = match read {
             Ok(values) if it.form != Form::Statement => {
                 let (text, given, form) = (it.text.clone(), sql::given(values, &it.kinds), it.form);
+                let (small, facts) = (tokens::small(&text), self.facts());
+                let text = Text::new(&text, &small);
                 if form == Form::Other {
-                    return match chatter::read(&text, &self.facts(), Some(&given)) {
+                    return match chatter::read(&text, &facts, Some(&given)) {
                         Some((other, _)) => self.other(other),
                         None => Ok(refusal(1210).into()),
                     };
                 }
-                return match sql::read(&text, &self.database_name(), Some(&given)) {
-                    Some(Ok(sql)) => self.sql(&sql),
+                return match sql::read(&text, &facts.database_name(), Some(&given)) {
+                    Some(Ok(sql)) => self.sql(&sql, &facts),
                     _ => Ok(refusal(1210).into()),
                 };
             }

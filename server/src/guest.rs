@@ -73,6 +73,9 @@ pub struct Guest {
     has_begun: bool,
     /// The identifier of the local transaction's branch.
     own: Option<Xid>,
+    /// With what these identifiers begin, which nobody can foresee, and how many there were.
+    names: Option<[u8; 20]>,
+    named: u64,
     /// What undoes the changes since the first savepoint, or since a statement of SQL began, the last one first.
     undo: Vec<Statement>,
     /// Savepoints, each with the number of changes that came before it.
@@ -103,6 +106,8 @@ impl Guest {
             access: None,
             has_begun: false,
             own: None,
+            names: None,
+            named: 0,
             undo: Vec::new(),
             savepoints: Vec::new(),
             turn: None,
@@ -183,7 +188,8 @@ impl Guest {
     /// Asks the store for a statement of the server's own, about its branch.
     fn ask_own(&mut self, verb: &str, asked: Asked, xid: &Xid, clause: &str) -> Result<Answer, End> {
         let kind = Some(Kind::Start).filter(|_| matches!(asked, Asked::Start(_)));
-        self.ask(&[verb.as_bytes(), &canonical(xid), clause.as_bytes()].concat(), asked, kind, Shape::Raw)
+        let text = self.store.record.as_ref().map(|_| [verb.as_bytes(), &canonical(xid), clause.as_bytes()].concat());
+        self.ask(&text.unwrap_or_default(), asked, kind, Shape::Raw)
     }
 
     /// Asks the store, and answers. The record has the statement's canonical text. A session that is borrowed is kept
@@ -233,8 +239,8 @@ impl Guest {
         let is_change = matches!(kind, Some(Kind::Put | Kind::Del));
         match reply {
             Ok(Reply::Ok) => Ok(Answer::Ok(u64::from(is_change))),
-            Ok(Reply::Value(value)) => Ok(answers::value(Some(value), self.store.has_texts)),
-            Ok(Reply::NoRow) => Ok(answers::value(None, self.store.has_texts)),
+            Ok(Reply::Value(value)) => Ok(Answer::Value(Some(value))),
+            Ok(Reply::NoRow) => Ok(Answer::Value(None)),
             Ok(Reply::List(xids)) => Ok(answers::branches(&xids, shape)),
             Err(Error::Refused(1399)) => Ok(wrong_state(state).into()),
             Err(Error::Refused(number)) => Ok(refusal(number as u16).into()),
@@ -414,14 +420,25 @@ impl Guest {
         self.start_own(Need::Branch)
     }
 
+    /// An identifier of a branch of the server's own.
+    fn next_name(&mut self) -> Result<Xid, End> {
+        let random = match self.names {
+            Some(random) => random,
+            None => login::scramble().map_err(|fault| End::Wrong(format!("no random name: {}", fault)))?,
+        };
+        self.names = Some(random);
+        self.named += 1;
+        let gtrid = [&b"local "[..], &random, &self.named.to_be_bytes()].concat();
+        Ok(Xid { format_id: 1, gtrid, bqual: Vec::new() })
+    }
+
     /// Starts a branch of the server's own. The store's refusal, if it gives one.
     fn start_own(&mut self, need: Need) -> Result<Option<Answer>, End> {
         match self.borrow(need)? {
             Ok(lent) => self.lent = Some(lent),
             Err(refused) => return Ok(Some(refused.into())),
         }
-        let random = login::scramble().map_err(|fault| End::Wrong(format!("no random name: {}", fault)))?;
-        let own = Xid { format_id: 1, gtrid: [&b"local "[..], &random].concat(), bqual: Vec::new() };
+        let own = self.next_name()?;
         let answer = self.ask_own("XA START ", Asked::Start(&own), &own, "")?;
         if let Answer::Refused(_) = answer {
             return Ok(Some(answer));
@@ -617,9 +634,9 @@ impl Guest {
     /// Keeps what undoes a PUT or DEL of the client's: what a GET of its row answers. The refusal if the row is locked.
     fn remember(&mut self, get: &Statement) -> Result<Answer, End> {
         let answer = self.ask_for_row(get)?;
-        if let Answer::Table(table) = &answer {
+        if let Answer::Value(found) = &answer {
             let key = get.key();
-            self.undo.push(match table.value() {
+            self.undo.push(match found {
                 Some(value) => statements::of_row(Kind::Put, &key, value),
                 None => statements::of_row(Kind::Del, &key, b""),
             });
@@ -646,7 +663,7 @@ impl Guest {
     /// The refusal of whatever touches rows, where the work of the client's branch has ended.
     pub fn is_idle(&self) -> Option<Answer> {
         let has_ended = matches!(self.state, State::Idle | State::RollbackOnly);
-        Some(wrong_state(self.state.name()).into()).filter(|_| has_ended)
+        has_ended.then(|| wrong_state(self.state.name()).into())
     }
 
     pub fn set_savepoint(&mut self, name: String) -> Answer {

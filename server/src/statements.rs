@@ -296,7 +296,7 @@ pub fn bind(text: &[u8], parameters: &[Parameter]) -> Result<Statement, Fault> {
 impl<'a> Reader<'a> {
     fn new(text: &'a [u8], given: Option<&'a [Parameter]>) -> Reader<'a> {
         let (token, end) = next_token(text, 0);
-        let (written, literals) = (Vec::with_capacity(64), Vec::with_capacity(2));
+        let (written, literals) = (Vec::new(), Vec::new());
         Reader { text, given, parameters: 0, token, end, written, literals, format_id: 1, has_clause: false }
     }
 
@@ -418,6 +418,7 @@ impl<'a> Reader<'a> {
 
     fn read(&mut self) -> Result<Statement, Fault> {
         let verb = self.word(&["XA", "GET", "PUT", "DEL"])?;
+        (self.written, self.literals) = (Vec::with_capacity(64), Vec::with_capacity(2));
         let statement = if verb == "XA" { self.xa()? } else { self.row(verb)? };
         self.sees(";");
         if !self.token.word.is_empty() || self.token.place != self.text.len() {
@@ -552,7 +553,8 @@ pub fn of_row(kind: Kind, key: &[u8], value: &[u8]) -> Statement {
         Kind::Put => (b"PUT ", value),
         _ => (b"DEL ", b""),
     };
-    let mut text = verb.to_vec();
+    let mut text = Vec::with_capacity(verb.len() + 2 * (key.len() + value.len()) + 8);
+    text.extend(verb);
     write_literal(&mut text, key);
     let subject = (verb.len(), text.len());
     if kind == Kind::Put {
@@ -564,11 +566,12 @@ pub fn of_row(kind: Kind, key: &[u8], value: &[u8]) -> Statement {
 
 /// The canonical text of an identifier.
 pub fn canonical(xid: &Xid) -> Vec<u8> {
-    let mut text = Vec::new();
+    let mut text = Vec::with_capacity(2 * (xid.gtrid.len() + xid.bqual.len()) + 32);
     write_literal(&mut text, &xid.gtrid);
     text.push(b',');
     write_literal(&mut text, &xid.bqual);
-    text.extend(format!(",{}", xid.format_id).as_bytes());
+    text.push(b',');
+    text.extend(xid.format_id.to_string().as_bytes());
     text
 }
 
@@ -579,10 +582,10 @@ pub fn write_literal(to: &mut Vec<u8>, data: &[u8]) {
         to.extend(b"X''");
         return;
     }
+    to.reserve(2 + 2 * data.len());
     to.extend(b"0x");
     for byte in data {
-        to.push(DIGITS[usize::from(byte >> 4)]);
-        to.push(DIGITS[usize::from(byte & 15)]);
+        to.extend([DIGITS[usize::from(byte >> 4)], DIGITS[usize::from(byte & 15)]]);
     }
 }
 

@@ -46,10 +46,17 @@ pub struct Look {
 pub struct Doing {
     pub user: Vec<u8>,
     pub database: Option<Vec<u8>>,
-    /// The text that is answered just now, or its beginning.
-    pub text: Option<Vec<u8>>,
+    /// The text that is answered just now, or its beginning; of the last one where none is.
+    text: Vec<u8>,
+    is_asked: bool,
     /// When that came, or the last one was answered.
     pub since: Instant,
+}
+
+impl Doing {
+    pub fn text(&self) -> Option<&[u8]> {
+        Some(&self.text[..]).filter(|_| self.is_asked)
+    }
 }
 
 /// How much of a text is listed.
@@ -70,7 +77,11 @@ impl Connection {
     /// A text comes, or none any more.
     pub fn does(&self, text: Option<&[u8]>) {
         let mut doing = lock(&self.doing);
-        doing.text = text.map(|it| it[..it.len().min(LISTED)].to_vec());
+        doing.is_asked = text.is_some();
+        if let Some(text) = text {
+            doing.text.clear();
+            doing.text.extend(&text[..text.len().min(LISTED)]);
+        }
         doing.since = Instant::now();
     }
 }
@@ -246,7 +257,13 @@ impl Store {
             stream,
             has_logged_in: AtomicBool::new(false),
             look: Mutex::new(Look { session: None, branch: None, since: Instant::now(), rows: Rows::new() }),
-            doing: Mutex::new(Doing { user: Vec::new(), database: None, text: None, since: Instant::now() }),
+            doing: Mutex::new(Doing {
+                user: Vec::new(),
+                database: None,
+                text: Vec::new(),
+                is_asked: false,
+                since: Instant::now(),
+            }),
             counts: Counts::default(),
         });
         lock(&self.connections).insert(number, Arc::clone(&connection));

@@ -1,4 +1,5 @@
 //! The tokens that all texts are made of: blanks and comments, quoted texts, runs of word bytes, and single signs.
+use std::borrow::Cow;
 
 /// How many bytes a literal may have.
 pub const LONGEST: usize = 64;
@@ -58,7 +59,7 @@ pub fn run_at(text: &[u8], place: usize) -> &[u8] {
 /// What a quoted text stands for that begins at a place, and where it ends; none where it isn't closed.
 pub fn quoted_at(text: &[u8], place: usize) -> Option<(Vec<u8>, usize)> {
     let quote = text[place];
-    let mut data = Vec::new();
+    let mut data = Vec::with_capacity(LONGEST);
     let mut at = place + 1;
     loop {
         let byte = *text.get(at)?;
@@ -92,28 +93,49 @@ fn push_escaped(data: &mut Vec<u8>, byte: u8) {
 
 /// A token of a text that is no statement of the store.
 #[derive(Clone, Debug, PartialEq, Eq)]
-pub enum Word {
+pub enum Word<'a> {
     /// A run of word bytes in small letters.
-    Run(String),
+    Run(Cow<'a, str>),
     Quoted(Vec<u8>),
     Sign(u8),
 }
 
 /// A word, and where it stands in the text.
 #[derive(Clone, Debug, PartialEq, Eq)]
-pub struct Placed {
-    pub word: Word,
+pub struct Placed<'a> {
+    pub word: Word<'a>,
     pub begin: usize,
     pub end: usize,
 }
 
+/// A text that is no statement of the store, and its words.
+pub struct Text<'a> {
+    pub text: &'a [u8],
+    pub words: Vec<Placed<'a>>,
+}
+
+/// How long such a text may be, so that its words take no more memory than a few megabytes.
+const LONGEST_TEXT: usize = 65_536;
+
+/// A text with small letters in place of the capitals A to Z; nothing if it isn't UTF-8.
+pub fn small(text: &[u8]) -> String {
+    std::str::from_utf8(text).map_or(String::new(), str::to_ascii_lowercase)
+}
+
+impl<'a> Text<'a> {
+    /// A text, which is `small` in small letters. One that is too long has no words, so nothing takes it.
+    pub fn new(text: &'a [u8], small: &'a str) -> Text<'a> {
+        Text { text, words: if text.len() <= LONGEST_TEXT { words(text, small) } else { Vec::new() } }
+    }
+}
+
 /// The words of a text, without comments and without a `;` at its end. A backquoted name is a run. What stands in
 /// `/*! .. */` belongs to the text, as in MySQL.
-pub fn words(text: &[u8]) -> Vec<Placed> {
-    let (mut found, mut is_open) = (Vec::new(), false);
+fn words<'a>(text: &'a [u8], small: &'a str) -> Vec<Placed<'a>> {
+    let (mut found, mut is_open) = (Vec::with_capacity(text.len() / 4), false);
     let mut begin = next_word(text, 0, &mut is_open);
     while begin < text.len() {
-        let (word, end) = word_at(text, begin);
+        let (word, end) = word_at(text, small, begin);
         found.push(Placed { word, begin, end });
         begin = next_word(text, end, &mut is_open);
     }
@@ -132,7 +154,7 @@ pub fn statements(text: &[u8]) -> Vec<&[u8]> {
     let (mut found, mut is_open, mut from, mut has_words) = (Vec::new(), false, 0, false);
     let mut begin = next_word(text, 0, &mut is_open);
     while begin < text.len() {
-        let (word, end) = word_at(text, begin);
+        let (word, end) = word_at(text, "", begin);
         let is_end = !is_open && word == Word::Sign(b';');
         if is_end && has_words {
             found.push(&text[from..begin]);
@@ -179,16 +201,19 @@ fn version_at(text: &[u8]) -> (u32, usize) {
     (digits.iter().fold(0, |number, digit| number * 10 + u32::from(digit - b'0')), digits.len())
 }
 
-fn word_at(text: &[u8], begin: usize) -> (Word, usize) {
+fn word_at<'a>(text: &[u8], small: &'a str, begin: usize) -> (Word<'a>, usize) {
+    let lowered = |run: &[u8]| Cow::Owned(String::from_utf8_lossy(run).to_lowercase());
     match text[begin] {
         b'\'' | b'"' | b'`' => match quoted_at(text, begin) {
-            Some((data, end)) if text[begin] == b'`' => (Word::Run(String::from_utf8_lossy(&data).to_lowercase()), end),
+            Some((data, end)) if text[begin] == b'`' => (Word::Run(lowered(&data)), end),
             Some((data, end)) => (Word::Quoted(data), end),
             None => (Word::Sign(text[begin]), begin + 1),
         },
         byte if is_word_byte(byte) => {
             let run = run_at(text, begin);
-            (Word::Run(String::from_utf8_lossy(run).to_lowercase()), begin + run.len())
+            let end = begin + run.len();
+            let plain = small.get(begin..end).filter(|it| it.is_ascii());
+            (Word::Run(plain.map_or_else(|| lowered(run), Cow::Borrowed)), end)
         }
         sign => (Word::Sign(sign), begin + 1),
     }
@@ -223,10 +248,22 @@ mod tests {
         }
     }
 
+    fn spelled(text: &str) -> Vec<Word<'static>> {
+        let small = small(text.as_bytes());
+        let own = |it: Placed| match it.word {
+            Word::Run(run) => Word::Run(Cow::Owned(run.into_owned())),
+            Word::Quoted(data) => Word::Quoted(data),
+            Word::Sign(sign) => Word::Sign(sign),
+        };
+        words(text.as_bytes(), &small).into_iter().map(own).collect()
+    }
+
+    fn run(text: &str) -> Word<'_> {
+        Word::Run(Cow::Borrowed(text))
+    }
+
     #[test]
     fn other_texts() {
-        let spelled = |text: &str| words(text.as_bytes()).into_iter().map(|it| it.word).collect::<Vec<_>>();
-        let run = |text: &str| Word::Run(text.to_string());
         assert_eq!(spelled("SELECT @@A -- x\n;;"), [run("select"), Word::Sign(b'@'), Word::Sign(b'@'), run("a")]);
         assert_eq!(
             spelled("set `N`='Two  Words'"),
@@ -237,8 +274,6 @@ mod tests {
 
     #[test]
     fn comments_that_are_carried_out() {
-        let spelled = |text: &str| words(text.as_bytes()).into_iter().map(|it| it.word).collect::<Vec<_>>();
-        let run = |text: &str| Word::Run(text.to_string());
         assert!(crate::packets::VERSION.starts_with("8.0.36"));
         for text in [
             "a b",

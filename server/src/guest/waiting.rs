@@ -44,10 +44,9 @@ impl Guest {
         if it.kind == Kind::Get && !self.is_within() {
             patience = Duration::ZERO;
         }
-        let get = statements::of_row(Kind::Get, &it.key(), b"");
         loop {
             self.begin_try();
-            let answer = self.try_row(it, &get, kept, !patience.is_zero())?;
+            let answer = self.try_row(it, kept, !patience.is_zero())?;
             if !is_held(&answer) || patience.is_zero() {
                 return Ok(answer);
             }
@@ -63,12 +62,13 @@ impl Guest {
     }
 
     /// Asks for a row, and before that for what undoes the change, unless that is kept already.
-    fn try_row(&mut self, it: &Statement, get: &Statement, kept: usize, waits: bool) -> Result<Answer, End> {
+    fn try_row(&mut self, it: &Statement, kept: usize, waits: bool) -> Result<Answer, End> {
         let reads_first = self.keeps_undo(it) && self.undo.len() == kept;
+        let get = Some(it).filter(|_| reads_first).map(|it| statements::of_row(Kind::Get, &it.key(), b""));
         if waits && self.would_pass(it) {
-            return Ok(self.leave_unasked(if reads_first { get } else { it }));
+            return Ok(self.leave_unasked(get.as_ref().unwrap_or(it)));
         }
-        if reads_first {
+        if let Some(get) = &get {
             if let refused @ Answer::Refused(_) = self.remember(get)? {
                 return Ok(refused);
             }
@@ -95,8 +95,7 @@ impl Guest {
     /// A statement tries to have a row. If it has tried before, rows that it has by that don't count.
     pub fn begin_try(&mut self) {
         if self.turn.is_none() {
-            let has_rows = !lock(&self.connection.look).rows.is_empty();
-            self.is_fresh = !self.is_within() || self.own.is_some() && !has_rows;
+            self.is_fresh = !self.is_within() || self.own.is_some() && lock(&self.connection.look).rows.is_empty();
         }
     }
 
@@ -250,13 +249,15 @@ impl Guest {
     /// Gives the session back, and calls those who wait for the branch's rows.
     pub(super) fn give_back(&mut self) {
         self.end_call();
-        if self.lent.take().is_some() {
-            let rows = {
-                let mut look = lock(&self.connection.look);
-                look.branch = None;
-                look.session = None;
-                std::mem::take(&mut look.rows)
-            };
+        if self.lent.take().is_none() {
+            return;
+        }
+        let mut look = lock(&self.connection.look);
+        if look.branch.is_some() || !look.rows.is_empty() {
+            look.branch = None;
+            look.session = None;
+            let rows = std::mem::take(&mut look.rows);
+            drop(look);
             self.store.waits.call(&rows, &self.connection);
         }
     }

@@ -309,7 +309,7 @@ fn insert(rows: &mut Rows, asked: &Asked, it: &Insert) -> Done<Answer> {
         _ => Vec::new(),
     };
     let name = table.full_name(rows.database);
-    let mut numbers = Numbers::new(&table, it.rows.len(), asked.facts.keeps_zero());
+    let mut numbers = Numbers::new(&table, it.rows.len(), table.is_numbered() && asked.facts.keeps_zero());
     let done = write(rows, |rows| {
         let mut affected = 0;
         for (index, literals) in it.rows.iter().enumerate() {

@@ -29,8 +29,8 @@ pub struct Rows<'a> {
     pub store: Arc<Store>,
     /// The database that refusals name.
     pub database: &'a str,
-    /// How long the statement waits for each row that it needs.
-    pub patience: Duration,
+    /// How long the statement waits for each row that it needs, if not for as long as the connection has set.
+    pub patience: Option<Duration>,
 }
 
 /// The answer of a store as what it means here.
@@ -48,14 +48,18 @@ pub fn no_table(table: &str, database: &str) -> Refusal {
 
 impl<'a> Rows<'a> {
     pub fn new(guest: &'a mut Guest, database: &'a str) -> Rows<'a> {
-        let (store, patience) = (guest.store(), guest.lock_wait());
-        Rows { guest, store, database, patience }
+        let store = guest.store();
+        Rows { guest, store, database, patience: None }
+    }
+
+    fn patience(&self) -> Duration {
+        self.patience.unwrap_or_else(|| self.guest.lock_wait())
     }
 
     /// Another branch holds a row that the statement needs, or others wait for it: queues up for it, unless it has.
     /// Whether it did so just now, so that the row is tried once more.
     fn queue_up(&mut self, key: &[u8], alone: bool) -> Done<bool> {
-        if self.patience.is_zero() {
+        if self.patience().is_zero() {
             return Err(too_late().into());
         }
         Ok(self.guest.queue_up_for(key, alone))
@@ -63,7 +67,8 @@ impl<'a> Rows<'a> {
 
     /// Sleeps until the row may be free, unless it is to be tried at once. Nothing is latched now.
     fn sleep(&mut self, is_new: bool) -> Done<()> {
-        self.guest.sleep(is_new, self.patience)?.map_or(Ok(()), |refused| Err(refused.into()))
+        let patience = self.patience();
+        self.guest.sleep(is_new, patience)?.map_or(Ok(()), |refused| Err(refused.into()))
     }
 
     fn wait_for(&mut self, key: &[u8], alone: bool) -> Done<()> {
@@ -75,8 +80,8 @@ impl<'a> Rows<'a> {
 
     fn try_get(&mut self, key: &[u8]) -> Done<Got<Option<Vec<u8>>>> {
         Ok(match got(self.guest.get(key)?)? {
-            Got::Is(Answer::Table(table)) => Got::Is(table.value().map(<[u8]>::to_vec)),
-            Got::Is(_) => return Err(Stop::End(End::Wrong("a GET isn't answered by a table".to_string()))),
+            Got::Is(Answer::Value(found)) => Got::Is(found),
+            Got::Is(_) => return Err(Stop::End(End::Wrong("a GET isn't answered by a value".to_string()))),
             Got::Held => Got::Held,
         })
     }

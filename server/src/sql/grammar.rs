@@ -4,12 +4,11 @@ pub use super::reader::{Given, Untaken};
 use super::reader::{Read, Reader};
 use super::show::Show;
 use super::value::{Column, Form, Literal, Number, Type, Value, LONG, MOST_DIGITS};
-use crate::tokens::words;
+use crate::tokens::Text;
 
-/// How many brackets may stand within one another, how many conditions a WHERE may have, and how long a text may be.
+/// How many brackets may stand within one another, and how many conditions a WHERE may have.
 const DEEPEST: usize = 8;
 const CONDITIONS: usize = 8;
-const LONGEST: usize = 65_536;
 
 /// A table, with the name that a statement gives it.
 #[derive(Clone, Debug, PartialEq, Eq)]
@@ -165,26 +164,21 @@ pub enum Sql {
 }
 
 /// What a text is: none if no form begins as it does; a fault where it is none of those that do.
-pub fn read(text: &[u8], database: &str, given: Option<&[Given]>) -> Option<Read<Sql>> {
+pub fn read(text: &Text, database: &str, given: Option<&[Given]>) -> Option<Read<Sql>> {
     begin(text, database, given).map(|it| it.map(|(sql, _)| sql))
 }
 
 /// A prepared text, in which each `?` is a zero, and how many it has.
-pub fn count_parameters(text: &[u8], database: &str) -> Option<Read<(Sql, usize)>> {
+pub fn count_parameters(text: &Text, database: &str) -> Option<Read<(Sql, usize)>> {
     begin(text, database, Some(&[]))
 }
 
-fn begin(text: &[u8], database: &str, given: Option<&[Given]>) -> Option<Read<(Sql, usize)>> {
-    if text.len() > LONGEST {
+fn begin(read: &Text, database: &str, given: Option<&[Given]>) -> Option<Read<(Sql, usize)>> {
+    let mut it = Reader::new(read.text, &read.words, given).with_database(database);
+    if !BEGINNINGS.iter().any(|beginning| it.begins(beginning)) {
         return None;
     }
-    let found = words(text);
-    let mut it = Reader::new(text, &found, given).with_database(database);
-    let begins = BEGINNINGS.iter().any(|beginning| Reader::new(text, &found, None).sees(beginning));
-    if !begins {
-        return None;
-    }
-    let asks_no_table = is_question(&found, database);
+    let asks_no_table = is_question(&read.words, database);
     Some(it.statement(asks_no_table).and_then(|sql| if it.is_over() { Ok((sql, it.parameters)) } else { it.fail() }))
 }
 
@@ -443,16 +437,17 @@ impl Reader<'_> {
             return Ok(Item::All(None));
         }
         let (begin, before) = (self.place(), self.words());
-        let item = self.asked()?;
-        if let Item::All(_) = item {
-            return Ok(item);
+        let mut item = self.asked()?;
+        match &mut item {
+            Item::All(_) => return Ok(item),
+            Item::Count(_, name) | Item::Sum(_, name) => *name = self.written_from(begin, before),
+            _ => (),
         }
-        let written = self.written_from(begin, before);
         let alias = self.item_alias()?;
         Ok(match item {
             Item::Column(of, name) => Item::Column(of, alias.unwrap_or(name)),
-            Item::Count(of, _) => Item::Count(of, alias.unwrap_or(written)),
-            Item::Sum(of, _) => Item::Sum(of, alias.unwrap_or(written)),
+            Item::Count(of, name) => Item::Count(of, alias.unwrap_or(name)),
+            Item::Sum(of, name) => Item::Sum(of, alias.unwrap_or(name)),
             Item::Number(number, _) => Item::Number(number, alias.unwrap_or_else(|| number.to_string())),
             Item::Null(_) => Item::Null(alias.unwrap_or_else(|| "NULL".to_string())),
             all => all,
@@ -827,9 +822,8 @@ fn exact(kind: Type) -> Type {
 }
 
 /// The forms that begin like a text, for who is refused.
-pub fn taken(text: &[u8]) -> &'static str {
-    let found = words(text);
-    let begins = |word: &str| Reader::new(text, &found, None).peeks(word);
+pub fn taken(read: &Text) -> &'static str {
+    let begins = |word: &str| Reader::new(read.text, &read.words, None).peeks(word);
     FORMS.iter().find(|(word, _)| begins(word)).map_or("the forms of that page", |(_, form)| *form)
 }
 
@@ -861,8 +855,17 @@ const FORMS: [(&str, &str); 10] = [
 mod tests {
     use super::*;
 
+    /// What a text is, what it is if it is prepared, and what would be taken.
+    type Heard = (Option<Read<Sql>>, Option<Read<(Sql, usize)>>, &'static str);
+
+    fn heard(text: &str, given: Option<&[Given]>) -> Heard {
+        let small = text.to_ascii_lowercase();
+        let text = Text::new(text.as_bytes(), &small);
+        (read(&text, "db", given), count_parameters(&text, "db"), taken(&text))
+    }
+
     fn said(text: &str) -> Result<Sql, usize> {
-        read(text.as_bytes(), "db", None).unwrap_or(Err(Untaken(0))).map_err(|it| it.0)
+        heard(text, None).0.unwrap_or(Err(Untaken(0))).map_err(|it| it.0)
     }
 
     /// The forms that tools send, literally.
@@ -945,21 +948,20 @@ mod tests {
         let nested = "SELECT COUNT(*) FROM (".to_string();
         assert!(said(&nested.repeat(2_000)).is_err());
         for text in ["", "PUT 'a','b'", "GRANT x", "ROLLBACK"] {
-            assert!(read(text.as_bytes(), "db", None).is_none(), "{}", text);
+            assert!(heard(text, None).0.is_none(), "{}", text);
         }
     }
 
     #[test]
     fn values_that_are_bound() {
-        let text = b"UPDATE t SET a = a - ?, b = ? WHERE k = ? LIMIT 1";
-        assert!(count_parameters(text, "db").unwrap().is_err());
-        let (_, count) = count_parameters(&text[..text.len() - 8], "db").unwrap().unwrap();
-        assert_eq!(count, 3);
-        let text = b"SELECT * FROM t WHERE k = ? LIMIT ?";
-        assert_eq!(count_parameters(text, "db").unwrap().unwrap().1, 2);
+        let text = "UPDATE t SET a = a - ?, b = ? WHERE k = ? LIMIT 1";
+        assert!(heard(text, None).1.unwrap().is_err());
+        assert_eq!(heard(&text[..text.len() - 8], None).1.unwrap().unwrap().1, 3);
+        let text = "SELECT * FROM t WHERE k = ? LIMIT ?";
+        assert_eq!(heard(text, None).1.unwrap().unwrap().1, 2);
         let given = |text: &str, is_number| Given { value: Some(text.as_bytes().to_vec()), is_number };
         let bound = [given("a", false), given("3", true)];
-        match read(text, "db", Some(&bound)).unwrap().unwrap() {
+        match heard(text, Some(&bound)).0.unwrap().unwrap() {
             Sql::Select(it) => {
                 assert_eq!(it.limit, Some((0, 3)));
                 assert_eq!(it.filter[0].test, Test::Compared(Compare::Equal, Value::Text(b"a".to_vec())));
@@ -980,9 +982,7 @@ mod tests {
         };
         for _ in 0..100_000 {
             let text: Vec<&str> = (0..1 + draw(14)).map(|_| pieces[draw(pieces.len())]).collect();
-            let text = text.join(" ");
-            let _ =
-                (read(text.as_bytes(), "db", None), count_parameters(text.as_bytes(), "db"), taken(text.as_bytes()));
+            heard(&text.join(" "), None);
         }
         let deep = "SELECT a FROM t WHERE ".to_string() + &"(".repeat(60_000);
         assert!(said(&deep).is_err());

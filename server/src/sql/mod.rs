@@ -34,7 +34,7 @@ pub use value::{Number, Value};
 use crate::answers::{quoting, Refusal};
 use crate::channel::End;
 use crate::packets::{is_number, Kind, Parameter};
-use crate::tokens::words;
+use crate::tokens::Text;
 
 /// Why a statement ends early: it is refused, or the connection ends.
 pub enum Stop {
@@ -68,9 +68,9 @@ pub fn given(values: Vec<Parameter>, kinds: &[Kind]) -> Vec<Given> {
 }
 
 /// The refusal of the first name in backquotes that can be none: it isn't UTF-8, or has a sign of four bytes or a 0.
-fn bad_name(text: &[u8]) -> Option<Refusal> {
-    let found = words(text);
-    let name = found.iter().find(|it| text[it.begin] == b'`' && !is_plain_name(&text[it.begin..it.end]))?;
+fn bad_name(read: &Text) -> Option<Refusal> {
+    let text = read.text;
+    let name = read.words.iter().find(|it| text[it.begin] == b'`' && !is_plain_name(&text[it.begin..it.end]))?;
     if text[name.begin..name.end].contains(&0) {
         return Some(quoting(text, name.begin));
     }
@@ -87,11 +87,11 @@ fn is_plain_name(name: &[u8]) -> bool {
 }
 
 /// The refusal of a text that isn't one of the forms from a byte on.
-pub fn not_taken(text: &[u8], fault: Untaken) -> Refusal {
+pub fn not_taken(text: &Text, fault: Untaken) -> Refusal {
     if let Some(refusal) = bad_name(text) {
         return refusal;
     }
-    let quoted = quoting(text, fault.0).text.replace("syntax fault", "the text");
+    let quoted = quoting(text.text, fault.0).text.replace("syntax fault", "the text");
     untaken(&quoted, grammar::taken(text))
 }
 

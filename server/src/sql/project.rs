@@ -193,7 +193,7 @@ pub fn select(rows: &mut Rows, it: &Select) -> Done<answers::Table> {
     let table = table_of(rows, &it.table)?;
     let scope = Scope::new(&table, &it.table, rows.database);
     let (projection, filter) = (Projection::new(&scope, it)?, scope.filter(&it.filter)?);
-    rows.patience = it.wait.map_or(rows.patience, Duration::from_secs);
+    rows.patience = it.wait.map(Duration::from_secs);
     begin(rows)?;
     let found = if rows.guest.is_within() || it.lock == Lock::None {
         rows.select(&table, &filter, it.lock)?

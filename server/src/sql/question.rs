@@ -45,7 +45,7 @@ pub struct Question {
 /// Whether a SELECT asks no table of the store: it has no FROM, or names DUAL or information_schema there.
 pub fn is_question(found: &[Placed], database: &str) -> bool {
     let run = |at: usize| match found.get(at).map(|it| &it.word) {
-        Some(Word::Run(run)) => run.as_str(),
+        Some(Word::Run(run)) => run.as_ref(),
         _ => "",
     };
     let is_select = run(0) == "select";

@@ -19,60 +19,64 @@ pub type Read<T> = Result<T, Untaken>;
 /// How many bytes any name may have: 64 signs of 4 bytes.
 const LONGEST_NAME: usize = 256;
 
-/// Words that are no name unless they stand in backquotes.
-const RESERVED: [&str; 44] = [
-    "and",
-    "as",
-    "asc",
-    "between",
-    "by",
-    "case",
-    "check",
-    "constraint",
-    "create",
-    "default",
-    "delete",
-    "desc",
-    "drop",
-    "else",
-    "exists",
-    "for",
-    "foreign",
-    "from",
-    "group",
-    "having",
-    "if",
-    "ignore",
-    "in",
-    "inner",
-    "insert",
-    "into",
-    "is",
-    "join",
-    "left",
-    "like",
-    "limit",
-    "lock",
-    "not",
-    "null",
-    "on",
-    "or",
-    "order",
-    "primary",
-    "select",
-    "set",
-    "then",
-    "union",
-    "when",
-    "where",
-];
 const INTRODUCERS: [&str; 5] = ["_binary", "_utf8", "_utf8mb3", "_utf8mb4", "n"];
+
+/// Whether a word is no name unless it stands in backquotes.
+fn is_reserved(word: &str) -> bool {
+    matches!(
+        word,
+        "and"
+            | "as"
+            | "asc"
+            | "between"
+            | "by"
+            | "case"
+            | "check"
+            | "constraint"
+            | "create"
+            | "default"
+            | "delete"
+            | "desc"
+            | "drop"
+            | "else"
+            | "exists"
+            | "for"
+            | "foreign"
+            | "from"
+            | "group"
+            | "having"
+            | "if"
+            | "ignore"
+            | "in"
+            | "inner"
+            | "insert"
+            | "into"
+            | "is"
+            | "join"
+            | "left"
+            | "like"
+            | "limit"
+            | "lock"
+            | "not"
+            | "null"
+            | "on"
+            | "or"
+            | "order"
+            | "primary"
+            | "select"
+            | "set"
+            | "then"
+            | "union"
+            | "when"
+            | "where"
+    )
+}
 
 pub struct Reader<'a> {
     text: &'a [u8],
     /// What DATABASE() stands for.
     database: &'a str,
-    words: &'a [Placed],
+    words: &'a [Placed<'a>],
     /// What is bound to the `?`. Empty where they are counted: then each is a zero.
     given: Option<&'a [Given]>,
     pub parameters: usize,
@@ -83,7 +87,7 @@ pub struct Reader<'a> {
 }
 
 impl<'a> Reader<'a> {
-    pub fn new(text: &'a [u8], words: &'a [Placed], given: Option<&'a [Given]>) -> Reader<'a> {
+    pub fn new(text: &'a [u8], words: &'a [Placed<'a>], given: Option<&'a [Given]>) -> Reader<'a> {
         Reader { text, database: "", words, given, parameters: 0, is_inner: false, depth: 0 }
     }
 
@@ -142,9 +146,14 @@ impl<'a> Reader<'a> {
         Ok(None)
     }
 
-    /// Whether these words come next; they are taken then.
+    /// Whether these words come next.
+    pub fn begins(&self, words: &[&str]) -> bool {
+        words.iter().enumerate().all(|(at, word)| self.is_word(at, word))
+    }
+
+    /// The same; they are taken then.
     pub fn sees(&mut self, words: &[&str]) -> bool {
-        let sees = words.iter().enumerate().all(|(at, word)| self.is_word(at, word));
+        let sees = self.begins(words);
         if sees {
             self.words = &self.words[words.len()..];
         }
@@ -205,9 +214,7 @@ impl<'a> Reader<'a> {
     /// Whether a name comes next.
     pub fn peeks_name(&self) -> bool {
         self.words.first().map_or(false, |it| match &it.word {
-            Word::Run(run) => {
-                self.is_quoted_name(it) || !RESERVED.contains(&run.as_str()) && !run.as_bytes()[0].is_ascii_digit()
-            }
+            Word::Run(run) => self.is_quoted_name(it) || !run.as_bytes()[0].is_ascii_digit() && !is_reserved(run),
             _ => false,
         })
     }
@@ -239,7 +246,7 @@ impl<'a> Reader<'a> {
         String::from_utf8_lossy(&self.text[begin..end]).into_owned()
     }
 
-    pub fn words(&self) -> &'a [Placed] {
+    pub fn words(&self) -> &'a [Placed<'a>] {
         self.words
     }
 
@@ -254,7 +261,7 @@ impl<'a> Reader<'a> {
     fn digits(&mut self) -> Option<Number> {
         let run = |it: &Reader, at: usize| match it.words.get(at) {
             Some(Placed { word: Word::Run(run), .. }) if run.bytes().all(|byte| byte.is_ascii_digit()) => {
-                Some(run.clone())
+                Some(run.to_string())
             }
             _ => None,
         };
@@ -292,7 +299,7 @@ impl<'a> Reader<'a> {
     /// A text in quotes, also behind a character set's name, or digits of bytes.
     fn quoted(&mut self) -> Option<Vec<u8>> {
         let introducer = match self.words.first() {
-            Some(Placed { word: Word::Run(run), .. }) => INTRODUCERS.contains(&run.as_str()),
+            Some(Placed { word: Word::Run(run), .. }) => INTRODUCERS.contains(&run.as_ref()),
             _ => false,
         };
         let at = usize::from(introducer);

@@ -99,7 +99,7 @@ impl Rows<'_> {
             }
         }
         // (rows that are seen needn't be waited for)
-        let patience = std::mem::replace(&mut self.patience, Duration::ZERO);
+        let patience = self.patience.replace(Duration::ZERO);
         if seen.is_none() {
             self.patience = patience;
         }
@@ -122,10 +122,13 @@ impl Rows<'_> {
     /// Reads rows without locks; none where something was logged meanwhile, so that they may be of several states. All
     /// keys that had a row when the first one was read are known by then.
     fn try_snapshot(&mut self, table: &Table, filter: &Filter) -> Done<Option<Found>> {
-        self.get(&table.stripes()[0])?;
+        let is_one = filter.keys.as_ref().map_or(false, |keys| keys.len() <= 1);
+        if !is_one {
+            // (any row of the store shows how long the history is)
+            self.get(&table.stripe(0))?;
+        }
         let before = self.guest.entries();
         let keys = filter.keys.clone().unwrap_or_else(|| table.keys());
-        let is_one = keys.len() <= 1 && filter.keys.is_some();
         let mut found = Found::default();
         for key in keys {
             let row = self.row(table, &key)?;

@@ -266,17 +266,18 @@ pub fn processes(store: &Store) -> Vec<Row> {
     let row = |it: &&Arc<crate::store::Connection>| {
         let doing = lock(&it.doing);
         let has_logged_in = it.has_logged_in.load(std::sync::atomic::Ordering::Relaxed);
-        let command = match (&doing.text, has_logged_in) {
+        let command = match (doing.text(), has_logged_in) {
             (_, false) => "Connect",
             (Some(_), _) => "Query",
             (None, _) => "Sleep",
         };
-        let bytes = |it: &Option<Vec<u8>>| it.clone().map_or(Value::Null, Value::Text);
+        let bytes = |it: Option<&[u8]>| it.map_or(Value::Null, |it| Value::Text(it.to_vec()));
         let user = if has_logged_in { Value::Text(doing.user.clone()) } else { text("unauthenticated user") };
         let time = number(doing.since.elapsed().as_secs().into());
-        let state = text(if doing.text.is_some() { "starting" } else { "" });
-        let mut row = vec![number(it.number.into()), user, text(&it.peer), bytes(&doing.database), text(command)];
-        row.extend([time, state, bytes(&doing.text)]);
+        let state = text(if doing.text().is_some() { "starting" } else { "" });
+        let mut row =
+            vec![number(it.number.into()), user, text(&it.peer), bytes(doing.database.as_deref()), text(command)];
+        row.extend([time, state, bytes(doing.text())]);
         row
     };
     all.iter().map(row).collect()

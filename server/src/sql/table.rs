@@ -152,13 +152,22 @@ impl Table {
         [self.name.as_bytes(), b"/", key].concat()
     }
 
+    /// Whether such a key has room.
+    fn fits(&self, key: &[u8]) -> bool {
+        self.name.len() + 1 + key.len() <= ROOM
+    }
+
     /// The store's keys that stand for the set of keys. No row has one of them, since no name of a table is empty.
     pub fn stripes(&self) -> Vec<Vec<u8>> {
-        (0..STRIPES).map(|number| format!("/{}/{:x}", self.name, number).into_bytes()).collect()
+        (0..STRIPES).map(|number| self.stripe(number)).collect()
+    }
+
+    pub fn stripe(&self, number: usize) -> Vec<u8> {
+        format!("/{}/{:x}", self.name, number).into_bytes()
     }
 
     pub fn stripe_of(&self, key: &[u8]) -> Vec<u8> {
-        format!("/{}/{:x}", self.name, hash_of(key) % STRIPES).into_bytes()
+        self.stripe(hash_of(key) % STRIPES)
     }
 
     // the set of keys
@@ -213,7 +222,7 @@ impl Table {
     /// length.
     pub fn write(&self, row: &[Value], number: usize) -> Result<(Vec<u8>, Vec<u8>), Refusal> {
         let key = self.key_type().key_of(&row[self.key]);
-        if self.row_key(&key).len() > ROOM {
+        if !self.fits(&key) {
             return Err(self.columns[self.key].too_long(number));
         }
         let mut value = vec![0];
@@ -287,12 +296,12 @@ impl Table {
             (Type::Whole { .. }, Value::Number(it)) => exactly(*it, 0)?,
             _ => value.clone(),
         };
-        Some(kind.key_of(&value)).filter(|key| self.row_key(key).len() <= ROOM)
+        Some(kind.key_of(&value)).filter(|key| self.fits(key))
     }
 
     /// A refusal's name of the table, with a database.
     pub fn full_name(&self, database: &str) -> String {
-        format!("`{}`.`{}`", database, self.name)
+        ["`", database, "`.`", &self.name, "`"].concat()
     }
 }
 
