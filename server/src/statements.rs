@@ -270,8 +270,10 @@ struct Reader<'a> {
     token: Token,
     end: usize,
     written: Vec<u8>,
-    /// What its literals stand for, and its formatID; and whether it has a clause that the store refuses.
-    literals: Vec<Vec<u8>>,
+    /// What its literals stand for, and how many it has; its formatID; and whether it has a clause that the store
+    /// refuses.
+    literals: [Vec<u8>; 2],
+    count: usize,
     format_id: i64,
     has_clause: bool,
 }
@@ -296,8 +298,8 @@ pub fn bind(text: &[u8], parameters: &[Parameter]) -> Result<Statement, Fault> {
 impl<'a> Reader<'a> {
     fn new(text: &'a [u8], given: Option<&'a [Parameter]>) -> Reader<'a> {
         let (token, end) = next_token(text, 0);
-        let (written, literals) = (Vec::new(), Vec::new());
-        Reader { text, given, parameters: 0, token, end, written, literals, format_id: 1, has_clause: false }
+        let (written, literals) = (Vec::new(), [Vec::new(), Vec::new()]);
+        Reader { text, given, parameters: 0, token, end, written, literals, count: 0, format_id: 1, has_clause: false }
     }
 
     fn step(&mut self) -> Token {
@@ -364,7 +366,8 @@ impl<'a> Reader<'a> {
         match self.token.literal.take() {
             Some(data) if (least..=LONGEST).contains(&data.len()) => {
                 write_literal(&mut self.written, &data);
-                self.literals.push(data);
+                self.literals[self.count] = data;
+                self.count += 1;
                 self.step();
                 Ok(())
             }
@@ -418,7 +421,7 @@ impl<'a> Reader<'a> {
 
     fn read(&mut self) -> Result<Statement, Fault> {
         let verb = self.word(&["XA", "GET", "PUT", "DEL"])?;
-        (self.written, self.literals) = (Vec::with_capacity(64), Vec::with_capacity(2));
+        self.written = Vec::with_capacity(64);
         let statement = if verb == "XA" { self.xa()? } else { self.row(verb)? };
         self.sees(";");
         if !self.token.word.is_empty() || self.token.place != self.text.len() {
@@ -429,8 +432,7 @@ impl<'a> Reader<'a> {
 
     /// A statement of the values that were read; its text is still to be written.
     fn made(&mut self, kind: Kind, subject: (usize, usize)) -> Statement {
-        let mut literals = std::mem::take(&mut self.literals).into_iter();
-        let (first, second) = (literals.next().unwrap_or_default(), literals.next().unwrap_or_default());
+        let [first, second] = std::mem::take(&mut self.literals);
         let values = match kind {
             Kind::Recover => Values::List,
             Kind::Get | Kind::Put | Kind::Del => Values::Row(first, second),
@@ -582,10 +584,11 @@ pub fn write_literal(to: &mut Vec<u8>, data: &[u8]) {
         to.extend(b"X''");
         return;
     }
-    to.reserve(2 + 2 * data.len());
     to.extend(b"0x");
-    for byte in data {
-        to.extend([DIGITS[usize::from(byte >> 4)], DIGITS[usize::from(byte & 15)]]);
+    let begin = to.len();
+    to.resize(begin + 2 * data.len(), 0);
+    for (pair, byte) in to[begin..].chunks_exact_mut(2).zip(data) {
+        pair.copy_from_slice(&[DIGITS[usize::from(byte >> 4)], DIGITS[usize::from(byte & 15)]]);
     }
 }
 

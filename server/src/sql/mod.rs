@@ -1,8 +1,8 @@
 //! A small face of SQL over a store: tables of a few columns, whose rows are rows of the store.
 //!
 //! `grammar` reads a text, `table` knows what tables there are, `value` turns literals into values of a column's type,
-//! `change` and `scan` write and read rows in a branch, and `numbers` counts, and `answer` carries a statement out. `question`, `show`,
-//! `schema` and `term` answer what no row of the store does.
+//! `change` and `scan` write and read rows in a branch, `numbers` counts, and `answer` carries a statement out.
+//! `question`, `show`, `schema` and `term` answer what no row of the store does.
 //!
 //! A row's key is the table's name, a `/`, and the primary key; its value has the other columns. So locks, branches and
 //! recovery are those of the store. The definitions of tables are kept in the server's memory: a statement that makes
