@@ -304,8 +304,8 @@ class Connections(Case):
         for words, said in ((["ping"], "is alive"), (["processlist"], "show processlist"), (["status"], "Uptime"),
                             (["kill", "99"], "Unknown thread id: 99"), (["shutdown"], "")):
             ran = subprocess.run(["mariadb-admin", "--no-defaults", "--host=127.0.0.1", f"--port={server.port}",
-                                  "--user=root", "--password=secret", *words], stdout=subprocess.PIPE, stderr=subprocess.STDOUT, text=True,
-                                 timeout=60)
+                                  "--user=root", "--password=secret", *words], stdout=subprocess.PIPE,
+                                 stderr=subprocess.STDOUT, text=True, timeout=60)
             self.assertIn(said, ran.stdout)
         self.assertEqual(server.ended(), 0)
 
