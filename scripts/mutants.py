@@ -3,6 +3,7 @@
 A rule changes one place of a function's body: its clauses, its attributes and its comments stay as they are. Whether a
 mutant compiles, and whether it means something else than the function, no rule knows.
 """
+import hashlib
 import os
 import random
 import re
@@ -236,15 +237,22 @@ def mutants_of(function, mixer):
     return [made[turn] for turn in range(rounds) for made in by_rule if turn < len(made)]
 
 
+def in_drawn_order(functions, seed):
+    """The functions in the order in which the seed draws them: a change of one leaves the others in their order."""
+    mark = lambda it: hashlib.sha256(f"{seed} {it.crate} {it.path} {it.full}".encode()).digest()
+    return sorted(functions, key=mark)
+
+
+def queue_of(function, seed):
+    """The mutants of a function: the first is tried, and the next if it doesn't compile."""
+    return mutants_of(function, random.Random(f"{seed} {function.crate} {function.path} {function.full}"))
+
+
 def drawn(functions, number, seed):
-    """Draws that many functions of which a rule makes a mutant, each as likely, and all that are left, in a mixed
-    order. Each has its mutants: the first is tried, and the next if it doesn't compile."""
-    functions = list(functions)
-    random.Random(f"{seed}").shuffle(functions)
-    queues = []
-    for function in functions:
-        mixer = random.Random(f"{seed} {function.crate} {function.path} {function.line}")
-        made = mutants_of(function, mixer)
-        if made:
-            queues.append(made)
-    return queues[:number], queues[number:]
+    """Draws that many functions of which a rule makes a mutant, each as likely. Gives the mutants of each, and the
+    functions that are left, in the order in which they would be drawn."""
+    left, queues = iter(in_drawn_order(functions, seed)), []
+    while len(queues) < number and (function := next(left, None)):
+        made = queue_of(function, seed)
+        queues += [made] if made else []
+    return queues, list(left)
