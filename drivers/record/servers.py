@@ -100,10 +100,11 @@ class PostgreSql(Server):
     """A PostgreSQL, which root can't run, so that postgres does. Again only the machine has to stay."""
     END = signal.SIGINT
     PACKAGES = ("postgresql", "python3-psycopg2")
+    PORT = "5432"  # named in each command, since PGPORT may name another
 
     @property
     def socket(self):
-        return str(self.folder / ".s.PGSQL.5432")
+        return str(self.folder / f".s.PGSQL.{self.PORT}")
 
     def account(self):
         return {"user": "postgres", "group": "postgres", "extra_groups": []} if os.getuid() == 0 else {}
@@ -121,8 +122,9 @@ class PostgreSql(Server):
             "--no-locale", "--pgdata", str(self.folder / "data"), cwd=self.folder, **self.account())
 
     def command(self):
-        return [self.program("postgres"), "-D", str(self.folder / "data"), "-k", str(self.folder), "-h", "",
-                "-c", "max_prepared_transactions=100", "-c", "fsync=off", "-c", "autovacuum=off"]
+        return [self.program("postgres"), "-D", str(self.folder / "data"), "-k", str(self.folder), "-p", self.PORT,
+                "-h", "", "-c", "max_prepared_transactions=100", "-c", "fsync=off", "-c", "autovacuum=off"]
 
     def answers(self):
-        return subprocess.run([self.program("pg_isready"), "-q", "-h", str(self.folder)]).returncode == 0
+        return subprocess.run([self.program("pg_isready"), "-q", "-h", str(self.folder), "-p",
+                               self.PORT]).returncode == 0
