@@ -8,6 +8,7 @@ import tempfile
 import unittest
 from pathlib import Path
 from types import SimpleNamespace
+from unittest import mock
 
 from forwarded import forwarded
 from support import ROOT, says
@@ -87,7 +88,8 @@ class PostgreSql(unittest.TestCase):
     @classmethod
     def setUpClass(cls):
         cls.room = tempfile.TemporaryDirectory()
-        cls.server = servers.PostgreSql(cls.room.name)
+        with mock.patch.dict("os.environ", PGPORT="5477"):  # another server's port, which isn't this one's
+            cls.server = servers.PostgreSql(cls.room.name)
 
     @classmethod
     def tearDownClass(cls):
