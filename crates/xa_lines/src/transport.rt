@@ -105,7 +105,8 @@ impl<S: LineServer, R: PieceReader + Drop, W: Write + Drop> Client<S> for Transp
         ensures prefix { OnErr result
             (AppendsPrefix (writer_contents W.contents self.old.writer)
             (writer_contents W.contents self.new.writer) text.now) }
-        // Proved (scripts, interrupted-writes): No fault of a client over streams says that a write was interrupted.
+        // Proved (scripts, interrupted-writes): No fault of telling a client over streams says that a write was
+        //   interrupted.
         ensures retried { IfErr result (λ fault. error_kind fault ≢ ErrorKind.Interrupted) }
         ensures reader { self.new.reader ≡ self.old.reader }
     {

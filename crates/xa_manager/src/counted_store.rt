@@ -50,7 +50,8 @@ impl CountedStore {
     }
 }
 
-// Proved (scripts, stops-noted): The stores on which stops are tried note if memory was refused for a statement.
+// Proved (scripts, stops-noted): The stores on which stops are tried note if memory was refused for a statement of the
+//   coordinator's session.
 impl Speak for CountedStore {
     ghost use Rattle.xa_manager.specs.Counted.{own_of, IsNoted};
 

@@ -164,8 +164,8 @@ fn carry_out_to<
     requires input { ReadsInput job }
     // Proved (scripts, jobs-as-asked): `run`, `race`, `judge`, `explore` and `stops` write what the job and `--json`
     //   ask for, of all that the input holds. They return the status for that, or a write fault in its place. No other
-    //   option changes a byte of it; `--text` writes its literals as texts afterwards. `--strict` alone changes a
-    //   status. Only with it or `--verbose` may memory be refused afterwards.
+    //   option changes a byte of it. `--strict` alone changes a status. Only with it or `--verbose` may memory be
+    //   refused afterwards.
     ensures { IsLookedAt manner.now.strict (manner.now.verbose || manner.now.strict) (HasDone W.contents job manner.now.json base.now allowances.now
         (I.remaining input) (writer_contents W.contents output.old)) output.new result }
 {

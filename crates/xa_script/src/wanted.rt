@@ -37,8 +37,8 @@ const TOKENS: [(&[u8], &str); 24] = [
 /// Returns whether reading the front, a blank and this token doesn't go wrong at the token. If the front begins some
 /// statement, that is whether some statement goes on with the token.
 fn takes(alloc: Global, front: &[u8], token: &[u8]) -> Result<bool, NoMemory>
-    // Proved (scripts, wanted-tokens): A token is named as wanted at a syntax fault exactly if reading
-    //   doesn't go wrong at it there.
+    // Proved (scripts, wanted-tokens): A token may come behind a text exactly if reading the text, a blank and the
+    //   token doesn't go wrong at the token.
     ensures { IfOk result (λ taken. taken ≡ takes_next front.now token.now) }
 {
     let mut text = Vec::from_slice(alloc, front)?;
