@@ -19,8 +19,8 @@ use xa_xid::{Bytes, Key, NoMemory};
 /// In how many parts the values are kept.
 const PARTS: usize = 64;
 
-/// By how much the growth of a part (`Part::with`) is more than that of the part before. So the parts' largest merges
-/// come at different times, each in another copy.
+/// By how much the growth of a part (`Part::with`) is more than that of the part before, so that the parts' largest
+/// merges don't all come in the same copy.
 const STEP: u64 = 4;
 
 /// The values of rows, where no record says otherwise. They are in parts by a number made of the key, so that a merge
