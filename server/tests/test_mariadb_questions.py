@@ -218,8 +218,14 @@ class Connections(Case):
 
     def test_processes(self):
         self.ok(self.two, "USE db")
-        row = next(row for row in self.one.ask("SHOW PROCESSLIST").rows if int(row[0]) == self.number(self.two))
-        self.assertEqual((row[1], row[3], row[4], row[7]), (b"root", b"db", b"Sleep", None))
+        number = self.number(self.two)
+
+        def shown():
+            row = next(row for row in self.one.ask("SHOW PROCESSLIST").rows if int(row[0]) == number)
+            return row[1], row[3], row[4], row[7]
+
+        # A client may have its answer before the server has noted that the command is over.
+        wait_for(lambda: shown() == (b"root", b"db", b"Sleep", None), "a client that sleeps")
         own = next(row for row in self.one.ask("SHOW FULL PROCESSLIST").rows if int(row[0]) == self.number(self.one))
         self.assertEqual((own[4], own[7]), (b"Query", b"SHOW FULL PROCESSLIST"))
         answer = self.one.command(b"\x0a")
