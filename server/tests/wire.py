@@ -64,7 +64,8 @@ PACKED = {1: "<b", 2: "<h", 3: "<i", 8: "<q"}
 class Client:
     def __init__(self, port, user=b"root", password=b"", log_in=True, plugin=b"mysql_native_password",
                  host="127.0.0.1"):
-        self.socket = socket.create_connection((host, port), timeout=60)
+        self.port = port
+        self.socket = socket.create_connection((host, port), timeout=120)
         self.socket.setsockopt(socket.IPPROTO_TCP, socket.TCP_NODELAY, 1)
         self.held, self.sequence, self.due = b"", 0, 0
         self.number = 0
@@ -75,7 +76,10 @@ class Client:
 
     def take(self, count):
         while len(self.held) < count:
-            data = self.socket.recv(65536)
+            try:
+                data = self.socket.recv(65536)
+            except TimeoutError:
+                raise TimeoutError(f"port {self.port} has sent nothing for {self.socket.gettimeout():.0f} s") from None
             if not data:
                 raise Closed
             self.held += data

@@ -15,9 +15,10 @@
  *
  * Threads. Sessions of one store may be on threads of their own, without a lock of yours. Each session
  * answers from its own copy of the rows, and adds to the one history that all share. A handle takes one call
- * at a time: a second call on it at the same time returns NIGBARU_BUSY. No call waits for another thread;
- * a statement without a limit is tried again as long as other sessions are faster, or its session is behind. A
- * handle may be moved to another thread between calls.
+ * at a time: a second call on it at the same time returns NIGBARU_BUSY. No call takes a lock of the
+ * library's. A statement without a limit is tried again as long as other sessions are faster, or its session is
+ * behind; then it may need a thread that was stopped to go on (docs/EMBEDDING.md#threads). A handle may be moved
+ * to another thread between calls.
  *
  * The history has no end. It is kept in a ring of `rows` entries: each new entry overwrites the oldest one. A
  * session that isn't used while others add more entries than that is behind. Its next statement then goes on

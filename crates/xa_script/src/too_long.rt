@@ -16,7 +16,8 @@ fn advice(job: Job) -> &'static str {
         }
         Job::Stops { .. } => "the calls have more than 1,048,576 bytes; make them fewer",
         Job::Judge { .. } => {
-            "the record has more than 16,777,216 bytes; record in pieces, and judge each with --from"
+            "the record has more than 16,777,216 bytes; record in pieces, by --record-size of \
+                nigbaru-server, and judge each with --from"
         }
         Job::Audit { .. } => "the history has more than 16,777,216 bytes; make it shorter",
         Job::Coordinate { .. } | Job::Serve | Job::Show => "the input is too long; make it shorter",

@@ -72,13 +72,6 @@ impl Part {
         }
     }
 
-    /// Returns whether there is no run.
-    pub fn is_empty(&self) -> bool
-        ensures { result ≡ true → self.now ≡ map.empty }
-    {
-        self.list.is_empty()
-    }
-
     /// Returns true only if both have the same runs.
     pub fn is_same(&self, other: &Part) -> bool
         ensures { result ≡ true → self.now ≡ other.now }
