@@ -280,4 +280,5 @@ def write(folder: Path, stores: int, outcome: Outcome, log: Sequence[str], recor
     link = address(lines, stores).replace("&", "&amp;").replace('"', "%22")
     (folder / PAGE).write_text(
         f'<!doctype html>\n<meta charset="utf-8">\n<title>A point of the bench</title>\n'
-        f'<p><a href="{link}">The story in the classroom</a>, once drivers/page/serve runs.</p>\n')
+        f'<p><a href="{link}">The story in the classroom</a>, once nigbaru-page runs '
+        f'(in a clone drivers/page/serve).</p>\n')
