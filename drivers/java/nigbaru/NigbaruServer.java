@@ -72,10 +72,14 @@ public final class NigbaruServer
 
     // where the stores are
 
-    /** The port of a store, at 127.0.0.1. */
+    /** The port of a store, at 127.0.0.1. It is known once the server was started, so not where fields get values. */
     public int port(int store) {
         if (store < 1 || store > stores) {
             throw new IllegalArgumentException("there is no store " + store + ": they are 1 to " + stores);
+        }
+        if (first == 0) {
+            throw new IllegalStateException(
+                    "the server isn't started, and has no ports yet: ask in a test, @BeforeEach or @BeforeAll");
         }
         return first + store - 1;
     }

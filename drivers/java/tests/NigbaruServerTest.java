@@ -200,6 +200,11 @@ class NigbaruServerTest {
     }
 
     @Test
+    void noPortBeforeTheStart() {
+        assertSays("has no ports yet", assertThrows(IllegalStateException.class, () -> new NigbaruServer(1).url(1)));
+    }
+
+    @Test
     void aServerThatDoesNotStartSaysWhy() {
         assertSays("--no-such", assertThrows(IllegalStateException.class,
                 () -> new NigbaruServer(1, "--no-such").beforeAll(null)));
