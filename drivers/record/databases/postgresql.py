@@ -37,6 +37,7 @@ NUMBERS = {
 # any other refusal: ER_UNKNOWN_ERROR
 OTHER = 1105
 SERIALIZATION_FAILURE = "40001"
+BUSY = "55000"
 LEVELS = {"read-committed": "READ COMMITTED", "repeatable-read": "REPEATABLE READ", "serializable": "SERIALIZABLE"}
 USUAL_LEVEL = "read-committed"
 NAME = re.compile(r"(\d+)_([\w+/=]*)_([\w+/=]*)", re.A)
@@ -216,7 +217,7 @@ class Client:
         if error.pgcode is None:
             return Unread()
         text = f"{error.pgcode} {one_line(error.diag.message_primary)}"
-        if error.pgcode == SERIALIZATION_FAILURE:
+        if error.pgcode in (SERIALIZATION_FAILURE, BUSY):
             return Unknown(NUMBERS[error.pgcode], text)
         return Refused(NUMBERS.get(error.pgcode, OTHER), text)
 

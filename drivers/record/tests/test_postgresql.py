@@ -24,8 +24,6 @@ from loads import Load  # noqa: E402
 RECORD = [sys.executable, ROOT / "drivers/record/record.py"]
 EXAMPLES = ROOT / "examples/records"
 ALLOW = EXAMPLES / "postgresql.allow"
-# what an ILLEGAL line may be about, as docs/RECORDS.md explains it
-BUSY = "^XA (COMMIT|ROLLBACK): ERROR 1399, could be OK$"
 # the script and the options of an example, in its first line
 MADE = re.compile(r"# Recorded by drivers/record/record.py (.*) from PostgreSQL 15\.\d+; the script is (\S+)\.\n")
 # of each example the verdict, without and with the allowances
@@ -154,9 +152,7 @@ class PostgreSql(unittest.TestCase):
             survey.record_all(chosen, chosen.numbers, self.server)
             for number in chosen.numbers:
                 word, about = survey.verdict_of(survey.path_of(chosen, number), chosen)
-                self.assertIn(word, ("LEGAL", "UNDECIDED", "longer than 20 seconds", "ILLEGAL"))
-                if word == "ILLEGAL":
-                    self.assertRegex(about, BUSY)
+                self.assertIn(word, ("LEGAL", "UNDECIDED", "longer than 20 seconds"), about)
 
     def test_a_lock_that_is_waited_for(self):
         """The row is given back while the other client waits."""
@@ -202,8 +198,9 @@ class PostgreSql(unittest.TestCase):
         with self.assertRaisesRegex(Fault, "max_prepared_transactions is 0, so it prepares nothing; start it with 100"):
             database.begin([b"k"])
 
-    def test_busy_is_refused(self):
-        """Many sessions end one branch at once: one does, and all others are refused."""
+    def test_busy_is_left_open(self):
+        """Many sessions end one branch at once: one does, and all others are refused. The branch may still be listed
+        after it was busy, so the rules have no number for that."""
         database = self.database()
         for _ in range(10):
             lines = [(0, session, b"XA COMMIT 'a'") for session in range(2, 10)]
@@ -213,9 +210,11 @@ class PostgreSql(unittest.TestCase):
                 sessions[1].give(text)
             survey.run_together(sessions, lines, options)
             survey.end(sessions)
-            answers = [line.split(b" ", 1)[1] for line in record.lines[8:] if b" < " in line]
+            answers = [line.split(b" ", 1)[1] for line in record.lines[8:] if b" > " not in line]
             self.assertEqual(answers.count(b"< OK"), 1, record.lines)
-            self.assertTrue(all(re.match(rb"< (OK|ERROR 139[79] )", it) for it in answers), answers)
+            self.assertTrue(all(re.match(rb"< OK$|< ERROR 1397 42704 |\? ERROR 1399 55000 ", it) for it in answers),
+                            answers)
+            self.assertEqual(self.verdict([line.decode() for line in record.lines]), "LEGAL")
 
 
 class Examples(unittest.TestCase):
