@@ -28,7 +28,10 @@ def path_of(name: str) -> str:
 
 
 def _become(name: str) -> None:
-    path = path_of(name)
+    path = bundled(name)  # (not what PATH has, which may be the command that called this)
+    if not path:
+        sys.exit(f"{name}: Python takes the package nigbaru from {FOLDER.parent}, which has no programs; does "
+                 "PYTHONPATH name it?")
     os.execv(path, [name, *sys.argv[1:]])
 
 

@@ -20,6 +20,7 @@ import pytest
 
 from .connection import Connection
 from .network import Remote
+from .programs import bundled
 from .server import Word
 from .xid import Xid
 
@@ -224,8 +225,8 @@ class NigbaruServer:
 
 def _launch(variable: str, name: str, words: Sequence[Word], stdout: int,
             stderr: Union[int, IO[bytes]]) -> subprocess.Popen[bytes]:
-    """Starts a program, which a variable of the environment names, or else PATH has it."""
-    program = os.environ.get(variable, name)
+    """Starts a program, which a variable of the environment names, or else this package or PATH has it."""
+    program = os.environ.get(variable) or bundled(name) or name
     try:
         return subprocess.Popen([program, *words], stdin=subprocess.DEVNULL, stdout=stdout, stderr=stderr)
     except OSError as fault:

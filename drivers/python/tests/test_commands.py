@@ -97,6 +97,18 @@ class Installed(unittest.TestCase):
                              rf"^b'v'\nTrue None {re.escape(folder)}/here/lib/.*/site-packages/nigbaru/__init__.py\n$")
             self.assertIn("No broken requirements", run("here/bin/python", "-m", "pip", "check"))
 
+    def test_a_wheels_command_that_finds_a_package_without_programs_ends(self):
+        with tempfile.TemporaryDirectory() as folder:
+            for name, function in (("xa_script", "xa_script"), ("nigbaru-server", "nigbaru_server")):
+                command = pathlib.Path(folder, name)
+                command.write_text(f"#!{sys.executable}\nfrom nigbaru.programs import {function}\n{function}()\n")
+                command.chmod(0o755)
+                ran = subprocess.run([command, "--version"], env={"PATH": folder, "PYTHONPATH": str(DRIVER)},
+                                     capture_output=True, text=True, timeout=30)
+                self.assertEqual((ran.returncode, ran.stdout), (1, ""))
+                self.assertRegex(ran.stderr, f"^{name}: .* from {re.escape(str(DRIVER))}/nigbaru, which has no "
+                                             r"programs; does PYTHONPATH name it\?\n$")
+
     def test_the_versions_agree(self):
         said = subprocess.run([PROGRAM, "--version"], capture_output=True, text=True, check=True).stdout
         self.assertEqual(said, f"xa_script {nigbaru.__version__}\n")

@@ -1,5 +1,6 @@
 """The plugin of pytest: its example passes, and tests that use it wrongly, or find something, fail as they should."""
 import os
+import shutil
 import subprocess
 import sys
 import tempfile
@@ -7,7 +8,8 @@ import textwrap
 import unittest
 from pathlib import Path
 
-EXAMPLE = Path(__file__).resolve().parents[1] / "examples/transfer"
+DRIVER = Path(__file__).resolve().parents[1]
+EXAMPLE = DRIVER / "examples/transfer"
 HEAD = """\
 import sys
 import pytest
@@ -28,8 +30,8 @@ def prepare(server, store, *xid):
 
 
 class Plugin(unittest.TestCase):
-    def pytest(self, *words):
-        environment = {**os.environ, "NIGBARU_PROGRAM": os.environ["XA_SCRIPT"]}
+    def pytest(self, *words, environment=None):
+        environment = environment or {**os.environ, "NIGBARU_PROGRAM": os.environ["XA_SCRIPT"]}
         with tempfile.TemporaryDirectory() as folder:
             ran = subprocess.run([sys.executable, "-m", "pytest", "-p", "no:cacheprovider", "--basetemp",
                                   f"{folder}/base", *words], stdout=subprocess.PIPE, stderr=subprocess.STDOUT,
@@ -45,6 +47,17 @@ class Plugin(unittest.TestCase):
 
     def test_the_example(self):
         status, said = self.pytest(EXAMPLE)
+        self.assertEqual(status, 0, said)
+        self.assertIn("4 passed", said)
+
+    def test_the_example_with_the_programs_of_a_wheel(self):
+        with tempfile.TemporaryDirectory() as folder:
+            package = shutil.copytree(DRIVER / "nigbaru", Path(folder, "nigbaru"))
+            (package / "built").mkdir()
+            for name, variable in (("xa_script", "XA_SCRIPT"), ("nigbaru-server", "NIGBARU_SERVER")):
+                (package / "built" / name).symlink_to(os.environ[variable])
+            status, said = self.pytest(EXAMPLE, environment={"PATH": "/nowhere", "PYTHONPATH": folder,
+                                                             "PYTHONDONTWRITEBYTECODE": "1"})
         self.assertEqual(status, 0, said)
         self.assertIn("4 passed", said)
 
