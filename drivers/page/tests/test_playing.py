@@ -1,8 +1,9 @@
 """Playing a story: one step is one message, at a pace; what is said of it; and who wants no motion has none."""
 import unittest
 
+from selenium.webdriver.common.action_chains import ActionChains
 from selenium.webdriver.common.keys import Keys
-from support import PAGE
+from support import PAGE, says
 from views import View
 
 CALLS = (PAGE / "scenarios/01_all_yes.calls").read_text()
@@ -193,6 +194,52 @@ class Playing(View):
                 self.assertIn("rows", moved)
             else:
                 self.assertEqual(self.browser.run("return window.moved"), [])
+
+    def crash(self, by_pointer):
+        if by_pointer:
+            head = self.browser.one('#sequence-heads .lane-head[data-lane="1"]')
+            ActionChains(self.browser.driver).move_to_element(head).click().perform()
+        else:
+            self.browser.press("x")
+
+    def test_a_crash_at_the_message_that_is_shown(self):
+        """By X and by a click on the coordinator: the calls are those of a stop, of which the program itself says what
+        is recovered. Once more, and the coordinator recovers."""
+        listed = says("stops", CALLS.encode())[0].decode().splitlines()
+        recovered = {line: listed[at + 1] for at, line in enumerate(listed) if line.startswith("STOP ")}
+        for line, message, statements, fails, by_pointer in [
+                (PREPARE, 1, 0, "FAIL 0 AFTER 0", False), (PREPARE, 2, 2, "FAIL 1 AFTER 0", True),
+                (FINISH, 3, 1, "FAIL 1 AFTER 0", False), (FINISH, 1, 0, "FAIL 0 AFTER 0", True)]:
+            with self.subTest(line=line, message=message):
+                self.open(calls=CALLS, at=line - 1)
+                self.at(line - 1)
+                for shown in range(1, message + 1):
+                    self.step(line, shown)
+                self.crash(by_pointer)
+                self.at(line + 2)
+                self.until(lambda: "Coordinator: gone" in self.browser.run(HEADS), "it is gone")
+                given = self.browser.run("return new URLSearchParams(location.hash.split('?')[1]).get('calls')")
+                self.assertEqual(given.splitlines(), [*LINES[:line - 1], fails, LINES[line - 1], "STOP", *LINES[line:]])
+                self.crash(by_pointer)
+                self.at(line + 3, 1)
+                self.assertNotIn("Coordinator: gone", self.browser.run(HEADS))
+                self.browser.chord(Keys.ALT, Keys.ARROW_DOWN)
+                self.at(line + 3)
+                self.assertEqual(self.browser.text("#calls-printed").splitlines()[0],
+                                 recovered[f"STOP {line} {statements}"])
+                self.assertEqual(self.browser.run(HEADS), [], "nothing is in doubt")
+
+    def test_a_crash_behind_a_whole_call_and_none_without_calls(self):
+        self.open()
+        self.until(lambda: self.browser.one("#commit-welcome").is_displayed(), "nothing is open")
+        self.browser.press("x")
+        self.assertNotIn("STOP", self.browser.run("return location.hash"))
+        self.open(calls=CALLS, at=PREPARE)
+        self.at(PREPARE)
+        self.browser.press("x")
+        self.at(PREPARE + 1)
+        self.until(lambda: self.browser.run(HEADS) == ["Coordinator: gone", "Store 0: in doubt", "Store 1: in doubt"],
+                   "both have voted")
 
     def test_progress_leads_to_a_call(self):
         self.open(calls=CALLS, at=0)

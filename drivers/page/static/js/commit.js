@@ -25,6 +25,7 @@ const BELOW = 12;
 const PEEK = 60; // so much of the calls that wait is seen
 const FIRST_SCENARIOS = ["all_yes", "crash_before_the_decision", "in_doubt_and_blocking"];
 const NUMBERS = ["UNDECIDED", "DECIDED", "CLOSED"];
+const COORDINATOR = '.lane-head[data-lane="1"]';
 
 export class Commit {
   constructor(app) {
@@ -53,7 +54,9 @@ export class Commit {
     this.player = wire(this.view, this.tape,
       { story: (lines, at) => this.open(lines, at, this.stores), quiz: this.quiz, print: () => this.print(),
         isOver: () => !this.messages.isWithin() && this.tape.at >= this.tape.lines.length,
-        more: { back: () => this.stepBack(), call: () => this.stepCall(), end: () => this.toEnd() } });
+        more: { back: () => this.stepBack(), call: () => this.stepCall(), end: () => this.toEnd(),
+          crash: () => this.crash() } });
+    this.listenToCoordinator();
     byId("progress").addEventListener("input", (event) => this.goToCall(Number(event.target.value)));
     byId("calls-form").addEventListener("submit", (event) => this.submit(event));
     byId("any-call").addEventListener("keydown", (event) => this.enterKey(event));
@@ -97,6 +100,38 @@ export class Commit {
   stepBack() {
     if (!this.quiz.isOn && this.messages.goBack(this.count())) return this.changed({});
     return this.tape.back();
+  }
+
+  // A click on the coordinator's head is what its button is.
+  listenToCoordinator() {
+    const heads = byId("sequence-heads");
+    const button = this.view.querySelector('[data-do="crash"]');
+    const isMeant = (event) => event.target.closest(COORDINATOR) && !button.disabled;
+    heads.addEventListener("click", (event) => {
+      fill(byId("cut-says"));
+      if (isMeant(event)) button.click();
+    });
+    heads.addEventListener("mouseover", (event) => fill(byId("cut-says"), isMeant(event) ? button.title : ""));
+    heads.addEventListener("mouseleave", () => fill(byId("cut-says")));
+  }
+
+  // Crashes the coordinator behind the message that is shown, or has it recover where it is gone.
+  crash() {
+    const done = this.stepping.then(() => this.crashOnce());
+    this.stepping = done.catch(() => {});
+    return done;
+  }
+
+  // The call ends where its next statement would be sent, as by scissors: without one it is at its end.
+  async crashOnce() {
+    const line = this.line();
+    const isGone = byId("sequence-heads").querySelector(`${COORDINATOR}.gone`) !== null;
+    const cut = isGone ? null : this.sequence.cutBehind(line, this.messages.shown);
+    if (cut) await this.tape.insert(line - 1, [`FAIL ${cut.store} AFTER ${cut.call}`], 1);
+    this.messages.showAll();
+    if (isGone && !this.quiz.isOn) this.messages.upcoming = 1;
+    await this.tape.give(isGone ? "RECOVER" : "STOP");
+    await this.drawing;
   }
 
   // To the end of the call, or of the next one.
@@ -322,7 +357,8 @@ export class Commit {
     this.announce();
     this.offerNext();
     this.showProgress();
-    enable(this.view, this.tape, { isWithin: within !== null, isAsked: this.quiz.isOn });
+    enable(this.view, this.tape, { isWithin: within !== null, isAsked: this.quiz.isOn,
+      hasCoordinator: byId("sequence-heads").querySelector(COORDINATOR) !== null });
   }
 
   showProgress() {

@@ -5,9 +5,11 @@ import { clicked, isProjected, isTyping } from "./projector.js";
 
 const KEYS = { ArrowRight: "step", End: "end", ArrowLeft: "back", Home: "start", ArrowDown: "call" };
 
-// P plays and pauses.
-const isPlay = (event) =>
-  event.key.toLowerCase() === "p" && !event.altKey && !event.ctrlKey && !event.metaKey && !isTyping(event);
+const LETTERS = { p: "play", x: "crash" };
+
+// P plays and pauses, X crashes.
+const byLetter = (event) =>
+  (event.altKey || event.ctrlKey || event.metaKey || isTyping(event) ? null : LETTERS[event.key.toLowerCase()]);
 
 // `story` opens lines; `quiz` is asked before a step; `print` draws all of it for a hand-out; `more` has what a view
 // does otherwise than its tape, and `isOver` whether it has no step left. The player is returned.
@@ -38,8 +40,9 @@ export function wire(view, tape, { story, quiz, print, more = {}, isOver = () =>
   addEventListener("keydown", (event) => {
     if (view.hidden) return;
     const isMeant = event.altKey || (isProjected() && !isTyping(event));
-    const wanted = clicked(event) ?? (isMeant ? KEYS[event.key] : null) ?? (isPlay(event) ? "play" : null);
-    if (!wanted || view.querySelector('[data-do="play"]').disabled && wanted === "play") return;
+    const letter = byLetter(event);
+    const wanted = clicked(event) ?? (isMeant ? KEYS[event.key] : null) ?? letter;
+    if (!wanted || (wanted === letter && view.querySelector(`[data-do="${letter}"]`)?.disabled !== false)) return;
     event.preventDefault();
     act(wanted);
   });
@@ -47,12 +50,13 @@ export function wire(view, tape, { story, quiz, print, more = {}, isOver = () =>
 }
 
 // Which buttons have something to do. `isWithin` is whether a part of what was given last isn't shown yet, and `isAsked`
-// whether a quiz is on, which isn't played.
-export function enable(view, tape, { isWithin = false, isAsked = false } = {}) {
+// whether a quiz is on, which isn't played; `hasCoordinator` whether there is one to crash.
+export function enable(view, tape, { isWithin = false, isAsked = false, hasCoordinator = false } = {}) {
   const waits = tape.at < tape.lines.length;
   const some = tape.lines.length > 0;
   const able = { start: tape.at > 0, step: waits || isWithin, call: waits || isWithin, end: waits || isWithin,
-    back: tape.at > 0, drop: waits, clear: some, quiz: true, print: some, play: some && !isAsked };
+    back: tape.at > 0, drop: waits, clear: some, quiz: true, print: some, play: some && !isAsked,
+    crash: some && hasCoordinator };
   for (const button of view.querySelectorAll("[data-do]")) button.disabled = !able[button.dataset.do];
   if (view.dataset.wants !== "step" || !waits) return;
   delete view.dataset.wants;

@@ -140,6 +140,13 @@ export class Sequence {
     return this.steps.find((it) => it.line === line)?.says.length ?? 0;
   }
 
+  // The first statement of a line that is sent behind a message: {store, call}; none where all are shown.
+  cutBehind(line, step) {
+    const messages = [...this.room.querySelectorAll(`.call[data-line="${line}"] .message`)];
+    return messages.filter((it) => step !== null && Number(it.dataset.step) > step)
+      .map((it) => it.querySelector('[data-act="fail"]')?.dataset).find(Boolean) ?? null;
+  }
+
   // Leaves out what comes behind a message of a line; null shows all of it.
   showUntil(line, step) {
     this.room.querySelector(".curtain-room")?.remove();
