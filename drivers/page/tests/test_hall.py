@@ -109,6 +109,29 @@ class Hall(View):
         self.browser.type('#entry input[name="1"]', "+")
         self.assertEqual(self.browser.run(size), before, "in a text it is a letter")
 
+    def test_a_question_mark_lists_all_keys(self):
+        """Each key that a button says it has; and while they are listed, none does anything."""
+        named = """return [...document.querySelectorAll('[aria-keyshortcuts]')].flatMap((it) =>
+            it.getAttribute('aria-keyshortcuts').split(' ')).map((key) => key.replace('Arrow', ''))"""
+        for view in ("sessions", "race", "commit", "judge", "server"):
+            self.at(view)
+            self.browser.press("?")
+            self.until(lambda: self.browser.one("#keys").is_displayed(), f"they are listed in {view}")
+            self.browser.press("?")
+            self.until(lambda: not self.browser.one("#keys").is_displayed(), "it closes them")
+        keys = {key for line in self.browser.texts("#keys dt") for key in line.split(", ")}
+        self.assertLessEqual({"P", "X", "PageDown", "Alt+Down"}, set(self.browser.run(named)))
+        self.assertLessEqual(set(self.browser.run(named)), keys)
+        self.at("sessions", script=STORY, at=3)
+        self.until(lambda: self.given() == 3, "three lines")
+        self.browser.press("?")
+        self.until(lambda: self.browser.one("#keys").is_displayed(), "they are listed")
+        self.browser.press(Keys.PAGE_DOWN, "f", "+", Keys.ESCAPE)
+        self.until(lambda: not self.browser.one("#keys").is_displayed(), "Escape closes them")
+        self.assertEqual((self.given(), self.browser.one("header").is_displayed()), (3, True))
+        self.browser.type('#entry input[name="1"]', "?")
+        self.assertFalse(self.browser.one("#keys").is_displayed(), "in a text it is a letter")
+
     def place(self):
         """How many lines were given, and how many messages of the last one are seen, 0 for all."""
         return self.given(), int((re.search(r"&message=(\d+)", self.browser.run("return location.hash")) or "00")[1])

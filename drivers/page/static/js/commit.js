@@ -111,7 +111,8 @@ export class Commit {
       fill(byId("cut-says"));
       if (isMeant(event)) button.click();
     });
-    heads.addEventListener("mouseover", (event) => fill(byId("cut-says"), isMeant(event) ? button.title : ""));
+    // heads that are drawn anew below a pointer at rest say nothing
+    heads.addEventListener("mousemove", (event) => fill(byId("cut-says"), isMeant(event) ? button.title : ""));
     heads.addEventListener("mouseleave", () => fill(byId("cut-says")));
   }
 

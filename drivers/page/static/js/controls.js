@@ -64,6 +64,20 @@ export function enable(view, tape, { isWithin = false, isAsked = false, hasCoord
   if (document.activeElement === document.body) view.querySelector('[data-do="step"]').focus();
 }
 
+// A question mark lists all keys, which do nothing else while they are listed.
+export function listenToHelp() {
+  const help = document.getElementById("keys");
+  const isAsked = (event) => event.key === "?" && !isTyping(event);
+  help.querySelector("button").addEventListener("click", () => help.close());
+  help.addEventListener("keydown", (event) => {
+    event.stopPropagation();
+    if (isAsked(event)) help.close();
+  });
+  addEventListener("keydown", (event) => {
+    if (isAsked(event)) help.showModal();
+  });
+}
+
 // A menu is closed by Escape, and by what is done elsewhere.
 export function listenToMenus() {
   const close = (but) => {

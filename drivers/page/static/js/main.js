@@ -2,7 +2,7 @@
 import * as address from "./address.js";
 import { ask, Failure, fetched } from "./api.js";
 import { Commit } from "./commit.js";
-import { listenToMenus } from "./controls.js";
+import { listenToHelp, listenToMenus } from "./controls.js";
 import { byId, el, fill } from "./dom.js";
 import { endingText } from "./ending.js";
 import { Judge } from "./judge.js";
@@ -26,6 +26,7 @@ class App {
     addEventListener("hashchange", () => this.enter());
     listen(() => this.enter());
     listenToMenus();
+    listenToHelp();
     byId("copy-link").addEventListener("click", (event) => copy(this.link(), event.target));
   }
 
