@@ -27,3 +27,4 @@ pub mod Underlying
 pub mod Layers
 pub mod Held
 pub mod Parted
+pub mod Packing

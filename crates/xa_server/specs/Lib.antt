@@ -12,6 +12,7 @@ pub mod View
 pub mod Layers
 pub mod Parts
 pub mod Merging
+pub mod Packed
 pub mod Errors
 pub mod Overview
 pub mod Held

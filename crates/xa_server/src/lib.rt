@@ -16,6 +16,7 @@ mod keys;
 pub mod laws;
 mod lock;
 mod overview;
+mod packed;
 mod part;
 mod reply;
 mod row;

@@ -6,13 +6,13 @@ ghost use Rattle.xa_xid.specs.Xid.{bytes_cmp};
 ghost use Rattle.xa_server.specs.Layers.{merged_at, kept_write, gathered};
 ghost use Rattle.xa_server.specs.Merging.{merged, least_of};
 
-use crate::lock::is_same_text;
+use crate::packed::{Packed, Row, Rows, copy_of_value};
 use crate::shared_text::SharedText;
 use std::alloc::{AllocError, Global};
 use std::cmp::Ordering;
 use std::marker::Model;
 use std::sync::Arc;
-use xa_xid::{Bytes, Key, NoMemory, copy_of};
+use xa_xid::{Bytes, Key, NoMemory};
 
 /// Rows that never change: for each key a value, or that the row was deleted. Copies share them.
 ///
@@ -20,7 +20,7 @@ use xa_xid::{Bytes, Key, NoMemory, copy_of};
 #[derive(Drop)]
 pub struct Run {
     /// The rows, ascending by key. A row without a value was deleted.
-    rows: Arc<Vec<(Key, Option<SharedText>)>>,
+    rows: Arc<Packed>,
 }
 
 impl Model for Run {
@@ -36,56 +36,20 @@ impl Model for Run {
 
     ghost coded = { map.code coded_key (coded_option coded_text) };
 
-    ghost view = { λ run. map.from_sorted {R = bytes_cmp} run.rows.value.items };
+    ghost view = { λ run. map.from_sorted {R = bytes_cmp} run.rows.value };
 
-    ghost invariant = { λ run. is_sorted bytes_cmp run.rows.value.items ≡ true };
-}
-
-/// Copies a row's value; none, if it was deleted.
-fn copy_of_write(write: &Option<SharedText>) -> Option<Bytes>
-    ensures { result ≡ write.now }
-{
-    match write {
-        None => None,
-        Some(text) => Some(copy_of(text.text())),
-    }
-}
-
-/// Adds an owner to a row's value; none, if it was deleted.
-fn share_of_write(write: &Option<SharedText>) -> Result<Option<SharedText>, NoMemory>
-    ensures { IfOk result (λ share. share ≡ write.now) }
-{
-    match write {
-        None => Ok(None),
-        Some(text) => Ok(Some(text.try_clone()?)),
-    }
-}
-
-/// Returns true only if two rows of runs are the same.
-fn is_same_row(row: &(Key, Option<SharedText>), other: &(Key, Option<SharedText>)) -> bool
-    ensures { result ≡ true → row.now ≡ other.now }
-{
-    if row.0 != other.0 {
-        return false;
-    }
-    match &row.1 {
-        None => other.1.is_none(),
-        Some(text) => match &other.1 {
-            None => false,
-            Some(another) => is_same_text(text.text(), another.text()),
-        },
-    }
+    ghost invariant = { λ run. is_sorted bytes_cmp run.rows.value ≡ true };
 }
 
 /// Returns true only if both lists have the same rows.
-fn has_same_rows(rows: &[(Key, Option<SharedText>)], others: &[(Key, Option<SharedText>)]) -> bool
-    ensures { result ≡ true → rows.now ≡ others.now }
+fn has_same_rows(rows: Rows<'_>, others: Rows<'_>) -> bool
+    ensures { result ≡ true → rows.entry ≡ others.entry }
 {
     let mut left = rows;
     let mut rest = others;
     while let Some((row, later)) = left.split_first() {
         match rest.split_first() {
-            Some((other, last)) if is_same_row(row, other) => {
+            Some((other, last)) if row.is_same(other) => {
                 left = later;
                 rest = last;
             }
@@ -96,20 +60,21 @@ fn has_same_rows(rows: &[(Key, Option<SharedText>)], others: &[(Key, Option<Shar
 }
 
 /// Finds a row by its key among rows that ascend by key: its value, or that it was deleted. `None` if it isn't there.
-fn find_in(rows: &[(Key, Option<SharedText>)], key: &Key) -> Option<Option<Bytes>>
-    requires { is_sorted bytes_cmp rows.now ≡ true }
-    ensures { result ≡ map.find bytes_cmp key.now rows.now }
+fn find_in(rows: Rows<'_>, key: &Key) -> Option<Option<Bytes>>
+    requires { is_sorted bytes_cmp rows ≡ true }
+    ensures { result ≡ map.find bytes_cmp key.now rows.entry }
 {
     let mut left = rows;
     while !left.is_empty() {
-        let (front, back) = left.split_at(left.len() / 2);
+        let half = left.len() / 2;
+        let (front, back) = left.split_at(half);
         // Half of some rows, rounded down, leaves at least one.
         let Some((row, rest)) = back.split_first() else {
             return None;
         };
-        match key.cmp(&row.0) {
+        match key.as_slice().cmp(row.key) {
             Ordering::Less => left = front,
-            Ordering::Equal => return Some(copy_of_write(&row.1)),
+            Ordering::Equal => return Some(copy_of_value(row.value)),
             Ordering::Greater => left = rest,
         }
     }
@@ -118,64 +83,54 @@ fn find_in(rows: &[(Key, Option<SharedText>)], key: &Key) -> Option<Option<Bytes
 
 /// Returns which of two lists of rows has the row with the least key: the first (`Less`), the second (`Greater`), or
 /// both. An empty list hasn't.
-fn least(newer: &[(Key, Option<SharedText>)], older: &[(Key, Option<SharedText>)]) -> Ordering
+fn least(newer: &Rows<'_>, older: &Rows<'_>) -> Ordering
     ensures { result ≡ least_of bytes_cmp newer.now older.now }
 {
-    let Some((row, _)) = newer.split_first() else {
+    let Some(row) = newer.first() else {
         return Ordering::Greater;
     };
-    match older.split_first() {
+    match older.first() {
         None => Ordering::Less,
-        Some((other, _)) => row.0.cmp(&other.0),
+        Some(other) => row.key.cmp(other.key),
     }
 }
 
 /// Adds the first row of `from` to a list, unless `is_last` and the row was deleted, and returns the others of `from`.
 /// An empty `from` adds nothing.
-fn push_first<'a>(
-    rows: &mut Vec<(Key, Option<SharedText>)>,
-    from: &'a [(Key, Option<SharedText>)],
-    is_last: bool,
-) -> Result<&'a [(Key, Option<SharedText>)], NoMemory>
-    ensures pushed { OnOk result (rows.new.items ≡ rows.old.items ++ gathered (kept_write is_last) (take 1 from.now)) }
-    ensures rest { IfOk result (λ rest. rest.now ≡ drop 1 from.now) }
+fn push_first<'a>(rows: &mut Packed, from: Rows<'a>, is_last: bool) -> Result<Rows<'a>, NoMemory>
+    ensures pushed { OnOk result (rows.new ≡ rows.old ++ gathered (kept_write is_last) (take 1 from.entry)) }
+    ensures rest { IfOk result (λ rest. rest ≡ drop 1 from.entry) }
 {
-    let Some((row, rest)) = from.split_first() else {
+    let Some(row) = from.first() else {
         return Ok(from);
     };
     // In the last run a deletion hides nothing.
-    if row.1.is_some() || !is_last {
-        rows.push((row.0.copy(), share_of_write(&row.1)?))?;
+    if row.value.is_some() || !is_last {
+        rows.push(row)?;
     }
-    Ok(rest)
+    Ok(skip_first(from))
 }
 
 /// Returns the rows after the first.
-fn skip_first(rows: &[(Key, Option<SharedText>)]) -> &[(Key, Option<SharedText>)]
-    ensures { result.now ≡ drop 1 rows.now }
+fn skip_first(rows: Rows<'_>) -> Rows<'_>
+    ensures { result ≡ drop 1 rows.entry }
 {
-    match rows.split_first() {
-        None => rows,
-        Some((_, rest)) => rest,
+    if rows.is_empty() {
+        return rows;
     }
+    rows.split_at(1).1
 }
 
 /// Merges two lists of rows, each ascending by key. For a row that both have, the one of `newer` counts. If the result
 /// `is_last`, rows that were deleted aren't kept.
-fn merge(
-    alloc: Global,
-    newer: &[(Key, Option<SharedText>)],
-    older: &[(Key, Option<SharedText>)],
-    is_last: bool,
-) -> Result<Vec<(Key, Option<SharedText>)>, NoMemory>
-    ensures { IfOk result (λ rows. rows.items
-        ≡ gathered (kept_write is_last) (merged bytes_cmp newer.now older.now)) }
+fn merge(alloc: Global, newer: Rows<'_>, older: Rows<'_>, is_last: bool) -> Result<Packed, NoMemory>
+    ensures { IfOk result (λ rows. rows ≡ gathered (kept_write is_last) (merged bytes_cmp newer.entry older.entry)) }
 {
-    let mut rows = Vec::new(alloc);
+    let mut rows = Packed::new(alloc);
     let mut newer = newer;
     let mut older = older;
     while !newer.is_empty() || !older.is_empty() {
-        match least(newer, older) {
+        match least(&newer, &older) {
             Ordering::Less => newer = push_first(&mut rows, newer, is_last)?,
             Ordering::Equal => {
                 newer = push_first(&mut rows, newer, is_last)?;
@@ -183,6 +138,24 @@ fn merge(
             }
             Ordering::Greater => older = push_first(&mut rows, older, is_last)?,
         }
+    }
+    Ok(rows)
+}
+
+/// Packs rows.
+fn packed(alloc: Global, list: Vec<(Key, Option<SharedText>)>) -> Result<Packed, NoMemory>
+    ensures { IfOk result (λ rows. rows ≡ list.items) }
+{
+    let mut rows = Packed::new(alloc);
+    for (key, value) in &list {
+        let row = Row {
+            key: key.as_slice(),
+            value: match value {
+                None => None,
+                Some(text) => Some(text.text().as_slice()),
+            },
+        };
+        rows.push(row)?;
     }
     Ok(rows)
 }
@@ -199,27 +172,35 @@ impl Clone for Run {
 }
 
 impl Run {
-    /// Makes a run of these rows, which ascend by key.
-    pub fn of(alloc: Global, rows: Vec<(Key, Option<SharedText>)>) -> Result<Run, NoMemory>
-        requires { is_sorted bytes_cmp rows.items ≡ true }
-        ensures { IfOk result (λ run. run ≡ map.from_sorted {R = bytes_cmp} rows.items) }
+    /// Makes a run of rows, which ascend by key.
+    fn of_packed(alloc: Global, rows: Packed) -> Result<Run, NoMemory>
+        requires { is_sorted bytes_cmp rows ≡ true }
+        ensures { IfOk result (λ run. run ≡ map.from_sorted {R = bytes_cmp} rows) }
     {
         Ok(Run {
             rows: Arc::new(alloc, rows)?,
         })
     }
 
+    /// Makes a run of these rows, which ascend by key.
+    pub fn of(alloc: Global, rows: Vec<(Key, Option<SharedText>)>) -> Result<Run, NoMemory>
+        requires { is_sorted bytes_cmp rows.items ≡ true }
+        ensures { IfOk result (λ run. run ≡ map.from_sorted {R = bytes_cmp} rows.items) }
+    {
+        Run::of_packed(alloc, packed(alloc, rows)?)
+    }
+
     /// Returns how many rows it has, those that were deleted among them.
     pub fn len(&self) -> usize {
-        self.rows.len()
+        self.rows.rows().len()
     }
 
     /// Returns the rows, ascending by key.
-    pub fn rows(&self) -> &[(Key, Option<SharedText>)]
-        ensures seen { map.from_sorted {R = bytes_cmp} result.now ≡ self.now }
-        ensures ordered { is_sorted bytes_cmp result.now ≡ true }
+    fn rows(&self) -> Rows<'_>
+        ensures seen { map.from_sorted {R = bytes_cmp} result ≡ self.now }
+        ensures ordered { is_sorted bytes_cmp result ≡ true }
     {
-        self.rows.as_slice()
+        self.rows.rows()
     }
 
     /// Returns true only if both have the same rows.
@@ -242,6 +223,6 @@ impl Run {
         ensures { IfOk result (λ run. (key : List ℕ) → map.get run key
             ≡ merged_at is_last (map.get self.now key) (map.get older.now key)) }
     {
-        Run::of(alloc, merge(alloc, self.rows(), older.rows(), is_last)?)
+        Run::of_packed(alloc, merge(alloc, self.rows(), older.rows(), is_last)?)
     }
 }

@@ -24,11 +24,10 @@
 #define MB 1000000L
 
 /* Megabytes beside the ring: what the test asks for, if each thread writes a hundred rows or if all rows are written, and
-   what a store should take at most in both cases. They differ where that isn't reached. Runs aren't packed: a row takes 88
-   bytes in a list that may have room for more, and its value has a block of 80. And if all rows are written, half of the
-   memory may be what glibc's allocator keeps for later. */
+   what a store should take at most in both cases. If all rows are written, half of the memory and more may be what
+   glibc's allocator keeps for later, and how much that is depends on what else the machine does. */
 static const struct bound { long rows, held, held_all, aimed; } bounds[] = {
-    {100000, 50, 160, 50}, {1000000, 240, 800, 200}};
+    {100000, 30, 80, 50}, {1000000, 80, 200, 200}};
 
 struct worker {
   pthread_t thread;

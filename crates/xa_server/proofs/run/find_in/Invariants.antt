@@ -7,7 +7,7 @@ use Rattle.xa_server.proofs.run.find_in.Given as goal
 abbrev pub invariant-loop-left : goal.invariant-loop-left
 invariant-loop-left l = record {
   sorted : is_sorted bytes_cmp l.left ≡ true;
-  same : find bytes_cmp l.key l.left ≡ find bytes_cmp l.key l.rows;
+  same : find bytes_cmp l.key l.left ≡ find bytes_cmp l.key l.fn.rows;
 }
 
 abbrev pub decreases-loop-left : goal.decreases-loop-left

@@ -4,15 +4,15 @@ use Rattle.xa_server.specs.Layers.{kept_write}
 use Rattle.xa_server.proofs.Merging.{adds_newer, adds_both, adds_older}
 use Rattle.xa_server.proofs.run.merge.Goals as goal
 
-pub loop-newer-preserved-in-Less : goal.loop-newer-preserved-in-Less
-loop-newer-preserved-in-Less c =
-    adds_newer bytes_cmp (kept_write c.args.is_last) c.loop-newer.rows.items _ _ c.loop-newer.newer.now
-    c.loop-newer.older.now _ (sym c.in-Less.ensures)
-    c.in_ok-newer-in-Less.ensures.pushed c.in_ok-newer-in-Less.ensures.rest c.loop-newer.invariant
+pub loop-older-preserved-in-Less : goal.loop-older-preserved-in-Less
+loop-older-preserved-in-Less c =
+    adds_newer bytes_cmp (kept_write c.args.is_last) c.loop-older.rows _ _ c.loop-older.newer
+    c.loop-older.older _ (sym c.in-Less.ensures)
+    c.in_ok-newer-in-Less.ensures.pushed c.in_ok-newer-in-Less.ensures.rest c.loop-older.invariant
 
-pub loop-newer-preserved-in-Equal : goal.loop-newer-preserved-in-Equal
-loop-newer-preserved-in-Equal c =
-    adds_both bytes_cmp (kept_write c.args.is_last) c.loop-newer.rows.items _ _ c.loop-newer.newer.now
-    c.loop-newer.older.now _ _ (sym c.in-Equal.ensures)
+pub loop-older-preserved-in-Equal : goal.loop-older-preserved-in-Equal
+loop-older-preserved-in-Equal c =
+    adds_both bytes_cmp (kept_write c.args.is_last) c.loop-older.rows _ _ c.loop-older.newer
+    c.loop-older.older _ _ (sym c.in-Equal.ensures)
     c.in_ok-newer-in-Equal.ensures.pushed c.in_ok-newer-in-Equal.ensures.rest c.skip_first-older.ensures
-    c.loop-newer.invariant
+    c.loop-older.invariant

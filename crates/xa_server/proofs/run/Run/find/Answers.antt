@@ -5,4 +5,4 @@ use Rattle.xa_server.proofs.run.Run.find.Goals as goal
 pub returns : goal.returns
 returns c =
     c.find_in.ensures
-    ∙ found_run c.rows.result.now c.args.self.now c.args.key.now c.rows.ensures.ordered c.rows.ensures.seen
+    ∙ found_run c.rows.result c.args.self.now c.args.key.now c.rows.ensures.ordered c.rows.ensures.seen

@@ -3,13 +3,13 @@ use Rattle.xa_server.proofs.Outcomes.{if_ok}
 use Rattle.xa_server.proofs.Underlying.{sorted_over, merged_run}
 use Rattle.xa_server.proofs.run.Run.over.Goals as goal
 
-pub of-requires : goal.of-requires
-of-requires c =
-    sorted_over (kept_write c.args.is_last) c.rows.result.now c.rows-2.result.now _
+pub of_packed-requires : goal.of_packed-requires
+of_packed-requires c =
+    sorted_over (kept_write c.args.is_last) c.rows.result c.rows-2.result _
     c.rows.ensures.ordered c.rows-2.ensures.ordered c.in_ok-merge.ensures
 
 pub returns : goal.returns
 returns c =
-    if_ok c.of.result c.of.ensures (λ run is key.
-    merged_run c.args.is_last c.rows.result.now c.rows-2.result.now _ c.args.self.now c.args.older.now run key
+    if_ok c.of_packed.result c.of_packed.ensures (λ run is key.
+    merged_run c.args.is_last c.rows.result c.rows-2.result _ c.args.self.now c.args.older.now run key
     c.rows.ensures.ordered c.rows-2.ensures.ordered c.in_ok-merge.ensures c.rows.ensures.seen c.rows-2.ensures.seen is)
