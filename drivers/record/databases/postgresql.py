@@ -38,6 +38,7 @@ NUMBERS = {
 OTHER = 1105
 SERIALIZATION_FAILURE = "40001"
 BUSY = "55000"
+NO_ROOM = "53200"  # also where as many are prepared as max_prepared_transactions says
 LEVELS = {"read-committed": "READ COMMITTED", "repeatable-read": "REPEATABLE READ", "serializable": "SERIALIZABLE"}
 USUAL_LEVEL = "read-committed"
 NAME = re.compile(r"(\d+)_([\w+/=]*)_([\w+/=]*)", re.A)
@@ -271,7 +272,7 @@ class Client:
         try:
             self.execute(text)
         except psycopg2.Error as error:
-            if error.pgcode == SERIALIZATION_FAILURE:
+            if error.pgcode in (SERIALIZATION_FAILURE, NO_ROOM):
                 raise RolledBack(*self.meaning(error).args) from error
             raise
         finally:

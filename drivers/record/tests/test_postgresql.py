@@ -198,6 +198,24 @@ class PostgreSql(unittest.TestCase):
         with self.assertRaisesRegex(Fault, "max_prepared_transactions is 0, so it prepares nothing; start it with 100"):
             database.begin([b"k"])
 
+    def test_a_branch_that_there_is_no_room_to_prepare_is_rolled_back(self):
+        """The server has prepared as many as it may."""
+        database = self.database()
+        record, sessions = survey.sessions_of([(0, 1, b"PUT 'k','1'"), (0, 2, b"GET 'k'")],
+                                              SimpleNamespace(lose={}, cut={}, timeout=None), database)
+        for text in b"XA START 'a'", b"PUT 'k','1'", b"XA END 'a'":
+            sessions[1].give(text)
+        [(room,)] = database.ask("SHOW max_prepared_transactions")
+        for number in range(int(room)):
+            database.ask("BEGIN")
+            database.ask(f"PREPARE TRANSACTION '{number}'")
+        sessions[1].give(b"XA PREPARE 'a'")
+        sessions[2].give(b"GET 'k'")
+        survey.end(sessions)
+        lines = [line.decode() for line in record.lines]
+        self.assertEqual(lines[-4:], ["1 > XA PREPARE 'a'", "1 ! GONE", "2 > GET 'k'", "2 < NONE"])
+        self.assertEqual(self.verdict(lines), "LEGAL")
+
     def test_busy_is_left_open(self):
         """Many sessions end one branch at once: one does, and all others are refused. The branch may still be listed
         after it was busy, so the rules have no number for that."""
