@@ -29,6 +29,7 @@ bench: ## break a small transaction manager at every point: likewise; needs pyth
 
 rt:
 	@command -v rt > /dev/null || \
-		{ echo "there is no rt on the path: README.md says in 'Quick start' where it comes from" >&2; exit 1; }
+		{ printf '%s\n' "there is no rt on the path: README.md says in 'Quick start' where it comes from." \
+			'To use a release you need none: docs/INSTALL.md says what to ask for.' >&2; exit 1; }
 
 .PHONY: help try build test release server page bench rt
