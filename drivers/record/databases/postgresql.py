@@ -94,6 +94,8 @@ class Database:
         self.is_killed = False
         self.lock = threading.Lock()
         self.open("postgres")
+        if self.ask("SHOW max_prepared_transactions") == [("0",)]:
+            raise Fault("the server's max_prepared_transactions is 0, so it prepares nothing; start it with 100")
         if not self.ask(f"SELECT 1 FROM pg_database WHERE datname = '{options.database}'"):
             self.ask(f'CREATE DATABASE "{options.database}"')
         self.close()
@@ -122,8 +124,6 @@ class Database:
 
     def begin(self, keys):
         """Rolls back what is prepared, and makes the table anew, with a row for each key."""
-        if self.ask("SHOW max_prepared_transactions") == [("0",)]:
-            raise Fault("the server's max_prepared_transactions is 0, so it prepares nothing; start it with 100")
         for (name,) in self.ask("SELECT gid FROM pg_prepared_xacts WHERE database = current_database()"):
             self.ask("ROLLBACK PREPARED '%s'" % name.replace("'", "''"))
         self.ask("DROP TABLE IF EXISTS judged")

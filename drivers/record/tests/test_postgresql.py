@@ -193,10 +193,13 @@ class PostgreSql(unittest.TestCase):
             self.assertEqual(postgresql.xid_named(postgresql.name_of(xid)), xid)
 
     def test_a_server_that_prepares_nothing(self):
-        database = self.database()
-        database.ask = lambda text: [("0",)] if text == "SHOW max_prepared_transactions" else []
-        with self.assertRaisesRegex(Fault, "max_prepared_transactions is 0, so it prepares nothing; start it with 100"):
-            database.begin([b"k"])
+        """It is refused before a database is made there."""
+        options = self.database().options
+        cause = "max_prepared_transactions is 0, so it prepares nothing; start it with 100"
+        with mock.patch.object(postgresql.Database, "ask", return_value=[("0",)]) as ask, \
+                self.assertRaisesRegex(Fault, cause):
+            postgresql.Database(options)
+        ask.assert_called_once_with("SHOW max_prepared_transactions")
 
     def test_a_branch_that_there_is_no_room_to_prepare_is_rolled_back(self):
         """The server has prepared as many as it may."""
