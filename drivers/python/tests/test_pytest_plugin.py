@@ -35,7 +35,7 @@ class Plugin(unittest.TestCase):
         with tempfile.TemporaryDirectory() as folder:
             ran = subprocess.run([sys.executable, "-m", "pytest", "-p", "no:cacheprovider", "--basetemp",
                                   f"{folder}/base", *words], stdout=subprocess.PIPE, stderr=subprocess.STDOUT,
-                                 text=True, env=environment)
+                                 text=True, env=environment, cwd=folder)  # (python takes packages from there)
         return ran.returncode, ran.stdout
 
     def outcome_of(self, text):
