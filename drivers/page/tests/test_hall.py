@@ -244,6 +244,18 @@ class Hall(View):
             self.assert_one_row(view)
             self.assertEqual(self.browser.run(WIDE), 0)
 
+    def test_what_a_link_leads_to_is_below_the_heads(self):
+        """Its statement too, though its answer is long."""
+        script = (ROOT / "cases/show/lock_conflict.script").read_text()
+        at = 1 + script.splitlines().index("2 PUT 'row','2'")
+        for width, height in ((1280, 800), (1024, 768)):
+            self.sized(width, height)
+            self.at("sessions", script=script, at=at)
+            self.until(lambda: self.given() == at, "it is answered")
+            top, bottom = self.browser.run("""const box = (css) => document.querySelector(css).getBoundingClientRect();
+                return [box('.line.current .statement').top, box('#heads').bottom];""")
+            self.assertGreaterEqual(top, bottom)
+
     def assert_one_row(self, view):
         rows = self.browser.run(CONTROLS, view)
         self.assertLess(max(rows) - min(rows), 12, f"{view} has one row of tools")

@@ -130,13 +130,14 @@ export class Sessions {
       ([text], at) => (text === this.read[at]?.text ? this.read[at] : { text, ...readShown(text) }));
     this.columns = Math.max(this.columns, widestSession(this.tape.lines));
     this.quiz.follow();
+    // what stands above the lines comes first: with it the lines' room is as high as it stays
+    byId("welcome").hidden = this.tape.lines.length > 0;
+    fill(byId("story-remark"), remarkOf(this.tape.lines));
     this.drawHeads();
     this.drawLines();
     this.drawStore();
     this.announce();
     enable(this.view, this.tape, { isAsked: this.quiz.isOn });
-    byId("welcome").hidden = this.tape.lines.length > 0;
-    fill(byId("story-remark"), remarkOf(this.tape.lines));
     follow(byId("story"), this.stories, (story) => linesOf(story.text).join("\n") === this.tape.lines.join("\n"));
     this.app.keep("sessions", this.state());
     if (news.times) this.app.measured(news.times);
