@@ -1,9 +1,9 @@
 /* A store that threads share, over nigbaru.h: its sessions are lent, and given back, from any thread.
 
-   A seat is a session that is lent, to one thread at a time. No call takes a lock. If a thread is stopped in the middle
-   of a call, the others go on, except in the cases of docs/EMBEDDING.md#threads. A handle of a seat is a value: it may
-   be copied and passed on. After nigbaru_seat_leave no copy of it does anything any more, also if another thread has the
-   same session by then. This file is tested, not proved. */
+   A seat is a session that is lent, to one thread at a time. The library takes no lock. If a thread is stopped in the
+   middle of a call, the others go on, except in the cases of docs/EMBEDDING.md#threads. A handle of a seat is a value:
+   it may be copied and passed on. After nigbaru_seat_leave no copy of it does anything any more, also if another thread
+   has the same session by then. This file is tested, not proved. */
 #ifndef NIGBARU_SHARED_H
 #define NIGBARU_SHARED_H
 

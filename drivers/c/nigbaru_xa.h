@@ -3,7 +3,8 @@
 
    README.md, 'A resource manager', says what xa_open's string holds, what a thread of control owes, and what each call
    answers in each state. A mutex is taken by xa_open, by xa_close, by the end of a thread that has a store open, and by
-   nigbaru_xa_drop; no other call takes a lock, or waits for another thread. */
+   nigbaru_xa_drop. No other call takes a lock of the library's; docs/EMBEDDING.md#threads says when one may have to
+   wait for another thread. */
 #ifndef NIGBARU_XA_H
 #define NIGBARU_XA_H
 

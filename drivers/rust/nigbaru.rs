@@ -1,7 +1,7 @@
 //! A verified XA row store, called from plain Rust over its C interface (crates/nigbaru_c/include/nigbaru.h).
 //!
-//! A [`Store`] may be shared by threads; each [`Session`] is one thread's at a time, and may be sent to another. No
-//! call takes a lock, but a session that is behind may try for as long as a stopped thread has what it needs:
+//! A [`Store`] may be shared by threads; each [`Session`] is one thread's at a time, and may be sent to another. The
+//! library takes no lock, but a session that is behind may try for as long as a stopped thread has what it needs:
 //! docs/EMBEDDING.md#threads. What a statement is, and what it is answered: docs/STATEMENTS.md. The
 //! library is proved, this file is tested.
 use std::cell::UnsafeCell;
