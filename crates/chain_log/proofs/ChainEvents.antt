@@ -1,29 +1,17 @@
 -- Steps of a chain are nothing or one event of the log machine.
-use Rattle.std.proofs.Common.{◌≡◌, ℕ, ◌<◌, List, [], ◌∷◌, ◌++◌, length, set, refl, ap, sym, ◌∙◌}
-use Rattle.std.proofs.Common.{subst, inl, inr}
+use Rattle.std.proofs.Common.{◌≡◌, ℕ, ◌<◌, List, [], ◌∷◌, ◌++◌, length, set, refl, ap, sym, ◌∙◌, subst, inl, inr}
 use Rattle.std.specs.Prelude.{slice_index}
-use mathlib.Core.Option.{some}
-use mathlib.Core.Logic.{dite}
-use native.Mathlib.Decide.{ℕ_discrete}
-use lib.ListN.{get_elem?}
-use Rattle.xa_words.specs.Entry.{Entry, IsEntry}
-use Rattle.xa_words.specs.Words.{words_of}
-use Rattle.decision_log.specs.declared.view.PassView.{PassView}
-use Rattle.decision_log.specs.declared.view.SeatView.{SeatView}
-use Rattle.decision_log.specs.declared.view.SeatView.TheVariants.{Single, Pair}
-use Rattle.decision_log.specs.declared.sizes.Sizes.{Sizes}
-use Rattle.decision_log.specs.Atomic.{Atomic, Does}
-use Rattle.decision_log.specs.Draft.{drafted}
-use Rattle.decision_log.specs.Observed.{met, MetAt}
-use Rattle.decision_log.specs.MachineSteps.{Learns, StepsTo}
-use Rattle.decision_log.proofs.LogRules.{known}
-use Rattle.decision_log.proofs.LearnedSteps.{rests_learn, looks_learn, meets_learn}
-use Rattle.decision_log.proofs.StepsOfSeats.{steps_to}
-use Rattle.chain_log.specs.Cells.{name_at, newest_of}
-use Rattle.chain_log.specs.ChainRule.{ChainRule, Knows, newest_for}
-use Rattle.chain_log.specs.ChainTransitions.{won}
+use mathlib.Core.{Option.some, Logic.dite}
+use Rattle.xa_words.specs.{Entry.{Entry, IsEntry}, Words.words_of}
+use Rattle.decision_log.specs.declared.view.{PassView.PassView, SeatView.{SeatView, TheVariants.{Single, Pair}}}
+use Rattle.decision_log.specs.{declared.sizes.Sizes.Sizes, Atomic.{Atomic, Does}, Draft.drafted, Observed.{met, MetAt}}
+use Rattle.decision_log.{specs.MachineSteps.{Learns, StepsTo}, proofs.LogRules.known}
+use Rattle.decision_log.proofs.{LearnedSteps.{rests_learn, looks_learn, meets_learn}, StepsOfSeats.steps_to}
+use Rattle.chain_log.specs.{Cells.{name_at, newest_of}, ChainRule.{ChainRule, Knows, newest_for}, ChainTransitions.won}
 use Rattle.chain_log.specs.ChainSteps.{IsChainStep, sees, reads, finds, drafts, exchanges}
 use Rattle.chain_log.proofs.ChainStores.{one_log, all_seen, stored_log, won_log}
+use native.Mathlib.Decide.{ℕ_discrete}
+use lib.ListN.{get_elem?}
 
 -- a pass whose newest cell word 0 names has seen the whole history
 seen_all : (sizes : Sizes) (words : List ℕ) (views : List SeatView) (r : ChainRule sizes words views) (h : PassView)

@@ -1,14 +1,10 @@
 -- The seats of a chain: its words have what splitting and joining seats asks, and words of zeros begin it.
 use Rattle.std.proofs.Common.{◌≡◌, ℕ, [], sym, ap, ◌∙◌, Some, None, arith}
 use Rattle.xa_words.specs.Entry.{Entry}
-use Rattle.decision_log.specs.declared.sizes.Sizes.{Sizes}
-use Rattle.decision_log.specs.Seats.{all_passes}
-use Rattle.decision_log.specs.AtTable.{KeepsSeats, OpensSeats}
+use Rattle.decision_log.specs.{declared.sizes.Sizes.Sizes, Seats.all_passes, AtTable.{KeepsSeats, OpensSeats}}
 use Rattle.decision_log.proofs.SeatRule.{HasWords, seats_kept, opens_seats}
-use Rattle.chain_log.specs.Cells.{word_count, newest_of}
-use Rattle.chain_log.specs.ChainRule.{newest_for, HasCells, HasDraft}
-use Rattle.chain_log.proofs.ChainSteps.{Rules, blank}
-use Rattle.chain_log.proofs.Names.{name_zero}
+use Rattle.chain_log.specs.{Cells.{word_count, newest_of}, ChainRule.{newest_for, HasCells, HasDraft}}
+use Rattle.chain_log.proofs.{ChainSteps.{Rules, blank}, Names.name_zero}
 
 -- a chain's words have what `HasWords` asks: an idle pass knows nothing of them, and word 0 names the newest cell
 has_words : HasWords HasCells HasDraft newest_for

@@ -1,29 +1,17 @@
 -- The loads of a chain keep the rule, and tell what their transitions say.
 -- Here `h` is a pass's view: what a seat of the log knows of that pass.
 use Rattle.std.proofs.Common.{◌≡◌, ◌≢◌, ℕ, ◌+◌, ◌<◌, List, [], ◌∷◌, length, set, get_or, refl, ap, sym, ◌∙◌, subst}
-use Rattle.std.proofs.Common.{Some, arith}
-use Rattle.std.specs.Prelude.{slice_get}
+use Rattle.std.{proofs.{Common.{Some, arith}, lemmas.Option.slice_get_within}, specs.Prelude.slice_get}
 use mathlib.Core.Option.{some}
-use lib.ListN.{get_elem?}
-use Rattle.std.proofs.lemmas.Option.{slice_get_within}
 use Rattle.atomic_table.specs.Table.{State, Allows}
-use Rattle.xa_words.specs.Entry.{Entry}
-use Rattle.xa_words.specs.Words.{words_of}
-use Rattle.xa_words.proofs.Spelling.{length-words_of}
-use Rattle.decision_log.specs.declared.view.PassView.{PassView}
-use Rattle.decision_log.specs.declared.view.SeatView.{SeatView}
-use Rattle.decision_log.specs.declared.view.SeatView.TheVariants.{Single}
-use Rattle.decision_log.specs.declared.sizes.Sizes.{Sizes}
-use Rattle.decision_log.specs.History.{Begins, entries_of}
-use Rattle.decision_log.specs.Seats.{seated}
-use Rattle.decision_log.specs.Atomic.{Tells}
-use Rattle.decision_log.proofs.Histories.{begins_itself, get_begins}
-use Rattle.decision_log.proofs.Drafts.{holds_nothing}
+use Rattle.xa_words.{specs.{Entry.Entry, Words.words_of}, proofs.Spelling.length-words_of}
+use Rattle.decision_log.specs.declared.view.{PassView.PassView, SeatView.{SeatView, TheVariants.Single}}
+use Rattle.decision_log.specs.{declared.sizes.Sizes.Sizes, History.{Begins, entries_of}, Seats.seated, Atomic.Tells}
+use Rattle.decision_log.proofs.{Histories.{begins_itself, get_begins}, Drafts.holds_nothing}
 use Rattle.decision_log.proofs.LogRules.{known, history, stepped, unmoved, load_step}
-use Rattle.chain_log.specs.Cells.{name_at, cell_at, name_before, newest_of}
-use Rattle.chain_log.specs.ChainRule.{own_cell, HasDraft, Knows, ChainRule}
-use Rattle.chain_log.specs.ChainTransitions.{with_look, Sees, Reads}
-use Rattle.chain_log.proofs.Names.{name_begins}
+use Rattle.chain_log.{specs.Cells.{name_at, cell_at, name_before, newest_of}, proofs.Names.name_begins}
+use Rattle.chain_log.specs.{ChainRule.{own_cell, HasDraft, Knows, ChainRule}, ChainTransitions.{with_look, Sees, Reads}}
+use lib.ListN.{get_elem?}
 
 -- what holds of the words of a chain and of all passes' views, between any two steps
 abbrev pub Rules : Sizes → State Entry SeatView → Type 0

@@ -1,38 +1,26 @@
 -- The steps of a chain that change a word keep the rule.
 -- Here `h` is a pass's view: what a seat of the log knows of that pass.
 use Rattle.std.proofs.Common.{◌≡◌, ◌≢◌, ℕ, ◌+◌, ◌-◌, ◌<◌, ◌≤◌, List, [], ◌∷◌, ◌++◌, length, take, set, get_or, refl, ap}
-use Rattle.std.proofs.Common.{sym, ◌∙◌, subst, ⊎_elim, Some, arith}
-use Rattle.std.proofs.Common.{eqb, length-append}
-use Rattle.std.specs.Prelude.{slice_get}
-use mathlib.Core.Option.{some}
-use mathlib.Core.Logic.{dite}
-use native.Mathlib.Decide.{ℕ_discrete, dec_le}
-use lib.ListN.{get_elem?}
-use prog.Atomic.{either}
-use Rattle.std.proofs.lemmas.Option.{slice_get_within}
+use Rattle.std.proofs.Common.{sym, ◌∙◌, subst, ⊎_elim, Some, arith, eqb, length-append}
+use Rattle.std.{proofs.lemmas.Option.slice_get_within, specs.Prelude.slice_get}
 use Rattle.std.proofs.lemmas.List.{length-set, get_or-set_same, get_or-set_other, length-take-le, set-get_or}
-use Rattle.atomic_table.specs.Table.{keeps, Allows}
-use Rattle.atomic_table.proofs.Lists.{exchanged}
-use Rattle.xa_words.specs.Entry.{Entry, IsEntry}
-use Rattle.xa_words.specs.Words.{words_of}
-use Rattle.xa_words.proofs.Spelling.{length-words_of}
-use Rattle.decision_log.specs.declared.view.PassView.{PassView}
-use Rattle.decision_log.specs.declared.view.SeatView.{SeatView}
-use Rattle.decision_log.specs.declared.view.SeatView.TheVariants.{Single}
-use Rattle.decision_log.specs.declared.sizes.Sizes.{Sizes}
-use Rattle.decision_log.specs.Seats.{seated}
-use Rattle.decision_log.specs.Draft.{HasWordsAt, drafted}
+use mathlib.Core.{Option.some, Logic.dite}
+use Rattle.atomic_table.{specs.Table.{keeps, Allows}, proofs.Lists.exchanged}
+use Rattle.xa_words.{specs.{Entry.{Entry, IsEntry}, Words.words_of}, proofs.Spelling.length-words_of}
+use Rattle.decision_log.specs.declared.view.{PassView.PassView, SeatView.{SeatView, TheVariants.Single}}
+use Rattle.decision_log.specs.{declared.sizes.Sizes.Sizes, Seats.seated, Draft.{HasWordsAt, drafted}}
+use Rattle.decision_log.{specs.Atomic.{Atomic, Tells, Does, Counts}, proofs.Drafts.{holds_beside, holds_one_more}}
 use Rattle.decision_log.proofs.Histories.{begins_append, begins_same, get_last, later_other, length_begins}
-use Rattle.decision_log.proofs.Drafts.{holds_beside, holds_one_more}
 use Rattle.decision_log.proofs.LogRules.{RuleOf, known, ranged, history, stepped, unmoved, appended, loaded, load_step}
 use Rattle.decision_log.proofs.LogRules.{store_step, looked_log}
 use Rattle.chain_log.specs.Cells.{name_at, cell_at, name_before, newest_of}
 use Rattle.chain_log.specs.ChainRule.{own_cell, try_word, newest_for, HasCells, HasDraft, Knows, ChainRule}
-use Rattle.decision_log.specs.Atomic.{Atomic, Tells, Does, Counts}
-use Rattle.chain_log.specs.ChainTransitions.{won, lost, Finds, Drafts, Exchanges}
-use Rattle.chain_log.proofs.Chains.{chain_of, one_chain}
+use Rattle.chain_log.{specs.ChainTransitions.{won, lost, Finds, Drafts, Exchanges}, proofs.Chains.{chain_of, one_chain}}
 use Rattle.chain_log.proofs.ChainSteps.{Rules, blank, newest_by, seen_keeps}
 use Rattle.chain_log.proofs.Names.{name_begins, name_low, newest_added, one_cell, one_length, within_words, words_apart}
+use native.Mathlib.Decide.{ℕ_discrete, dec_le}
+use lib.ListN.{get_elem?}
+use prog.Atomic.{either}
 
 -- if the rule holds of the same words twice, with any seats, its history is the same both times
 pub one_log : (sizes : Sizes) (words : List ℕ) (one other : List SeatView) (p : ChainRule sizes words one)

@@ -1,18 +1,11 @@
 -- The chain is the history: the walk along the links meets its entries, newest first.
 use Rattle.std.proofs.Common.{◌≡◌, ℕ, zero, suc, ◌+◌, ◌≤◌, List, [], ◌∷◌, length, take, get_or, refl, ap, sym, ◌∙◌}
-use Rattle.std.proofs.Common.{subst, arith}
+use Rattle.std.proofs.{Common.{subst, arith}, lemmas.List.{reverse-append, reverse-reverse, take_all, ext_get_or}}
 use Rattle.std.specs.Prelude.{slice_index, reverse}
-use Rattle.std.proofs.lemmas.List.{reverse-append, reverse-reverse, take_all, ext_get_or}
-use Rattle.xa_words.specs.Entry.{Entry}
-use Rattle.xa_words.specs.Words.{words_of}
-use Rattle.xa_words.proofs.Spelling.{one_entry, length-words_of}
-use Rattle.decision_log.specs.declared.sizes.Sizes.{Sizes}
-use Rattle.decision_log.specs.declared.view.SeatView.{SeatView}
-use Rattle.decision_log.specs.Draft.{HasWordsAt}
+use Rattle.xa_words.{specs.{Entry.Entry, Words.words_of}, proofs.Spelling.{one_entry, length-words_of}}
+use Rattle.decision_log.specs.{declared.{sizes.Sizes.Sizes, view.SeatView.SeatView}, Draft.HasWordsAt}
 use Rattle.decision_log.proofs.Histories.{there, take_next}
-use Rattle.chain_log.specs.Cells.{name_at, cell_at, name_before, newest_of}
-use Rattle.chain_log.specs.Chain.{Walk, Chain}
-use Rattle.chain_log.specs.ChainRule.{ChainRule}
+use Rattle.chain_log.specs.{Cells.{name_at, cell_at, name_before, newest_of}, Chain.{Walk, Chain}, ChainRule.ChainRule}
 use Rattle.chain_log.proofs.Names.{name_zero, name_next, name_low}
 
 -- if words stand in a row from a place on, the first stands at the place itself

@@ -1,9 +1,7 @@
 -- Passes and spares that are dealt in order.
-use Rattle.std.proofs.Common.{◌≡◌, ◌⊎◌, ⊎_elim, inl, inr, ℕ, zero, suc, List, [], ◌∷◌, ◌++◌, length, Some}
-use Rattle.std.proofs.Common.{refl, ap, sym, ◌∙◌, subst}
-use Rattle.std.specs.Prelude.{slice_get}
-use Rattle.decision_log.specs.declared.known.Known.{Known}
-use Rattle.decision_log.specs.Known.{newcomer}
+use Rattle.std.proofs.Common.{◌≡◌, ◌⊎◌, ⊎_elim, inl, inr, ℕ, zero, suc, List, [], ◌∷◌, ◌++◌, length, Some, refl, ap}
+use Rattle.std.{proofs.Common.{sym, ◌∙◌, subst}, specs.Prelude.slice_get}
+use Rattle.decision_log.specs.{declared.known.Known.Known, Known.newcomer}
 
 -- if two elements are equal as found (`Some`), they are equal
 some_injective : {A : Type 0} (a b : A) → Some a ≡ Some b → a ≡ b

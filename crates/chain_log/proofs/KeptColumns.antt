@@ -1,19 +1,14 @@
 -- The table of columns says which cell stands in a row, and stays so of a longer history.
 use Rattle.std.proofs.Common.{◌≡◌, ℕ, ◌+◌, ◌-◌, ◌*◌, ◌%◌, ◌<◌, ◌≤◌, List, [], ◌∷◌, ◌++◌, length, get_or, set, refl, ap}
-use Rattle.std.proofs.Common.{sym, ◌∙◌, subst, arith, add-one}
-use Rattle.std.proofs.Common.{length-append}
-use Rattle.std.specs.Prelude.{slice_index}
+use Rattle.std.proofs.Common.{sym, ◌∙◌, subst, arith, add-one, length-append}
+use Rattle.std.{proofs.lemmas.List.{length-set, get_or-set_same, get_or-set_other}, specs.Prelude.slice_index}
 use mathlib.Core.Logic.{dite}
+use Rattle.xa_words.specs.Entry.{Entry}
+use Rattle.decision_log.{specs.{History.Begins, Known.AllOf}, proofs.Histories.{there, get_begins, begins_append}}
+use Rattle.chain_log.specs.{Cells.{name_at, session_at, name_before}, Columns.HasColumns}
+use Rattle.chain_log.proofs.Names.{session_there, ranged_all, get_end}
 use native.Mathlib.Decide.{ℕ_discrete, dec_le}
 use native.Mathlib.Nat.{add-mul-mod_self_right, mod-eq_of_lt}
-use Rattle.std.proofs.lemmas.List.{length-set, get_or-set_same, get_or-set_other}
-use Rattle.xa_words.specs.Entry.{Entry}
-use Rattle.decision_log.specs.History.{Begins}
-use Rattle.decision_log.specs.Known.{AllOf}
-use Rattle.decision_log.proofs.Histories.{there, get_begins, begins_append}
-use Rattle.chain_log.specs.Cells.{name_at, session_at, name_before}
-use Rattle.chain_log.specs.Columns.{HasColumns}
-use Rattle.chain_log.proofs.Names.{session_there, ranged_all, get_end}
 
 -- the column of a cell is the rest of its name, counted from 0, by the number of sessions
 pub column_of_name : (sessions row session : ℕ) → 1 ≤ session → session ≤ sessions

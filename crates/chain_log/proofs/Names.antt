@@ -1,17 +1,13 @@
 -- Names of cells: which row and column a name has, that two cells share no word, and the names below a row.
 use Rattle.std.proofs.Common.{◌≡◌, ◌≢◌, ℕ, zero, suc, ◌+◌, ◌-◌, ◌*◌, ◌/◌, ◌<◌, ◌≤◌, List, [], ◌∷◌, ◌++◌, length, refl}
-use Rattle.std.proofs.Common.{ap, sym, ◌∙◌, subst, Some}
-use Rattle.std.proofs.Common.{mul-le-mul_right, suc-mul, arith, add-one, length-append}
-use Rattle.std.specs.Prelude.{slice_get}
+use Rattle.std.proofs.Common.{ap, sym, ◌∙◌, subst, Some, mul-le-mul_right, suc-mul, arith, add-one, length-append}
+use Rattle.std.{proofs.lemmas.Option.{get_or_from_slice_get, slice_get_within}, specs.Prelude.slice_get}
 use mathlib.Core.Logic.{dite}
+use Rattle.xa_words.specs.Entry.{Entry}
+use Rattle.decision_log.{specs.{History.Begins, Known.AllOf}, proofs.Histories.{there, get_begins, some_injective}}
+use Rattle.chain_log.specs.Cells.{word_count, name_at, cell_at, session_at, name_before, newest_of}
 use native.Mathlib.Decide.{dec_le, ℕ_discrete}
 use native.Mathlib.Nat.{add-mul-div_right, div-eq_of_lt, zero-add}
-use Rattle.std.proofs.lemmas.Option.{get_or_from_slice_get, slice_get_within}
-use Rattle.xa_words.specs.Entry.{Entry}
-use Rattle.decision_log.specs.History.{Begins}
-use Rattle.decision_log.specs.Known.{AllOf}
-use Rattle.decision_log.proofs.Histories.{there, get_begins, some_injective}
-use Rattle.chain_log.specs.Cells.{word_count, name_at, cell_at, session_at, name_before, newest_of}
 
 -- rows and columns
 

@@ -2,9 +2,7 @@
 -- Here `h` is a pass's view: what a seat of the log knows of that pass.
 use Rattle.std.proofs.Common.{◌≡◌, ℕ, ◌+◌, ◌<◌, length, subst, arith}
 use Rattle.decision_log.specs.declared.view.PassView.{PassView}
-use Rattle.chain_log.specs.declared.chain.ChainLog.{ChainLog}
-use Rattle.chain_log.specs.Cells.{name_at, name_before}
-use Rattle.chain_log.specs.ChainSeat.{IsOurs}
+use Rattle.chain_log.specs.{declared.chain.ChainLog.ChainLog, Cells.{name_at, name_before}, ChainSeat.IsOurs}
 use Rattle.chain_log.proofs.Names.{IsName, seen_fits, cell_fits}
 
 -- the name of the cell of a row that a pass has seen is one of the log's names

@@ -2,20 +2,13 @@
 -- Here `h` is a pass's view: what a seat of the log knows of that pass.
 use Rattle.std.proofs.Common.{◌≡◌, ℕ, ◌<◌, ◌≤◌, List, length, set, ap, sym, ◌∙◌, subst, arith}
 use mathlib.Core.Logic.{dite}
-use native.Mathlib.Decide.{ℕ_discrete}
 use Rattle.xa_words.specs.Entry.{Entry}
-use Rattle.decision_log.specs.declared.view.PassView.{PassView}
-use Rattle.decision_log.specs.History.{Begins}
-use Rattle.decision_log.specs.Known.{LogIdentity, AllOf}
+use Rattle.decision_log.specs.{declared.view.PassView.PassView, History.Begins, Known.{LogIdentity, AllOf}}
 use Rattle.decision_log.specs.Seats.{pass_view}
-use Rattle.chain_log.specs.declared.chain.ChainLog.{ChainLog}
-use Rattle.chain_log.specs.declared.pass.ChainPass.{ChainPass}
-use Rattle.chain_log.specs.Cells.{newest_of}
-use Rattle.chain_log.specs.Columns.{HasColumns}
-use Rattle.chain_log.specs.ChainPass.{identity_of, log_of}
-use Rattle.chain_log.specs.ChainTransitions.{won}
-use Rattle.chain_log.proofs.KeptColumns.{columns_longer, columns_more}
-use Rattle.chain_log.proofs.Names.{length_by_newest, length_by_zero}
+use Rattle.chain_log.specs.{declared.{chain.ChainLog.ChainLog, pass.ChainPass.ChainPass}, Cells.newest_of}
+use Rattle.chain_log.specs.{Columns.HasColumns, ChainPass.{identity_of, log_of}, ChainTransitions.won}
+use Rattle.chain_log.proofs.{KeptColumns.{columns_longer, columns_more}, Names.{length_by_newest, length_by_zero}}
+use native.Mathlib.Decide.{ℕ_discrete}
 
 -- `count` is how many entries each history has whose newest name is `newest`
 abbrev pub CountsBy : ℕ → ℕ → ℕ → Type 0

@@ -1,12 +1,10 @@
 -- The words of an entry, read in three parts: what comes before its texts, and as much of each text as is there.
 use Rattle.std.proofs.Common.{◌≡◌, ℕ, ◌+◌, ◌-◌, ◌*◌, ◌<◌, ◌≤◌, List, length, get_or, sym, ◌∙◌, arith}
-use mathlib.Core.Logic.{dite}
-use native.Mathlib.Decide.{dec_le}
 use Rattle.std.proofs.lemmas.List.{ext_get_or}
-use Rattle.xa_words.specs.Entry.{Entry}
-use Rattle.xa_words.specs.Words.{words_of}
-use Rattle.xa_words.proofs.Spelling.{length-words_of}
+use mathlib.Core.Logic.{dite}
+use Rattle.xa_words.{specs.{Entry.Entry, Words.words_of}, proofs.Spelling.length-words_of}
 use Rattle.xa_words.proofs.Behind.{behind_first, behind_second}
+use native.Mathlib.Decide.{dec_le}
 
 -- between `old` and `new` the words from `from` to `end` became the entry's, and those beside them stayed
 pub record ReadsPart (from end : ℕ) (entry : Entry) (old new : List ℕ) : Type 0 where

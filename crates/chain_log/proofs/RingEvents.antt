@@ -1,28 +1,17 @@
 -- Steps of a ring are nothing or one event of the log machine.
-use Rattle.std.proofs.Common.{◌≡◌, ◌⊎◌, ℕ, List, [], set, refl, ap, sym, ◌∙◌, subst}
-use Rattle.std.proofs.Common.{inl, inr}
+use Rattle.std.proofs.Common.{◌≡◌, ◌⊎◌, ℕ, List, [], set, refl, ap, sym, ◌∙◌, subst, inl, inr}
 use mathlib.Core.Option.{some}
-use lib.ListN.{get_elem?}
 use Rattle.xa_words.specs.Entry.{Entry}
-use Rattle.decision_log.specs.declared.known.Known.{Known}
-use Rattle.decision_log.specs.declared.view.PassView.{PassView}
-use Rattle.decision_log.specs.declared.view.SeatView.{SeatView}
-use Rattle.decision_log.specs.declared.view.SeatView.TheVariants.{Single, Pair}
-use Rattle.decision_log.specs.declared.view.Turn.TheVariants.{Without}
-use Rattle.decision_log.specs.declared.sizes.Sizes.{Sizes}
-use Rattle.decision_log.specs.History.{Begins, entries_of}
-use Rattle.decision_log.specs.Observed.{met}
-use Rattle.decision_log.specs.MachineSteps.{StepsTo}
-use Rattle.decision_log.proofs.Histories.{begins_itself}
-use Rattle.decision_log.proofs.LogRules.{RuleOf, known, stepped}
-use Rattle.decision_log.proofs.SeatLemmas.{step_two}
-use Rattle.decision_log.proofs.StepsOfSeats.{steps_to}
+use Rattle.decision_log.specs.declared.{known.Known.Known, view.{PassView.PassView, SeatView.SeatView}}
+use Rattle.decision_log.specs.declared.view.{SeatView.TheVariants.{Single, Pair}, Turn.TheVariants.Without}
+use Rattle.decision_log.specs.{declared.sizes.Sizes.Sizes, History.{Begins, entries_of}, Observed.met}
+use Rattle.decision_log.{specs.MachineSteps.StepsTo, proofs.Histories.begins_itself}
+use Rattle.decision_log.proofs.{LogRules.{RuleOf, known, stepped}, SeatLemmas.step_two, StepsOfSeats.steps_to}
 use Rattle.chain_log.specs.RingRule.{own_name, HasCells, HasNotes, RingRule, Knows}
-use Rattle.chain_log.specs.RingTransitions.{with_look, won, lost, stored}
-use Rattle.chain_log.specs.RingSteps.{IsRingStep, looks, loses, notes, names, stores, wins}
-use Rattle.chain_log.proofs.RingSteps.{idle}
-use Rattle.chain_log.proofs.RingStores.{next_keeps, all_seen}
+use Rattle.chain_log.{specs.RingTransitions.{with_look, won, lost, stored}, proofs.RingStores.{next_keeps, all_seen}}
+use Rattle.chain_log.{specs.RingSteps.{IsRingStep, looks, loses, notes, names, stores, wins}, proofs.RingSteps.idle}
 use Rattle.chain_log.proofs.RingLaws.{named_log, won_log}
+use lib.ListN.{get_elem?}
 
 -- the rule after a step, and that the log machine goes on by nothing or one event
 abbrev pub GoesOn : (sizes : Sizes) → List Entry → List SeatView → List ℕ → List SeatView → Type 0

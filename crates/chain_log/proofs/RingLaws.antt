@@ -1,33 +1,19 @@
 -- What the words of a ring say of the history.
 -- Here `h` is a pass's view: what a seat of the log knows of that pass.
 use Rattle.std.proofs.Common.{◌≡◌, ◌≢◌, ℕ, zero, suc, ◌+◌, ◌-◌, ◌<◌, ◌≤◌, List, [], ◌∷◌, ◌++◌, length, set, get_or}
-use Rattle.std.proofs.Common.{refl, ap, sym, ◌∙◌, subst, Some, None, arith}
+use Rattle.std.proofs.{Common.{refl, ap, sym, ◌∙◌, subst, Some, None, arith}, lemmas.List.ext_get_or}
 use Rattle.std.specs.Prelude.{slice_get}
-use mathlib.Core.Option.{some}
-use mathlib.Core.Logic.{dite}
+use mathlib.Core.{Option.some, Logic.dite}
+use Rattle.xa_words.{specs.{Entry.{Entry, IsEntry}, Words.words_of}, proofs.Spelling.{one_entry, length-words_of}}
+use Rattle.decision_log.specs.declared.view.{PassView.PassView, SeatView.{SeatView, TheVariants.Single}, Turn.Turn}
+use Rattle.decision_log.specs.{declared.sizes.Sizes.Sizes, Draft.HasWordsAt, Atomic.{Atomic, Does, Counts}}
+use Rattle.decision_log.proofs.{Counting.look_is, Histories.there, LogRules.{known, ranged, all_of}}
+use Rattle.chain_log.specs.{Cells.{name_at, name_before, newest_of}, Places.{rows_of, cell_of, cell_words}}
+use Rattle.chain_log.specs.RingRule.{own_name, own_cell, try_word, newest_for, RingRule}
+use Rattle.chain_log.{specs.RingTransitions.{won, stored}, proofs.{Names.{one_cell, name_next}, Passes.same_count}}
+use Rattle.chain_log.proofs.RingStores.{first_keeps, win_keeps, all_seen}
 use native.Mathlib.Decide.{dec_le}
 use lib.ListN.{get_elem?}
-use Rattle.std.proofs.lemmas.List.{ext_get_or}
-use Rattle.xa_words.specs.Entry.{Entry, IsEntry}
-use Rattle.xa_words.specs.Words.{words_of}
-use Rattle.xa_words.proofs.Spelling.{one_entry, length-words_of}
-use Rattle.decision_log.specs.declared.view.PassView.{PassView}
-use Rattle.decision_log.specs.declared.view.SeatView.{SeatView}
-use Rattle.decision_log.specs.declared.view.SeatView.TheVariants.{Single}
-use Rattle.decision_log.specs.declared.view.Turn.TheVariants.{Without}
-use Rattle.decision_log.specs.declared.sizes.Sizes.{Sizes}
-use Rattle.decision_log.specs.Draft.{HasWordsAt}
-use Rattle.decision_log.specs.Atomic.{Atomic, Does, Counts}
-use Rattle.decision_log.proofs.Counting.{look_is}
-use Rattle.decision_log.proofs.Histories.{there}
-use Rattle.decision_log.proofs.LogRules.{known, ranged, all_of}
-use Rattle.chain_log.specs.Cells.{name_at, name_before, newest_of}
-use Rattle.chain_log.proofs.Names.{one_cell, name_next}
-use Rattle.chain_log.specs.Places.{rows_of, cell_of, cell_words}
-use Rattle.chain_log.specs.RingRule.{own_name, own_cell, try_word, newest_for, RingRule}
-use Rattle.chain_log.specs.RingTransitions.{won, stored}
-use Rattle.chain_log.proofs.Passes.{same_count}
-use Rattle.chain_log.proofs.RingStores.{first_keeps, win_keeps, all_seen}
 
 module _ {sizes : Sizes} {words : List ℕ} {views : List SeatView} (r : RingRule sizes words views) where
   -- if the history has fewer entries from an entry's place on than there are rows, the entry's cell has its words
@@ -50,7 +36,7 @@ module _ {sizes : Sizes} {words : List ℕ} {views : List SeatView} (r : RingRul
   -- word 0, the rule holds with that entry appended
   pub won_log : (id : ℕ) (h : PassView) (entry : Entry) → get_elem? views id ≡ some (Single h)
       → get_or words 0 0 ≡ newest_for h → IsEntry entry
-      → entry.session ≡ h.known.number → h.turn ≡ Without → h.draft ≡ own_name h ∷ newest_for h ∷ words_of entry
+      → entry.session ≡ h.known.number → h.turn ≡ Turn.Without → h.draft ≡ own_name h ∷ newest_for h ∷ words_of entry
       → length h.known.seen < h.capacity
       → (after : RingRule sizes (set words 0 (own_name h)) (set views id (Single (won h entry))))
       × (after.log ≡ r.log ++ entry ∷ [])

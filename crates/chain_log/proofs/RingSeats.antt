@@ -1,15 +1,10 @@
 -- The seats of a ring: its words have what splitting and joining seats asks, and words of zeros begin it.
 use Rattle.std.proofs.Common.{◌≡◌, ℕ, ◌<◌, [], sym, ap, ◌∙◌, Some, None, arith}
 use Rattle.xa_words.specs.Entry.{Entry}
-use Rattle.decision_log.specs.declared.sizes.Sizes.{Sizes}
-use Rattle.decision_log.specs.Seats.{all_passes}
-use Rattle.decision_log.specs.AtTable.{KeepsSeats, OpensSeats}
+use Rattle.decision_log.specs.{declared.sizes.Sizes.Sizes, Seats.all_passes, AtTable.{KeepsSeats, OpensSeats}}
 use Rattle.decision_log.proofs.SeatRule.{HasWords, seats_kept, opens_seats}
-use Rattle.chain_log.specs.Cells.{newest_of}
-use Rattle.chain_log.proofs.Names.{name_zero}
-use Rattle.chain_log.specs.Places.{rows_of, word_count}
-use Rattle.chain_log.specs.RingRule.{newest_for, HasCells, HasNotes}
-use Rattle.chain_log.proofs.RingSteps.{Rules, idle}
+use Rattle.chain_log.specs.{Cells.newest_of, Places.{rows_of, word_count}, RingRule.{newest_for, HasCells, HasNotes}}
+use Rattle.chain_log.proofs.{Names.name_zero, RingSteps.{Rules, idle}}
 
 -- a ring's words have what `HasWords` asks: an idle pass knows nothing of them, and word 0 names the newest entry
 has_words : HasWords HasCells HasNotes newest_for

@@ -1,41 +1,26 @@
 -- The steps of a ring that change a word keep the rule.
 -- Here `h` is a pass's view: what a seat of the log knows of that pass.
 use Rattle.std.proofs.Common.{◌≡◌, ◌≢◌, ℕ, zero, suc, ◌+◌, ◌-◌, ◌<◌, ◌≤◌, List, [], ◌∷◌, ◌++◌, length, take, set}
-use Rattle.std.proofs.Common.{get_or, refl, ap, sym, ◌∙◌, subst, ⊎_elim, Some}
-use Rattle.std.proofs.Common.{arith, eqb, length-append}
-use Rattle.std.specs.Prelude.{slice_get}
-use mathlib.Core.Option.{some}
-use mathlib.Core.Logic.{dite}
+use Rattle.std.proofs.Common.{get_or, refl, ap, sym, ◌∙◌, subst, ⊎_elim, Some, arith, eqb, length-append}
+use Rattle.std.{proofs.lemmas.Option.slice_get_within, specs.Prelude.slice_get}
+use Rattle.std.proofs.lemmas.List.{length-set, get_or-set_same, get_or-set_other, length-take-le, set-get_or}
+use mathlib.Core.{Option.some, Logic.dite}
+use Rattle.atomic_table.{specs.Table.{keeps, Allows}, proofs.Lists.exchanged}
+use Rattle.xa_words.{specs.{Entry.{Entry, IsEntry}, Words.words_of}, proofs.Spelling.length-words_of}
+use Rattle.decision_log.specs.declared.view.{PassView.PassView, SeatView.{SeatView, TheVariants.Single}, Turn.Turn}
+use Rattle.decision_log.specs.{declared.{view.Turn.TheVariants.{Without, Won, Fresh}, sizes.Sizes.Sizes}, Seats.seated}
+use Rattle.decision_log.{specs.{Draft.HasWordsAt, Atomic.Tells}, proofs.Drafts.{holds_beside, holds_one_more}}
+use Rattle.decision_log.proofs.Histories.{begins_append, begins_same, get_begins, get_last, later_other, length_begins}
+use Rattle.decision_log.proofs.LogRules.{RuleOf, known, ranged, history, stepped, appended, loaded, load_step}
+use Rattle.chain_log.specs.{Cells.{name_at, name_before, newest_of}, Places.{rows_of, cell_at, cell_of, cell_words}}
+use Rattle.chain_log.specs.RingRule.{own_name, own_cell, watched_word, HasCells, IsDraft, Notes, HasNotes, Knows}
+use Rattle.chain_log.specs.{RingRule.RingRule, RingTransitions.{won, lost, stored, Finds, Drafts, Exchanges}}
+use Rattle.chain_log.proofs.Names.{name_begins, newest_added, one_cell, one_length}
+use Rattle.chain_log.proofs.Turns.{same_row, cell_low, one_word, within_words}
+use Rattle.chain_log.proofs.RingSteps.{Rules, idle, newest_by, seen_keeps}
 use native.Mathlib.Decide.{ℕ_discrete, dec_le}
 use lib.ListN.{get_elem?}
 use prog.Atomic.{either}
-use Rattle.std.proofs.lemmas.Option.{slice_get_within}
-use Rattle.std.proofs.lemmas.List.{length-set, get_or-set_same, get_or-set_other, length-take-le, set-get_or}
-use Rattle.atomic_table.specs.Table.{keeps, Allows}
-use Rattle.atomic_table.proofs.Lists.{exchanged}
-use Rattle.xa_words.specs.Entry.{Entry, IsEntry}
-use Rattle.xa_words.specs.Words.{words_of}
-use Rattle.xa_words.proofs.Spelling.{length-words_of}
-use Rattle.decision_log.specs.declared.view.PassView.{PassView}
-use Rattle.decision_log.specs.declared.view.SeatView.{SeatView}
-use Rattle.decision_log.specs.declared.view.SeatView.TheVariants.{Single}
-use Rattle.decision_log.specs.declared.view.Turn.{Turn}
-use Rattle.decision_log.specs.declared.view.Turn.TheVariants.{Without, Won, Fresh}
-use Rattle.decision_log.specs.declared.sizes.Sizes.{Sizes}
-use Rattle.decision_log.specs.Seats.{seated}
-use Rattle.decision_log.specs.Draft.{HasWordsAt}
-use Rattle.decision_log.specs.Atomic.{Tells}
-use Rattle.decision_log.proofs.Histories.{begins_append, begins_same, get_begins, get_last, later_other, length_begins}
-use Rattle.decision_log.proofs.Drafts.{holds_beside, holds_one_more}
-use Rattle.decision_log.proofs.LogRules.{RuleOf, known, ranged, history, stepped, appended, loaded, load_step}
-use Rattle.chain_log.specs.Cells.{name_at, name_before, newest_of}
-use Rattle.chain_log.proofs.Names.{name_begins, newest_added, one_cell, one_length}
-use Rattle.chain_log.specs.Places.{rows_of, cell_at, cell_of, cell_words}
-use Rattle.chain_log.specs.RingRule.{own_name, own_cell, watched_word, HasCells, IsDraft, Notes}
-use Rattle.chain_log.specs.RingRule.{HasNotes, Knows, RingRule}
-use Rattle.chain_log.specs.RingTransitions.{won, lost, stored, Finds, Drafts, Exchanges}
-use Rattle.chain_log.proofs.Turns.{same_row, cell_low, one_word, within_words}
-use Rattle.chain_log.proofs.RingSteps.{Rules, idle, newest_by, seen_keeps}
 
 -- a pass that isn't reading a cell has its draft in its own cell
 draft_of : (words : List ℕ) (log : List Entry) (h : PassView) → HasNotes words log h → h.turn ≡ Without

@@ -1,19 +1,13 @@
 -- The table of columns says whose entry stands at each of the last places, and stays so of a longer history.
 use Rattle.std.proofs.Common.{◌≡◌, ◌≢◌, ℕ, ◌+◌, ◌-◌, ◌%◌, ◌<◌, ◌≤◌, List, [], ◌∷◌, ◌++◌, length, get_or, set, ap, sym}
-use Rattle.std.proofs.Common.{◌∙◌, arith, length-append}
-use Rattle.std.specs.Prelude.{slice_index}
+use Rattle.std.proofs.{Common.{◌∙◌, arith, length-append}, Math.Nat.mod-lt}
+use Rattle.std.{proofs.lemmas.List.{length-set, get_or-set_same, get_or-set_other}, specs.Prelude.slice_index}
 use mathlib.Core.Logic.{dite}
-use native.Mathlib.Decide.{ℕ_discrete, dec_le}
-use Rattle.std.proofs.Math.Nat.{mod-lt}
-use Rattle.std.proofs.lemmas.List.{length-set, get_or-set_same, get_or-set_other}
 use Rattle.xa_words.specs.Entry.{Entry}
-use Rattle.decision_log.specs.History.{Begins}
-use Rattle.decision_log.proofs.Histories.{length_begins, begins_append}
-use Rattle.chain_log.specs.Cells.{session_at}
-use Rattle.chain_log.proofs.Names.{session_there, get_end}
-use Rattle.chain_log.proofs.KeptColumns.{session_begins}
-use Rattle.chain_log.specs.Windows.{HasWindow}
-use Rattle.chain_log.proofs.Turns.{rows_apart}
+use Rattle.decision_log.{specs.History.Begins, proofs.Histories.{length_begins, begins_append}}
+use Rattle.chain_log.{specs.{Cells.session_at, Windows.HasWindow}, proofs.Names.{session_there, get_end}}
+use Rattle.chain_log.proofs.{KeptColumns.session_begins, Turns.rows_apart}
+use native.Mathlib.Decide.{ℕ_discrete, dec_le}
 
 -- the table is as good for a longer history, so far as it reaches
 pub window_longer : (rows low : ℕ) (xs ys : List Entry) (columns : List ℕ) → Begins xs ys

@@ -1,12 +1,10 @@
 -- Rows that are used in turn: which places of the history share a row, and that two cells share no word.
-use Rattle.std.proofs.Common.{◌≡◌, ◌≢◌, ℕ, suc, ◌+◌, ◌-◌, ◌*◌, ◌/◌, ◌%◌, ◌<◌, ◌≤◌, sym, subst}
-use Rattle.std.proofs.Common.{mul-le-mul_right, suc-mul, arith}
+use Rattle.std.proofs.Common.{◌≡◌, ◌≢◌, ℕ, suc, ◌+◌, ◌-◌, ◌*◌, ◌/◌, ◌%◌, ◌<◌, ◌≤◌, sym, subst, mul-le-mul_right}
+use Rattle.std.proofs.{Common.{suc-mul, arith}, Math.Nat.{mod-lt, mod-add-div', mul_comm}}
 use mathlib.Core.Logic.{dite}
-use native.Mathlib.Decide.{dec_le, ℕ_discrete}
-use Rattle.std.proofs.Math.Nat.{mod-lt, mod-add-div', mul_comm}
-use Rattle.chain_log.specs.Cells.{name_at}
+use Rattle.chain_log.specs.{Cells.name_at, Places.{most, rows_of, word_count, cell_at, cell_of}}
 use Rattle.chain_log.proofs.Names.{one_cell, name_low}
-use Rattle.chain_log.specs.Places.{most, rows_of, word_count, cell_at, cell_of}
+use native.Mathlib.Decide.{dec_le, ℕ_discrete}
 
 -- a ring that can have so many entries more than `most` has so many rows
 pub rows_most : (rows : ℕ) → rows_of (most + rows) ≡ rows

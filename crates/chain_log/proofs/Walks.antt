@@ -2,12 +2,9 @@
 -- Here `h` is a pass's view: what a seat of the log knows of that pass.
 use Rattle.std.proofs.Common.{◌≡◌, ℕ, ◌+◌, ◌-◌, ◌<◌, ◌≤◌, length, refl, ap, sym, ◌∙◌, arith}
 use Rattle.decision_log.specs.declared.view.PassView.{PassView}
-use Rattle.chain_log.specs.Cells.{name_at, session_at, name_before, newest_of}
-use Rattle.chain_log.proofs.Names.{name_low}
+use Rattle.chain_log.specs.{Cells.{name_at, session_at, name_before, newest_of}, declared.ring.RingLog.RingLog}
+use Rattle.chain_log.{specs.{Places.cell_of, RingSeat.{IsOurs, KeepsPass}}, proofs.Names.name_low}
 use Rattle.chain_log.proofs.KeptColumns.{session_ranged, name_by_column}
-use Rattle.chain_log.specs.declared.ring.RingLog.{RingLog}
-use Rattle.chain_log.specs.Places.{cell_of}
-use Rattle.chain_log.specs.RingSeat.{IsOurs, KeepsPass}
 
 -- the entry at a place that was seen is of a session from 1 to the number of columns
 pub session_fits : (log : RingLog) (h : PassView) (place : ℕ) → IsOurs log h → place < length h.known.seen

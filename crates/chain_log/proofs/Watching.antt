@@ -1,20 +1,12 @@
 -- What a reader learns of a cell by its name, before and after.
 -- Here `h` is a pass's view: what a seat of the log knows of that pass.
 use Rattle.std.proofs.Common.{◌≡◌, ◌≢◌, ℕ, suc, ◌+◌, ◌<◌, ◌≤◌, List, ◌∷◌, length, get_or, refl, ap, sym, ◌∙◌, subst}
-use Rattle.std.proofs.Common.{Some, arith}
-use Rattle.std.specs.Prelude.{slice_get}
+use Rattle.std.{proofs.Common.{Some, arith}, specs.Prelude.slice_get}
 use Rattle.xa_words.specs.Entry.{Entry, IsEntry}
-use Rattle.decision_log.specs.declared.view.PassView.{PassView}
-use Rattle.decision_log.specs.declared.view.Turn.{Turn}
-use Rattle.decision_log.specs.declared.view.Turn.TheVariants.{Without, Won, Fresh}
-use Rattle.decision_log.proofs.Histories.{there}
-use Rattle.chain_log.specs.Cells.{name_at, session_at, name_before}
-use Rattle.chain_log.proofs.Names.{session_there}
-use Rattle.chain_log.specs.Places.{rows_of, cell_of, cell_words}
-use Rattle.chain_log.specs.RingRule.{watched_word, watched_name, least}
-use Rattle.chain_log.specs.RingTransitions.{KeepsWatch, Checks, Reads}
-use Rattle.chain_log.specs.RingSeat.{KeepsPass, ReadsCell}
-use Rattle.chain_log.proofs.RingSteps.{without_won}
+use Rattle.decision_log.{specs.declared.view.{PassView.PassView, Turn.Turn}, proofs.Histories.there}
+use Rattle.chain_log.specs.{Cells.{name_at, session_at, name_before}, Places.{rows_of, cell_of, cell_words}}
+use Rattle.chain_log.specs.{RingRule.{watched_word, watched_name, least}, RingTransitions.{KeepsWatch, Checks, Reads}}
+use Rattle.chain_log.{specs.RingSeat.{KeepsPass, ReadsCell}, proofs.{Names.session_there, RingSteps.without_won}}
 
 -- what is looked for: an entry that was seen at this place, whose cell begins at `start` and whose name is `name`
 pub record IsLookedFor (start name place : ℕ) (entry : Entry) (h : PassView) : Type 0 where
@@ -114,7 +106,7 @@ missed start found name place entry h k checks is other =
 -- if the cell has the name that is looked for, the pass reads that cell from now on
 pub watched : (start found name place : ℕ) (entry : Entry) (h k : PassView) → Checks start h found k
     → IsLookedFor start name place entry h → found ≡ name
-    → ReadsCell start place entry k × (k.turn ≡ Won)
+    → ReadsCell start place entry k × (k.turn ≡ Turn.Won)
 watched start found name place entry h k checks is same =
     let on = still_for start name place entry h k (check_keeps start found h k checks) is in (
       record {
@@ -129,21 +121,21 @@ watched start found name place entry h k checks is same =
 -- if the pass has found the entry's name in its cell, goes on reading that cell, and then finds the name there once
 -- more, it still took the cell for the entry's before that (`Won`), so what was read between was the entry's
 pub whole : (start found name place : ℕ) (entry : Entry) (g h k : PassView) → ReadsCell start place entry g
-    → g.turn ≡ Won → KeepsWatch g h
-    → IsLookedFor start name place entry h → Checks start h found k → found ≡ name → h.turn ≡ Won
+    → g.turn ≡ Turn.Won → KeepsWatch g h
+    → IsLookedFor start name place entry h → Checks start h found k → found ≡ name → h.turn ≡ Turn.Won
 whole start found name place entry g h k reads won keeps is checks same =
     by_turn h.turn refl
   where
-    never : h.turn ≢ Fresh
+    never : h.turn ≢ Turn.Fresh
     never =
         checks.4 place entry is.seen is.cell (same ∙ is.name_is) (keeps.word ∙ reads.word)
         (keeps.name ∙ reads.name ∙ (λ i. name_at (sym keeps.sessions i) place entry.session) ∙ sym is.name_is
         ∙ sym same)
 
-    by_turn : (turn : Turn) → h.turn ≡ turn → h.turn ≡ Won
-    by_turn Won turn = turn
-    by_turn Fresh turn = absurd (never turn)
-    by_turn Without turn = absurd (keeps.reads (λ without. without_won (sym without ∙ won)) turn)
+    by_turn : (turn : Turn) → h.turn ≡ turn → h.turn ≡ Turn.Won
+    by_turn Turn.Won turn = turn
+    by_turn Turn.Fresh turn = absurd (never turn)
+    by_turn Turn.Without turn = absurd (keeps.reads (λ without. without_won (sym without ∙ won)) turn)
 
 -- if the cell of an entry that the pass looked for at its view h has another name at a later load, the pass knows that
 -- the history has at least as many entries from the place on as there are rows
@@ -160,7 +152,7 @@ missed_later start found name place entry h g k keeps checks is other =
 pub won_between : (start first second name place : ℕ) (entry : Entry) (h g v k : PassView)
     → IsLookedFor start name place entry h → Checks start h first g
     → first ≡ name → KeepsWatch g v → Checks start v second k → second ≡ name
-    → ReadsCell start place entry g × (v.turn ≡ Won)
+    → ReadsCell start place entry g × (v.turn ≡ Turn.Won)
 won_between start first second name place entry h g v k is before same keeps after same' =
     let w = watched start first name place entry h g before is same in
     let on = still_for start name place entry h v (keeps_through h g v (check_keeps start first h g before)
@@ -169,7 +161,7 @@ won_between start first second name place entry h g v k is before same keeps aft
 
 -- a word that was read in a watched cell is the entry's
 pub word_there : (start place index word : ℕ) (entry : Entry) (h k : PassView) → ReadsCell start place entry h
-    → Reads (start + index) h word k → k.turn ≡ Won
+    → Reads (start + index) h word k → k.turn ≡ Turn.Won
     → index < 23
     → IsEntry entry × (word ≡ get_or (cell_words h.sessions h.known.seen place entry) index 0)
 word_there start place index word entry h k is reads won below =

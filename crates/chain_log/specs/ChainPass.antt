@@ -2,11 +2,8 @@
 --     identity_of     the identity of a log
 --     log_of          the identity of a pass's log
 --     known_of        what a pass knows
-use Rattle.decision_log.specs.declared.known.Known.{Known}
-use Rattle.decision_log.specs.Known.{LogIdentity}
-use Rattle.decision_log.specs.Seats.{pass_view_of}
-use Rattle.chain_log.specs.declared.chain.ChainLog.{ChainLog}
-use Rattle.chain_log.specs.declared.pass.ChainPass.{ChainPass}
+use Rattle.decision_log.specs.{declared.known.Known.Known, Known.LogIdentity, Seats.pass_view_of}
+use Rattle.chain_log.specs.declared.{chain.ChainLog.ChainLog, pass.ChainPass.ChainPass}
 
 -- what tells a log from others: its table and its sizes
 abbrev pub identity_of : ChainLog → LogIdentity

@@ -7,13 +7,9 @@
 --     Knows           what a pass knows of the log is true
 --     ChainRule       the rule
 use Rattle.std.specs.Prelude.{◌≡◌, ◌<◌, ◌≤◌, ℕ, List, ◌∷◌, length, slice_get, slice_index, Some}
-use Rattle.xa_words.specs.Entry.{Entry}
-use Rattle.xa_words.specs.Words.{words_of}
-use Rattle.decision_log.specs.declared.view.PassView.{PassView}
-use Rattle.decision_log.specs.declared.view.SeatView.{SeatView}
-use Rattle.decision_log.specs.declared.sizes.Sizes.{Sizes}
-use Rattle.decision_log.specs.Draft.{HasWordsAt}
-use Rattle.decision_log.specs.LogRule.{KnowsLog, LogRule}
+use Rattle.xa_words.specs.{Entry.Entry, Words.words_of}
+use Rattle.decision_log.specs.declared.{view.{PassView.PassView, SeatView.SeatView}, sizes.Sizes.Sizes}
+use Rattle.decision_log.specs.{Draft.HasWordsAt, LogRule.{KnowsLog, LogRule}}
 use Rattle.chain_log.specs.Cells.{word_count, name_at, cell_at, name_before, newest_of}
 
 -- the first word of the pass's own cell, which it fills: in its own column, in the row after all that it has seen

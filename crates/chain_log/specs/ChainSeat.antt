@@ -4,10 +4,7 @@
 use Rattle.std.specs.Prelude.{◌≡◌, ◌≤◌, length}
 use Rattle.atomic_table.specs.declared.shared.Seat.{Seat}
 use Rattle.xa_words.specs.Entry.{Entry}
-use Rattle.decision_log.specs.declared.view.SeatView.{SeatView}
-use Rattle.decision_log.specs.declared.view.PassView.{PassView}
-use Rattle.decision_log.specs.Known.{AllOf}
-use Rattle.decision_log.specs.AtTable.{KnowsOne}
+use Rattle.decision_log.specs.{declared.view.{SeatView.SeatView, PassView.PassView}, Known.AllOf, AtTable.KnowsOne}
 use Rattle.chain_log.specs.declared.chain.ChainLog.{ChainLog}
 
 -- the seat is one of this log, and knows one pass

@@ -2,13 +2,9 @@
 --     IsChainStep     a look, a load of a word, a word found or stored in the own cell, a try to append
 use Rattle.std.specs.Prelude.{◌≡◌, ◌<◌, ◌≤◌, ◌+◌, ℕ, ◌∷◌, length}
 use mathlib.Core.Option.{some}
-use Rattle.xa_words.specs.Entry.{Entry, IsEntry}
-use Rattle.xa_words.specs.Words.{words_of}
-use Rattle.decision_log.specs.declared.view.PassView.{PassView}
-use Rattle.decision_log.specs.Atomic.{Atomic, Load, Store, Exchange}
-use Rattle.decision_log.specs.Draft.{drafted}
-use Rattle.chain_log.specs.ChainRule.{own_cell, newest_for}
-use Rattle.chain_log.specs.ChainTransitions.{Sees, Reads, Finds, Exchanges}
+use Rattle.xa_words.specs.{Entry.{Entry, IsEntry}, Words.words_of}
+use Rattle.decision_log.specs.{declared.view.PassView.PassView, Atomic.{Atomic, Load, Store, Exchange}, Draft.drafted}
+use Rattle.chain_log.specs.{ChainRule.{own_cell, newest_for}, ChainTransitions.{Sees, Reads, Finds, Exchanges}}
 
 -- the step, the pass before it, the number that it finds, and the pass after it. A pass stores the next word of its
 -- draft, or one again; it tries once the draft is its entry's cell; and it does both only if there is room

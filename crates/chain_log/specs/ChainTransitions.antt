@@ -5,11 +5,8 @@
 -- Here `h` is a pass's view: what a seat of the log knows of that pass.
 use Rattle.std.specs.Prelude.{◌≡◌, ◌≢◌, ◌<◌, ◌+◌, ◌-◌, ℕ, List, [], ◌∷◌, ◌++◌, length, slice_get, slice_index, Some}
 use mathlib.Core.Option.{Option, none, some}
-use Rattle.xa_words.specs.Entry.{Entry, IsEntry}
-use Rattle.xa_words.specs.Words.{words_of}
-use Rattle.decision_log.specs.declared.view.PassView.{PassView}
-use Rattle.decision_log.specs.Draft.{drafted}
-use Rattle.decision_log.specs.Observed.{HistoryIs}
+use Rattle.xa_words.specs.{Entry.{Entry, IsEntry}, Words.words_of}
+use Rattle.decision_log.specs.{declared.view.PassView.PassView, Draft.drafted, Observed.HistoryIs}
 use Rattle.chain_log.specs.Cells.{name_at, cell_at, name_before, newest_of}
 use Rattle.chain_log.specs.ChainRule.{own_cell, try_word, newest_for}
 

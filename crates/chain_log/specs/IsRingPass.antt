@@ -2,9 +2,7 @@
 --     IsRingPass      its number is one of the log's, and what it knows fits together
 -- Here `h` is a pass's view: what a seat of the log knows of that pass.
 use Rattle.std.specs.Prelude.{◌≡◌, ◌≤◌, ℕ, length}
-use Rattle.decision_log.specs.declared.view.PassView.{PassView}
-use Rattle.decision_log.specs.History.{entries_of}
-use Rattle.decision_log.specs.Known.{AllOf}
+use Rattle.decision_log.specs.{declared.view.PassView.PassView, History.entries_of, Known.AllOf}
 
 -- the view is of a pass with this number, one of the log's columns, and with `front` entries seen, no more than the log
 -- can have; each is of one of its columns, and those of the pass's number are its own

@@ -8,8 +8,7 @@
 --     cell_of         the first word of the cell of a place of the history and a session
 --     cell_words      what the words of an entry's cell are
 use Rattle.std.specs.Prelude.{ℕ, ◌+◌, ◌-◌, ◌*◌, ◌%◌, List, ◌∷◌}
-use Rattle.xa_words.specs.Entry.{Entry}
-use Rattle.xa_words.specs.Words.{words_of}
+use Rattle.xa_words.specs.{Entry.Entry, Words.words_of}
 use Rattle.chain_log.specs.Cells.{name_at, name_before}
 
 -- how many entries a ring can have in addition to its rows: 2 ^ 59, so that all names are numbers of 64 bits

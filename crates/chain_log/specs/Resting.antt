@@ -1,11 +1,8 @@
 -- What a contract sees of a pass or a spare at rest.
 --     resting_log_of, resting_known_of      of which log the pass is, and what it knows
 --     resting_spare_log_of, resting_spare_known_of      of which log the spare is, and what it knows
-use Rattle.decision_log.specs.declared.known.Known.{Known}
-use Rattle.decision_log.specs.Known.{LogIdentity}
-use Rattle.decision_log.specs.Seats.{pass_view_of}
-use Rattle.chain_log.specs.declared.resting.RestingPass.{RestingPass}
-use Rattle.chain_log.specs.declared.resting.RestingSpare.{RestingSpare}
+use Rattle.decision_log.specs.{declared.known.Known.Known, Known.LogIdentity, Seats.pass_view_of}
+use Rattle.chain_log.specs.declared.resting.{RestingPass.RestingPass, RestingSpare.RestingSpare}
 
 -- of which log a pass at rest is: the table of its seat, and the log's sizes, as the seat knew them
 abbrev pub resting_log_of : RestingPass → LogIdentity

@@ -1,16 +1,14 @@
 -- Each step of a ring raises the counts of its pass (`looks`, `tries` and `since`) as `Counts` of decision_log says.
 --     see_counts, check_counts, read_counts, find_counts, draft_counts, exchange_counts     the laws of the transitions
-use Rattle.std.specs.Prelude.{ℕ}
-use Rattle.std.proofs.Common.{ap, ◌∙◌, sym, inl, inr}
-use mathlib.Core.Option.{Option, none, some}
-use mathlib.Core.Logic.{dite}
-use native.Mathlib.Decide.{ℕ_discrete}
+use Rattle.std.{specs.Prelude.ℕ, proofs.Common.{ap, ◌∙◌, sym, inl, inr}}
+use mathlib.Core.{Option.{Option, none, some}, Logic.dite}
 use Rattle.xa_words.specs.Entry.{Entry}
 use Rattle.decision_log.specs.declared.view.PassView.{PassView}
 use Rattle.decision_log.specs.Atomic.{Load, Exchange, AtLoad, AtStore, AtExchange, Counts}
 use Rattle.decision_log.specs.Counted.{IsCounted, leaves_counts, counts_at_load, counts_at_store, counts_at_exchange}
 use Rattle.chain_log.specs.RingRule.{try_word, newest_for}
 use Rattle.chain_log.specs.RingTransitions.{Sees, Checks, Reads, Finds, Drafts, Exchanges}
+use native.Mathlib.Decide.{ℕ_discrete}
 
 -- `Sees`, the load of the newest entry's name, is a look, and raises the counts as a look does
 pub see_counts : IsCounted newest_for try_word (AtLoad Sees)

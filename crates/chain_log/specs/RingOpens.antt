@@ -4,15 +4,9 @@
 --     OpensRing       the ring with both
 --     Refuses         the only cause of each fault
 use Rattle.std.specs.Prelude.{◌≡◌, ◌≤◌, ◌+◌, ℕ, List, length, slice_get, Some, All}
-use Rattle.decision_log.specs.Known.{LogIdentity, newcomer}
-use Rattle.decision_log.specs.Opens.{IsCount}
-use Rattle.chain_log.specs.declared.ring_fault.RingFault.{RingFault}
-use Rattle.chain_log.specs.declared.ring_fault.RingFault.TheVariants.{RowsOutOfRange, SessionsOutOfRange}
-use Rattle.chain_log.specs.declared.ring_fault.RingFault.TheVariants.{SparesOutOfRange, NoMemory}
-use Rattle.chain_log.specs.declared.ring.RingLog.{RingLog}
-use Rattle.chain_log.specs.declared.ring_pass.RingPass.{RingPass}
-use Rattle.chain_log.specs.declared.spare.RingSpare.{RingSpare}
-use Rattle.chain_log.specs.RingPass.{identity_of, log_of, known_of}
+use Rattle.decision_log.specs.{Known.{LogIdentity, newcomer}, Opens.IsCount}
+use Rattle.chain_log.specs.declared.{ring_fault.RingFault.RingFault, ring.RingLog.RingLog, ring_pass.RingPass.RingPass}
+use Rattle.chain_log.specs.{declared.spare.RingSpare.RingSpare, RingPass.{identity_of, log_of, known_of}}
 use Rattle.chain_log.specs.RingSpare.{spare_log_of, spare_known_of}
 
 -- a ring may have from 1 to 65,536 rows (own rule)
@@ -54,7 +48,7 @@ pub record OpensRing (rows sessions spares : ℕ) (log : RingLog) (passes : List
 -- why a ring of these sizes isn't opened, in the order of test: a number is out of range only if those tested before it
 -- aren't; no memory is the reason only if all are in range
 abbrev pub Refuses : ℕ → ℕ → ℕ → RingFault → Type 0
-Refuses rows sessions spares RowsOutOfRange = AreRows rows → ⊥
-Refuses rows sessions spares SessionsOutOfRange = AreRows rows × (IsCount sessions → ⊥)
-Refuses rows sessions spares SparesOutOfRange = AreRows rows × IsCount sessions × (AreSpares spares → ⊥)
-Refuses rows sessions spares NoMemory = AreRows rows × IsCount sessions × AreSpares spares
+Refuses rows sessions spares RingFault.RowsOutOfRange = AreRows rows → ⊥
+Refuses rows sessions spares RingFault.SessionsOutOfRange = AreRows rows × (IsCount sessions → ⊥)
+Refuses rows sessions spares RingFault.SparesOutOfRange = AreRows rows × IsCount sessions × (AreSpares spares → ⊥)
+Refuses rows sessions spares RingFault.NoMemory = AreRows rows × IsCount sessions × AreSpares spares

@@ -4,12 +4,8 @@
 --     known_of        what a pass knows
 --     least_of        how many entries the history has at least, as a pass knows
 use Rattle.std.specs.Prelude.{ℕ}
-use Rattle.decision_log.specs.declared.known.Known.{Known}
-use Rattle.decision_log.specs.Known.{LogIdentity}
-use Rattle.decision_log.specs.Seats.{pass_view_of}
-use Rattle.chain_log.specs.declared.ring.RingLog.{RingLog}
-use Rattle.chain_log.specs.declared.ring_pass.RingPass.{RingPass}
-use Rattle.chain_log.specs.RingRule.{least}
+use Rattle.decision_log.specs.{declared.known.Known.Known, Known.LogIdentity, Seats.pass_view_of}
+use Rattle.chain_log.specs.{declared.{ring.RingLog.RingLog, ring_pass.RingPass.RingPass}, RingRule.least}
 
 -- what tells a ring from others: its table, how many passes it has, spares included, and how many entries it can have
 abbrev pub identity_of : RingLog → LogIdentity

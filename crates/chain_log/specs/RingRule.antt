@@ -15,15 +15,9 @@
 -- Here `h` is a pass's view: what a seat of the log knows of that pass.
 use Rattle.std.specs.Prelude.{◌≡◌, ◌≢◌, ◌<◌, ◌≤◌, ◌+◌, ℕ, List, length, slice_get, slice_index, Some}
 use Rattle.xa_words.specs.Entry.{Entry}
-use Rattle.decision_log.specs.declared.view.PassView.{PassView}
-use Rattle.decision_log.specs.declared.view.SeatView.{SeatView}
-use Rattle.decision_log.specs.declared.view.Turn.{Turn}
-use Rattle.decision_log.specs.declared.view.Turn.TheVariants.{Without, Won, Fresh}
-use Rattle.decision_log.specs.declared.sizes.Sizes.{Sizes}
-use Rattle.decision_log.specs.Draft.{HasWordsAt}
-use Rattle.decision_log.specs.LogRule.{KnowsLog, LogRule}
-use Rattle.chain_log.specs.Cells.{name_at, newest_of}
-use Rattle.chain_log.specs.Places.{rows_of, word_count, cell_of, cell_words}
+use Rattle.decision_log.specs.declared.{view.{PassView.PassView, SeatView.SeatView, Turn.Turn}, sizes.Sizes.Sizes}
+use Rattle.decision_log.specs.{Draft.HasWordsAt, LogRule.{KnowsLog, LogRule}}
+use Rattle.chain_log.specs.{Cells.{name_at, newest_of}, Places.{rows_of, word_count, cell_of, cell_words}}
 
 -- the name of the pass's next entry: of the place after all that it has seen, and of its session
 abbrev pub own_name : PassView → ℕ
@@ -55,9 +49,9 @@ beyond h = slice_index h.draft 2
 
 -- how many entries beyond those that it has seen a pass knows of: what it noted, if it reads a cell; else 0
 abbrev pub beyond_in : PassView → Turn → ℕ
-beyond_in h Without = 0
-beyond_in h Won = beyond h
-beyond_in h Fresh = beyond h
+beyond_in h Turn.Without = 0
+beyond_in h Turn.Won = beyond h
+beyond_in h Turn.Fresh = beyond h
 
 -- the length that the history has at least: what the pass has seen, and the entries that it noted beyond that
 abbrev pub least : PassView → ℕ
@@ -96,9 +90,9 @@ IsBroken words h =
 -- `Won`, it reads a cell, and the history is at least as long as what it has seen and noted beyond that; `Fresh`, so it
 -- is too, and the cell has another name now, if it found an entry's there (`IsBroken`)
 abbrev pub Notes : List ℕ → List Entry → PassView → Turn → Type 0
-Notes words log h Without = IsDraft words h
-Notes words log h Won = length h.known.seen + beyond h ≤ length log
-Notes words log h Fresh = (length h.known.seen + beyond h ≤ length log) × IsBroken words h
+Notes words log h Turn.Without = IsDraft words h
+Notes words log h Turn.Won = length h.known.seen + beyond h ≤ length log
+Notes words log h Turn.Fresh = (length h.known.seen + beyond h ≤ length log) × IsBroken words h
 
 -- what the pass keeps as its draft is true, as `Notes` says for its `turn`
 pub record HasNotes (words : List ℕ) (log : List Entry) (h : PassView) : Type 0 where

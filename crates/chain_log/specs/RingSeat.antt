@@ -8,13 +8,8 @@
 use Rattle.std.specs.Prelude.{◌≡◌, ◌<◌, ◌≤◌, ◌+◌, ℕ, length, slice_get, Some}
 use Rattle.atomic_table.specs.declared.shared.Seat.{Seat}
 use Rattle.xa_words.specs.Entry.{Entry}
-use Rattle.decision_log.specs.declared.view.SeatView.{SeatView}
-use Rattle.decision_log.specs.declared.view.PassView.{PassView}
-use Rattle.decision_log.specs.Known.{AllOf}
-use Rattle.decision_log.specs.AtTable.{KnowsOne}
-use Rattle.chain_log.specs.Cells.{name_at}
-use Rattle.chain_log.specs.Places.{cell_of}
-use Rattle.chain_log.specs.RingRule.{watched_word, watched_name}
+use Rattle.decision_log.specs.{declared.view.{SeatView.SeatView, PassView.PassView}, Known.AllOf, AtTable.KnowsOne}
+use Rattle.chain_log.specs.{Cells.name_at, Places.cell_of, RingRule.{watched_word, watched_name}}
 use Rattle.chain_log.specs.declared.ring.RingLog.{RingLog}
 
 -- the seat is one of this ring, and knows one pass

@@ -1,9 +1,7 @@
 -- What a contract sees of a spare.
 --     spare_log_of    of which log a spare is
 --     spare_known_of  what a spare knows
-use Rattle.decision_log.specs.declared.known.Known.{Known}
-use Rattle.decision_log.specs.Known.{LogIdentity}
-use Rattle.decision_log.specs.Seats.{pass_view_of}
+use Rattle.decision_log.specs.{declared.known.Known.Known, Known.LogIdentity, Seats.pass_view_of}
 use Rattle.chain_log.specs.declared.spare.RingSpare.{RingSpare}
 
 -- of which log the spare is: the table of its seat, and the log's sizes, as the seat knows them

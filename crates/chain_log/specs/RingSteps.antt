@@ -1,10 +1,8 @@
 -- The steps of a pass of a ring, with what it has to know before each, and what it knows of a given history after it.
 --     IsRingStep      a look, a lost try, a cell that is read, a word stored in the own cell or found there, a won try
 use Rattle.std.specs.Prelude.{◌≡◌, ◌<◌, ◌≤◌, ◌+◌, ℕ, List, ◌∷◌, length, set, slice_index}
-use Rattle.xa_words.specs.Entry.{Entry, IsEntry}
-use Rattle.xa_words.specs.Words.{words_of}
-use Rattle.decision_log.specs.declared.view.PassView.{PassView}
-use Rattle.decision_log.specs.declared.view.Turn.TheVariants.{Without}
+use Rattle.xa_words.specs.{Entry.{Entry, IsEntry}, Words.words_of}
+use Rattle.decision_log.specs.declared.view.{PassView.PassView, Turn.TheVariants.Without}
 use Rattle.chain_log.specs.RingRule.{own_name, own_cell, newest_for, HasNotes}
 use Rattle.chain_log.specs.RingTransitions.{with_look, won, lost, stored}
 

@@ -9,12 +9,8 @@ use Rattle.std.specs.Prelude.{◌≡◌, ◌≢◌, ◌<◌, ◌≤◌, ◌+◌,
 use Rattle.std.specs.Prelude.{slice_index, Some}
 use mathlib.Core.Option.{Option, none, some}
 use Rattle.xa_words.specs.Entry.{Entry, IsEntry}
-use Rattle.decision_log.specs.declared.view.PassView.{PassView}
-use Rattle.decision_log.specs.declared.view.Turn.{Turn}
-use Rattle.decision_log.specs.declared.view.Turn.TheVariants.{Without, Won, Fresh}
-use Rattle.decision_log.specs.Observed.{HistoryIs}
-use Rattle.chain_log.specs.Cells.{name_at, newest_of}
-use Rattle.chain_log.specs.Places.{rows_of, cell_of, cell_words}
+use Rattle.decision_log.specs.{declared.view.{PassView.PassView, Turn.Turn}, Observed.HistoryIs}
+use Rattle.chain_log.specs.{Cells.{name_at, newest_of}, Places.{rows_of, cell_of, cell_words}}
 use Rattle.chain_log.specs.RingRule.{own_name, own_cell, try_word, newest_for, watched_word, watched_name, least}
 
 -- the pass after a look that saw this history: its own cell may be another one now, so its draft is empty
@@ -33,7 +29,7 @@ with_look h seen = record {
   sessions = h.sessions;
   capacity = h.capacity;
   draft = [];
-  turn = Without;
+  turn = Turn.Without;
 }
 
 -- the pass after an exchange that won: its entry is appended and seen; one more try, no look since, and no draft
@@ -51,7 +47,7 @@ won h entry = record {
   sessions = h.sessions;
   capacity = h.capacity;
   draft = [];
-  turn = Without;
+  turn = Turn.Without;
 }
 
 -- the pass after an exchange that lost: one more try, no look since, and this history seen
@@ -69,13 +65,13 @@ lost h seen = record {
   sessions = h.sessions;
   capacity = h.capacity;
   draft = [];
-  turn = Without;
+  turn = Turn.Without;
 }
 
 -- the pass with these words stored in its own cell
 abbrev pub with_words : PassView → List ℕ → PassView
 with_words h words =
-    record { known = h.known; sessions = h.sessions; capacity = h.capacity; draft = words; turn = Without }
+    record { known = h.known; sessions = h.sessions; capacity = h.capacity; draft = words; turn = Turn.Without }
 
 -- the pass after a store of the word of this index in its own cell: its draft is what was stored before that word, and
 -- the word
@@ -103,8 +99,8 @@ pub record KeepsWatch (old new : PassView) : Type 0 where
   pub capacity : new.capacity ≡ old.capacity
   pub word : watched_word new ≡ watched_word old
   pub name : watched_name new ≡ watched_name old
-  pub reads : old.turn ≢ Without → new.turn ≢ Without
-  pub whole : new.turn ≡ Won → old.turn ≡ Won
+  pub reads : old.turn ≢ Turn.Without → new.turn ≢ Turn.Without
+  pub whole : new.turn ≡ Turn.Won → old.turn ≡ Turn.Won
 
 -- a load of word 0, which finds the newest entry's name: the pass has looked, and sees the history up to that entry, no
 -- shorter than the pass knew it to be (`least`)
@@ -121,7 +117,7 @@ Sees word old found new =
 -- that they are another's (`Fresh`)
 abbrev pub Checks : ℕ → PassView → ℕ → PassView → Type 0
 Checks word old found new =
-    (word ≢ 0) × (more : ℕ) × (new ≡ noted old word found more Won)
+    (word ≢ 0) × (more : ℕ) × (new ≡ noted old word found more Turn.Won)
     × ((place : ℕ) (entry : Entry) → slice_get old.known.seen place ≡ Some entry
     → word ≡ cell_of old.capacity place entry.session
     → found ≢ name_at old.sessions place entry.session
@@ -129,14 +125,14 @@ Checks word old found new =
     × ((place : ℕ) (entry : Entry) → slice_get old.known.seen place ≡ Some entry
     → word ≡ cell_of old.capacity place entry.session
     → found ≡ name_at old.sessions place entry.session
-    → watched_word old ≡ word → watched_name old ≡ found → old.turn ≢ Fresh)
+    → watched_word old ≡ word → watched_name old ≡ found → old.turn ≢ Turn.Fresh)
 
 -- a load of one of the 23 words of the cell that the pass reads: it is the entry's, or the pass knows that the cell is
 -- another's
 abbrev pub Reads : ℕ → PassView → ℕ → PassView → Type 0
 Reads word old found new =
     (word ≢ 0) × KeepsWatch old new
-    × (new.turn ≡ Won
+    × (new.turn ≡ Turn.Won
     → (place index : ℕ) (entry : Entry) → slice_get old.known.seen place ≡ Some entry
     → watched_word old ≡ cell_of old.capacity place entry.session
     → watched_name old ≡ name_at old.sessions place entry.session

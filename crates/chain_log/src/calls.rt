@@ -2,8 +2,7 @@
 
 ghost use Rattle.std.specs.Prelude.{◌≡◌, false};
 ghost use Rattle.decision_log.specs.Calls.{Adds};
-ghost use Rattle.chain_log.specs.ChainPass.{identity_of, log_of, known_of};
-ghost use Rattle.chain_log.specs.Tries.{TriesOnce};
+ghost use Rattle.chain_log.specs.{ChainPass.{identity_of, log_of, known_of}, Tries.TriesOnce};
 
 use crate::layout::{cell_name, count_from, row_count};
 use crate::{ChainLog, ChainPass};

@@ -1,11 +1,8 @@
 //! Reading and writing cells.
 ghost use Rattle.std.specs.Prelude.{◌≡◌, ◌<◌, ◌+◌, ℕ, ◌∷◌, length, slice_get, slice_index, Some};
-ghost use Rattle.xa_words.specs.Entry.{Entry, IsEntry};
-ghost use Rattle.xa_words.specs.Words.{words_of};
-ghost use Rattle.decision_log.specs.Draft.{with_draft};
-ghost use Rattle.decision_log.specs.Seats.{pass_view};
-ghost use Rattle.chain_log.specs.Cells.{name_at, name_before};
-ghost use Rattle.chain_log.specs.ChainSeat.{IsSeat, IsOurs};
+ghost use Rattle.xa_words.specs.{Entry.{Entry, IsEntry}, Words.words_of};
+ghost use Rattle.decision_log.specs.{Draft.with_draft, Seats.pass_view};
+ghost use Rattle.chain_log.specs.{Cells.{name_at, name_before}, ChainSeat.{IsSeat, IsOurs}};
 
 use crate::ChainLog;
 use atomic_table::Seat;

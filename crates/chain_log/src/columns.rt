@@ -1,12 +1,9 @@
 //! The table of columns: for each row that a pass has seen, the column in which the row's cell is.
 ghost use Rattle.std.specs.Prelude.{◌≡◌, ◌<◌, ◌+◌, List, length};
 ghost use Rattle.xa_words.specs.Entry.{Entry};
-ghost use Rattle.decision_log.specs.Known.{AllOf};
-ghost use Rattle.decision_log.specs.Seats.{pass_view};
-ghost use Rattle.chain_log.specs.Cells.{name_before, newest_of};
-ghost use Rattle.chain_log.specs.ChainPass.{identity_of, log_of, known_of};
-ghost use Rattle.chain_log.specs.ChainSeat.{IsSeat, IsOurs};
-ghost use Rattle.chain_log.specs.Columns.{HasColumns};
+ghost use Rattle.decision_log.specs.{Known.AllOf, Seats.pass_view};
+ghost use Rattle.chain_log.specs.{Cells.{name_before, newest_of}, ChainPass.{identity_of, log_of, known_of}};
+ghost use Rattle.chain_log.specs.{ChainSeat.{IsSeat, IsOurs}, Columns.HasColumns};
 
 use crate::layout::{cell_column, cell_name};
 use crate::{ChainLog, ChainPass};

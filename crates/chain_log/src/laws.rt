@@ -1,23 +1,15 @@
 //! Laws of the words of a chain at any moment, as contracts over its rule only.
-ghost use Rattle.std.specs.Prelude.{◌≡◌, ◌≢◌, ◌<◌, ◌≤◌, ◌+◌, ℕ, List, [], ◌∷◌, ◌++◌, length, set, slice_get};
-ghost use Rattle.std.specs.Prelude.{slice_index, Some};
 ghost use mathlib.Core.Option.{Option, some};
 ghost use lib.ListN.{get_elem?};
-ghost use Rattle.xa_words.specs.Entry.{Entry, IsEntry};
-ghost use Rattle.xa_words.specs.Words.{words_of};
-ghost use Rattle.decision_log.specs.declared.sizes.Sizes.{Sizes};
-ghost use Rattle.decision_log.specs.declared.view.PassView.{PassView};
-ghost use Rattle.decision_log.specs.declared.view.SeatView.{SeatView};
-ghost use Rattle.decision_log.specs.declared.view.SeatView.TheVariants.{Single, Pair};
-ghost use Rattle.decision_log.specs.Machine.{Machine};
-ghost use Rattle.decision_log.specs.Passes.{HasPasses};
-ghost use Rattle.decision_log.specs.Atomic.{Atomic, Exchange, Does, Counts};
-ghost use Rattle.decision_log.specs.Observed.{MetAt, met};
+ghost use Rattle.std.specs.Prelude.{◌≡◌, ◌≢◌, ◌<◌, ◌≤◌, ◌+◌, ℕ, List, [], ◌∷◌, ◌++◌, length, set, slice_get};
+ghost use Rattle.std.specs.Prelude.{slice_index, Some};
+ghost use Rattle.xa_words.specs.{Entry.{Entry, IsEntry}, Words.words_of};
+ghost use Rattle.decision_log.specs.declared.{sizes.Sizes.Sizes, view.{PassView.PassView, SeatView.SeatView}};
+ghost use Rattle.decision_log.specs.{declared.view.SeatView.TheVariants.{Single, Pair}, Machine.Machine};
+ghost use Rattle.decision_log.specs.{Passes.HasPasses, Atomic.{Atomic, Exchange, Does, Counts}, Observed.{MetAt, met}};
 ghost use Rattle.decision_log.specs.MachineSteps.{StepsTo};
-ghost use Rattle.chain_log.specs.Cells.{name_at, newest_of};
-ghost use Rattle.chain_log.specs.Chain.{Chain};
-ghost use Rattle.chain_log.specs.ChainRule.{own_cell, try_word, newest_for, Knows, ChainRule};
-ghost use Rattle.chain_log.specs.ChainSteps.{IsChainStep};
+ghost use Rattle.chain_log.specs.{Cells.{name_at, newest_of}, Chain.Chain};
+ghost use Rattle.chain_log.specs.{ChainRule.{own_cell, try_word, newest_for, Knows, ChainRule}, ChainSteps.IsChainStep};
 
 /// States that the walk from the newest cell along the links spells the history.
 ///

@@ -1,8 +1,7 @@
 //! A pass of a chain.
 ghost use Rattle.std.specs.Prelude.{◌≡◌, length};
 ghost use Rattle.decision_log.specs.Seats.{pass_view_of, seated, IsPass};
-ghost use Rattle.chain_log.specs.Cells.{newest_of};
-ghost use Rattle.chain_log.specs.Columns.{HasColumns};
+ghost use Rattle.chain_log.specs.{Cells.newest_of, Columns.HasColumns};
 
 use atomic_table::Seat;
 use decision_log::SeatView;

@@ -1,8 +1,7 @@
 //! How passes and spares go to rest, and wake.
 ghost use Rattle.std.specs.Prelude.{◌≡◌, IfSome};
 ghost use Rattle.chain_log.specs.Resting.{resting_log_of, resting_known_of, resting_spare_log_of};
-ghost use Rattle.chain_log.specs.Resting.{resting_spare_known_of};
-ghost use Rattle.chain_log.specs.RingPass.{log_of, known_of};
+ghost use Rattle.chain_log.specs.{Resting.resting_spare_known_of, RingPass.{log_of, known_of}};
 ghost use Rattle.chain_log.specs.RingSpare.{spare_log_of, spare_known_of};
 
 use crate::{RestingPass, RestingSpare, RingPass, RingSpare};

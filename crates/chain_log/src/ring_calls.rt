@@ -1,14 +1,9 @@
 //! What a session does with a ring by its pass.
 ghost use Rattle.std.specs.Prelude.{◌≡◌, ◌<◌, ◌≤◌, ◌+◌, false, length, slice_get, Some, IfSome, IfNone, IsTrue};
 ghost use Rattle.std.specs.Prelude.{MatchBool};
-ghost use Rattle.decision_log.specs.Opens.{IsCount};
-ghost use Rattle.decision_log.specs.Calls.{Looked, Adds, MeetsFirst, MeetsSecond};
-ghost use Rattle.decision_log.specs.Seats.{pass_view};
-ghost use Rattle.chain_log.specs.Tries.{TriesOnce};
-ghost use Rattle.chain_log.specs.Places.{most};
-ghost use Rattle.chain_log.specs.RingOpens.{AreRows};
-ghost use Rattle.chain_log.specs.RingPass.{identity_of, log_of, known_of, least_of};
-ghost use Rattle.chain_log.specs.RingSeat.{IsSeat};
+ghost use Rattle.decision_log.specs.{Opens.IsCount, Calls.{Looked, Adds, MeetsFirst, MeetsSecond}, Seats.pass_view};
+ghost use Rattle.chain_log.specs.{Tries.TriesOnce, Places.most, RingOpens.AreRows};
+ghost use Rattle.chain_log.specs.{RingPass.{identity_of, log_of, known_of, least_of}, RingSeat.IsSeat};
 
 use crate::ring_layout::{count_from, entry_name, place_count};
 use crate::{RingLog, RingPass};

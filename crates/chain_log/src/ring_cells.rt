@@ -1,11 +1,8 @@
 //! The cells, read and written.
 ghost use Rattle.std.specs.Prelude.{◌≡◌, ◌<◌, ◌≤◌, ◌+◌, ℕ, ◌∷◌, length, slice_get, slice_index, Some, IfSome, IfNone};
-ghost use Rattle.xa_words.specs.Entry.{Entry, IsEntry};
-ghost use Rattle.xa_words.specs.Words.{words_of};
-ghost use Rattle.decision_log.specs.declared.view.Turn.TheVariants.{Won};
-ghost use Rattle.decision_log.specs.Seats.{pass_view};
-ghost use Rattle.chain_log.specs.Cells.{name_at, session_at, name_before};
-ghost use Rattle.chain_log.specs.Places.{rows_of, cell_of};
+ghost use Rattle.xa_words.specs.{Entry.{Entry, IsEntry}, Words.words_of};
+ghost use Rattle.decision_log.specs.{declared.view.Turn.TheVariants.Won, Seats.pass_view};
+ghost use Rattle.chain_log.specs.{Cells.{name_at, session_at, name_before}, Places.{rows_of, cell_of}};
 ghost use Rattle.chain_log.specs.RingRule.{own_name, own_cell, watched_word, least};
 ghost use Rattle.chain_log.specs.RingTransitions.{KeepsWatch, with_words};
 ghost use Rattle.chain_log.specs.RingSeat.{IsSeat, IsStart, KeepsPass, ReadsCell};

@@ -1,13 +1,10 @@
 //! The table of columns. It gives the column of the cell of each of the last entries that a pass has seen.
 ghost use Rattle.std.specs.Prelude.{◌≡◌, ◌<◌, ◌≤◌, ◌+◌, ◌%◌, ℕ, List, IsTrue, length, slice_index};
 ghost use Rattle.xa_words.specs.Entry.{Entry};
-ghost use Rattle.decision_log.specs.Known.{AllOf};
-ghost use Rattle.decision_log.specs.Seats.{pass_view};
-ghost use Rattle.chain_log.specs.Cells.{name_at, session_at, newest_of};
-ghost use Rattle.chain_log.specs.RingRule.{least};
+ghost use Rattle.decision_log.specs.{Known.AllOf, Seats.pass_view};
+ghost use Rattle.chain_log.specs.{Cells.{name_at, session_at, newest_of}, RingRule.least};
 ghost use Rattle.chain_log.specs.RingPass.{identity_of, log_of, known_of, least_of};
-ghost use Rattle.chain_log.specs.RingSeat.{IsSeat, IsOurs, KeepsPass};
-ghost use Rattle.chain_log.specs.Windows.{HasWindow};
+ghost use Rattle.chain_log.specs.{RingSeat.{IsSeat, IsOurs, KeepsPass}, Windows.HasWindow};
 
 use crate::ring_layout::{entry_name, name_column};
 use crate::{RingLog, RingPass};

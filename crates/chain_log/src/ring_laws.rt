@@ -1,26 +1,16 @@
 //! What holds of the words of a ring at any moment, as contracts that name only its rule.
-ghost use Rattle.std.specs.Prelude.{◌≡◌, ◌≢◌, ◌<◌, ◌≤◌, ◌+◌, ◌⊎◌, ℕ, List, [], ◌∷◌, ◌++◌, length, set, slice_get};
-ghost use Rattle.std.specs.Prelude.{slice_index, Some};
 ghost use mathlib.Core.Option.{Option, some};
 ghost use lib.ListN.{get_elem?};
-ghost use Rattle.xa_words.specs.Entry.{Entry, IsEntry};
-ghost use Rattle.xa_words.specs.Words.{words_of};
-ghost use Rattle.decision_log.specs.declared.sizes.Sizes.{Sizes};
-ghost use Rattle.decision_log.specs.declared.view.PassView.{PassView};
-ghost use Rattle.decision_log.specs.declared.view.SeatView.{SeatView};
-ghost use Rattle.decision_log.specs.declared.view.SeatView.TheVariants.{Single, Pair};
-ghost use Rattle.decision_log.specs.declared.view.Turn.TheVariants.{Without};
-ghost use Rattle.decision_log.specs.Draft.{HasWordsAt};
-ghost use Rattle.decision_log.specs.Machine.{Machine};
-ghost use Rattle.decision_log.specs.Passes.{HasPasses};
-ghost use Rattle.decision_log.specs.Atomic.{Atomic, Exchange, Does, Counts};
-ghost use Rattle.decision_log.specs.Observed.{met};
-ghost use Rattle.decision_log.specs.MachineSteps.{StepsTo};
-ghost use Rattle.chain_log.specs.Cells.{newest_of};
-ghost use Rattle.chain_log.specs.Places.{rows_of, cell_of, cell_words};
+ghost use Rattle.std.specs.Prelude.{◌≡◌, ◌≢◌, ◌<◌, ◌≤◌, ◌+◌, ◌⊎◌, ℕ, List, [], ◌∷◌, ◌++◌, length, set, slice_get};
+ghost use Rattle.std.specs.Prelude.{slice_index, Some};
+ghost use Rattle.xa_words.specs.{Entry.{Entry, IsEntry}, Words.words_of};
+ghost use Rattle.decision_log.specs.declared.{sizes.Sizes.Sizes, view.{PassView.PassView, SeatView.SeatView}};
+ghost use Rattle.decision_log.specs.declared.view.{SeatView.TheVariants.{Single, Pair}, Turn.TheVariants.Without};
+ghost use Rattle.decision_log.specs.{Draft.HasWordsAt, Machine.Machine, Passes.HasPasses};
+ghost use Rattle.decision_log.specs.{Atomic.{Atomic, Exchange, Does, Counts}, Observed.met, MachineSteps.StepsTo};
+ghost use Rattle.chain_log.specs.{Cells.newest_of, Places.{rows_of, cell_of, cell_words}};
 ghost use Rattle.chain_log.specs.RingRule.{own_name, own_cell, try_word, newest_for, least, Knows, RingRule};
-ghost use Rattle.chain_log.specs.RingTransitions.{won, stored};
-ghost use Rattle.chain_log.specs.RingSteps.{IsRingStep};
+ghost use Rattle.chain_log.specs.{RingTransitions.{won, stored}, RingSteps.IsRingStep};
 
 /// States that the words spell the last entries of the history: one fewer than there are rows.
 ///

@@ -2,8 +2,7 @@
 ghost use Rattle.std.specs.Prelude.{◌≡◌, ◌<◌, ◌≤◌, ◌+◌, ◌-◌, ◌*◌, ◌%◌, ℕ, List, length};
 ghost use Rattle.xa_words.specs.Entry.{Entry};
 ghost use Rattle.decision_log.specs.Known.{AllOf};
-ghost use Rattle.chain_log.specs.Cells.{name_at, newest_of};
-ghost use Rattle.chain_log.specs.Places.{most, word_count, cell_at};
+ghost use Rattle.chain_log.specs.{Cells.{name_at, newest_of}, Places.{most, word_count, cell_at}};
 
 use xa_words::WORDS;
 

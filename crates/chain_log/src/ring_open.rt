@@ -1,12 +1,9 @@
 //! Opening a ring.
 ghost use Rattle.std.specs.Prelude.{◌≡◌, ◌≤◌, ◌+◌, IfOk, IfErr};
-ghost use Rattle.decision_log.specs.AtTable.{KnowsRest};
-ghost use Rattle.decision_log.specs.Known.{newcomer};
-ghost use Rattle.decision_log.specs.Opens.{IsCount};
+ghost use Rattle.decision_log.specs.{AtTable.KnowsRest, Known.newcomer, Opens.IsCount};
 ghost use Rattle.decision_log.specs.Seats.{pass_view, newcomer_view, seated};
-ghost use Rattle.chain_log.specs.Places.{most, rows_of, word_count};
+ghost use Rattle.chain_log.specs.{Places.{most, rows_of, word_count}, RingPass.{identity_of, log_of, known_of}};
 ghost use Rattle.chain_log.specs.RingOpens.{AreRows, AreSpares, OpensPasses, OpensSpares, OpensRing, Refuses};
-ghost use Rattle.chain_log.specs.RingPass.{identity_of, log_of, known_of};
 
 use crate::ring_layout::{MOST, MOST_ROWS, MOST_SPARES, count_words};
 use crate::{RingFault, RingLog, RingPass, RingSpare, Turning};

@@ -1,10 +1,7 @@
 //! A pass of a ring.
 ghost use Rattle.std.specs.Prelude.{◌≡◌, ◌<◌, length};
 ghost use Rattle.decision_log.specs.Seats.{pass_view_of, seated};
-ghost use Rattle.chain_log.specs.Cells.{newest_of};
-ghost use Rattle.chain_log.specs.Places.{rows_of};
-ghost use Rattle.chain_log.specs.Windows.{HasWindow};
-ghost use Rattle.chain_log.specs.IsRingPass.{IsRingPass};
+ghost use Rattle.chain_log.specs.{Cells.newest_of, Places.rows_of, Windows.HasWindow, IsRingPass.IsRingPass};
 
 use atomic_table::Seat;
 use decision_log::SeatView;

@@ -1,8 +1,7 @@
 //! Spares of a ring: what they are told, and passes that hear them after they slept.
 
 ghost use Rattle.std.specs.Prelude.{◌≡◌, All, IfSome};
-ghost use Rattle.chain_log.specs.RingPass.{identity_of, log_of};
-ghost use Rattle.chain_log.specs.RingSpare.{spare_log_of};
+ghost use Rattle.chain_log.specs.{RingPass.{identity_of, log_of}, RingSpare.spare_log_of};
 
 use crate::ring_tests::{Pair, adds, adds_at_once, adds_each, misses, pair_of, pops_pass, reads};
 use crate::{RingLog, RingPass, RingSpare};

@@ -21,14 +21,9 @@
 //! 5. To open, `LogTable::issue` splits the seat that knows the passes not yet issued, once for each session and each
 //!    spare.
 ghost use Rattle.std.specs.Prelude.{◌≡◌, ◌≢◌, ◌<◌, ◌≤◌, ◌+◌, ◌%◌, ℕ, List, [], ◌∷◌, length};
-ghost use Rattle.xa_words.specs.Entry.{Entry};
-ghost use Rattle.xa_words.specs.Words.{words_of};
-ghost use Rattle.decision_log.specs.declared.view.Turn.TheVariants.{Without};
-ghost use Rattle.decision_log.specs.Observed.{HistoryIs};
-ghost use Rattle.decision_log.specs.Seats.{pass_view};
-ghost use Rattle.chain_log.specs.Cells.{newest_of};
-ghost use Rattle.chain_log.specs.Places.{cell_of};
-ghost use Rattle.chain_log.specs.RingRule.{own_name, own_cell, least};
+ghost use Rattle.xa_words.specs.{Entry.Entry, Words.words_of};
+ghost use Rattle.decision_log.specs.{declared.view.Turn.TheVariants.Without, Observed.HistoryIs, Seats.pass_view};
+ghost use Rattle.chain_log.specs.{Cells.newest_of, Places.cell_of, RingRule.{own_name, own_cell, least}};
 ghost use Rattle.chain_log.specs.RingTransitions.{with_look, won, lost, stored, Checks, Reads};
 ghost use Rattle.chain_log.specs.RingSeat.{IsSeat, IsStart};
 

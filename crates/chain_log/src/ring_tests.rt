@@ -1,8 +1,7 @@
 //! The layout of a ring's words, cells that are used again, and slow passes.
 
 ghost use Rattle.std.specs.Prelude.{◌≡◌, ◌≤◌, All, IfSome};
-ghost use Rattle.chain_log.specs.RingPass.{identity_of, log_of, known_of};
-ghost use Rattle.chain_log.specs.RingSpare.{spare_log_of};
+ghost use Rattle.chain_log.specs.{RingPass.{identity_of, log_of, known_of}, RingSpare.spare_log_of};
 
 use crate::ring_layout::{cell_start, count_from, count_words, entry_name, words_filled};
 use crate::{RingFault, RingLog, RingPass, RingSpare, ring_laws};

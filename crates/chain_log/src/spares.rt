@@ -1,8 +1,7 @@
 //! What passes tell a spare, and what they hear from it.
 ghost use Rattle.std.specs.Prelude.{◌≡◌, length};
 ghost use Rattle.decision_log.specs.Calls.{MeetsFirst, MeetsSecond};
-ghost use Rattle.chain_log.specs.RingPass.{identity_of, log_of, known_of};
-ghost use Rattle.chain_log.specs.RingSpare.{spare_log_of, spare_known_of};
+ghost use Rattle.chain_log.specs.{RingPass.{identity_of, log_of, known_of}, RingSpare.{spare_log_of, spare_known_of}};
 
 use crate::ring_layout::place_count;
 use crate::{RingLog, RingPass, RingSpare};

@@ -22,13 +22,9 @@
 //!    (`LogTable::issue`).
 ghost use Rattle.std.specs.Prelude.{◌≡◌, ◌≢◌, true, false, ◌<◌, ◌≤◌, ◌+◌, ℕ, List, ◌∷◌, length, slice_get, slice_index};
 ghost use Rattle.std.specs.Prelude.{Some};
-ghost use Rattle.xa_words.specs.Entry.{Entry, IsEntry};
-ghost use Rattle.xa_words.specs.Words.{words_of};
-ghost use Rattle.decision_log.specs.Draft.{drafted};
-ghost use Rattle.decision_log.specs.Observed.{HistoryIs};
-ghost use Rattle.decision_log.specs.Seats.{pass_view};
-ghost use Rattle.chain_log.specs.Cells.{name_at, name_before, newest_of};
-ghost use Rattle.chain_log.specs.ChainTransitions.{with_look, won, lost};
+ghost use Rattle.xa_words.specs.{Entry.{Entry, IsEntry}, Words.words_of};
+ghost use Rattle.decision_log.specs.{Draft.drafted, Observed.HistoryIs, Seats.pass_view};
+ghost use Rattle.chain_log.specs.{Cells.{name_at, name_before, newest_of}, ChainTransitions.{with_look, won, lost}};
 ghost use Rattle.chain_log.specs.ChainSeat.{IsSeat, IsOurs};
 
 use crate::ChainLog;

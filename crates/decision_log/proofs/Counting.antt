@@ -1,10 +1,8 @@
 -- What the counts of a pass say of the step by which they rose.
-use Rattle.std.proofs.Common.{◌≡◌, ◌≢◌, ℕ, ap, sym, ◌∙◌, ⊎_elim, List}
-use Rattle.std.specs.Prelude.{slice_index}
+use Rattle.std.{proofs.Common.{◌≡◌, ◌≢◌, ℕ, ap, sym, ◌∙◌, ⊎_elim, List}, specs.Prelude.slice_index}
 use mathlib.Core.Option.{Option}
 use Rattle.xa_words.specs.Entry.{Entry}
-use Rattle.decision_log.specs.declared.view.PassView.{PassView}
-use Rattle.decision_log.specs.Atomic.{Atomic, Load, Store, Exchange, Does, Counts}
+use Rattle.decision_log.specs.{declared.view.PassView.PassView, Atomic.{Atomic, Load, Store, Exchange, Does, Counts}}
 
 module _ (newest : PassView → ℕ) (tried : ℕ) where
   -- a step by which `tries` rises exchanges the word at which passes try

@@ -1,11 +1,10 @@
 -- The words that a pass stores and reads: what changes of them, and what doesn't, where a word of the log changes.
 use Rattle.std.proofs.Common.{◌≡◌, ◌≢◌, ℕ, zero, suc, ◌+◌, ◌<◌, ◌≤◌, List, [], ◌∷◌, ◌++◌, length, take, set, get_or}
-use Rattle.std.proofs.Common.{refl, ap, sym, ◌∙◌, subst, arith}
-use Rattle.std.proofs.Common.{length-append}
-use mathlib.Core.Logic.{dite}
-use native.Mathlib.Decide.{ℕ_discrete}
+use Rattle.std.proofs.Common.{refl, ap, sym, ◌∙◌, subst, arith, length-append}
 use Rattle.std.proofs.lemmas.List.{get_or-set_same, get_or-set_other, length-take-le, get_or_push}
+use mathlib.Core.Logic.{dite}
 use Rattle.decision_log.specs.Draft.{HasWordsAt}
+use native.Mathlib.Decide.{ℕ_discrete}
 
 -- a draft of no word stands anywhere
 pub holds_nothing : (words : List ℕ) (at : ℕ) (draft : List ℕ) → draft ≡ [] → HasWordsAt words at draft

@@ -1,16 +1,13 @@
 -- Lists of entries: lemmas on prefixes, on the entries of a session, and on the entries at places.
 use Rattle.std.proofs.Common.{◌≡◌, ◌≢◌, ◌⊎◌, ℕ, zero, suc, ◌<◌, ◌≤◌, List, [], ◌∷◌, ◌++◌, length, take, drop, get_or}
-use Rattle.std.proofs.Common.{refl, ap, sym, ◌∙◌, subst, inl, inr}
-use Rattle.std.proofs.Common.{⊎_elim, Some, None, arith, eq-eqb, ne_eqb, length-append, append-nil}
-use Rattle.std.specs.Prelude.{slice_get, All}
-use Rattle.std.proofs.lemmas.List.{take_all, take-append-le, take-append-drop, length-take}
-use Rattle.std.proofs.lemmas.List.Elements.{filter-append}
-use Rattle.std.proofs.lemmas.Option.{slice_get-get_or, get_or_from_slice_get}
+use Rattle.std.proofs.Common.{refl, ap, sym, ◌∙◌, subst, inl, inr, ⊎_elim, Some, None, arith, eq-eqb, ne_eqb}
+use Rattle.std.proofs.{Common.{length-append, append-nil}, lemmas.Option.{slice_get-get_or, get_or_from_slice_get}}
+use Rattle.std.proofs.lemmas.List.{take_all, take-append-le, take-append-drop, length-take, Elements.filter-append}
+use Rattle.std.{proofs.Math.Seq.take-append_seam, specs.Prelude.{slice_get, All}}
 use mathlib.Core.Logic.{dite}
-use native.Mathlib.Decide.{ℕ_discrete}
-use Rattle.std.proofs.Math.Seq.{take-append_seam}
 use Rattle.xa_words.specs.Entry.{Entry}
 use Rattle.decision_log.specs.History.{Begins, is_of, entries_of}
+use native.Mathlib.Decide.{ℕ_discrete}
 
 -- prefixes
 

@@ -4,18 +4,13 @@
 --     looks_learn               if word 0 is `newest` of it then, the whole history
 --     meets_learn               at a meeting, nothing or the whole history
 use Rattle.std.proofs.Common.{◌≡◌, ℕ, ◌<◌, List, [], ◌∷◌, length, set, zero, suc, refl, sym, ◌∙◌, subst, inl, inr}
-use Rattle.std.specs.Prelude.{slice_index}
-use Rattle.std.proofs.lemmas.Bool.{cases_lt}
+use Rattle.std.{proofs.lemmas.Bool.cases_lt, specs.Prelude.slice_index}
 use mathlib.Core.Option.{some, some-ne-none}
-use lib.ListN.{get_elem?}
 use Rattle.xa_words.specs.Entry.{Entry}
-use Rattle.decision_log.specs.declared.view.PassView.{PassView}
-use Rattle.decision_log.specs.declared.view.SeatView.{SeatView}
-use Rattle.decision_log.specs.declared.view.SeatView.TheVariants.{Single, Pair}
-use Rattle.decision_log.specs.declared.sizes.Sizes.{Sizes}
-use Rattle.decision_log.specs.LogRule.{KnowsLog, LogRule}
-use Rattle.decision_log.specs.Observed.{met, MetAt}
+use Rattle.decision_log.specs.declared.view.{PassView.PassView, SeatView.{SeatView, TheVariants.{Single, Pair}}}
+use Rattle.decision_log.specs.{declared.sizes.Sizes.Sizes, LogRule.{KnowsLog, LogRule}, Observed.{met, MetAt}}
 use Rattle.decision_log.specs.MachineSteps.{Learns}
+use lib.ListN.{get_elem?}
 
 -- what was put at a seat stands there
 pub put_there : {A : Type 0} (xs : List A) (i : ℕ) (x y : A) → get_elem? xs i ≡ some x

@@ -8,32 +8,18 @@
 --     looked_log          who looks has seen the whole history
 -- Here `h` is a pass's view: what a seat of the log knows of that pass.
 use Rattle.std.proofs.Common.{◌≡◌, ◌≢◌, ℕ, ◌+◌, ◌-◌, ◌<◌, ◌≤◌, List, [], ◌∷◌, ◌++◌, length, set, get_or, refl, ap, sym}
-use Rattle.std.proofs.Common.{◌∙◌, subst, ⊎_elim, Some, arith}
-use Rattle.std.proofs.Common.{length-append}
+use Rattle.std.proofs.{Common.{◌∙◌, subst, ⊎_elim, Some, arith, length-append}, lemmas.List.set-get_or}
 use Rattle.std.specs.Prelude.{slice_get, slice_index}
 use mathlib.Core.Option.{some}
-use lib.ListN.{get_elem?}
-use Rattle.std.proofs.lemmas.List.{set-get_or}
 use Rattle.atomic_table.specs.Table.{State, keeps, Allows}
 use Rattle.xa_words.specs.Entry.{Entry, IsEntry}
-use Rattle.decision_log.specs.declared.view.PassView.{PassView}
-use Rattle.decision_log.specs.declared.view.SeatView.{SeatView}
-use Rattle.decision_log.specs.declared.view.SeatView.TheVariants.{Single}
-use Rattle.decision_log.specs.declared.sizes.Sizes.{Sizes}
-use Rattle.decision_log.specs.History.{Begins, entries_of}
-use Rattle.decision_log.specs.Known.{AllOf}
-use Rattle.decision_log.specs.Machine.{Machine}
-use Rattle.decision_log.specs.Passes.{HasPasses}
-use Rattle.decision_log.specs.Seats.{Placed, Seats, seated}
-use Rattle.decision_log.specs.Draft.{drafted}
-use Rattle.decision_log.specs.Observed.{HistoryIs}
-use Rattle.decision_log.specs.Atomic.{Atomic, Does, Counts, Tells}
-use Rattle.decision_log.specs.LogRule.{KnowsLog, LogRule}
+use Rattle.decision_log.specs.declared.view.{PassView.PassView, SeatView.{SeatView, TheVariants.Single}}
+use Rattle.decision_log.specs.{declared.sizes.Sizes.Sizes, History.{Begins, entries_of}, Known.AllOf, Machine.Machine}
+use Rattle.decision_log.specs.{Passes.HasPasses, Seats.{Placed, Seats, seated}, Draft.drafted, Observed.HistoryIs}
+use Rattle.decision_log.specs.{Atomic.{Atomic, Does, Counts, Tells}, LogRule.{KnowsLog, LogRule}}
 use Rattle.decision_log.proofs.Histories.{begins_itself, begins_more, get_begins, get_last, all_from_places, own_last}
-use Rattle.decision_log.proofs.Histories.{own_other}
-use Rattle.decision_log.proofs.SeatLemmas.{step_seat}
-use Rattle.decision_log.proofs.MachineSeats.{has_passes}
-use Rattle.decision_log.proofs.Counting.{look_is}
+use Rattle.decision_log.proofs.{Histories.own_other, SeatLemmas.step_seat, MachineSeats.has_passes, Counting.look_is}
+use lib.ListN.{get_elem?}
 
 module _ (Spells : Sizes → List ℕ → List Entry → Type 0) (KnowsWords : List ℕ → List Entry → PassView → Type 0) where
   -- the rule, of a state of the table

@@ -1,13 +1,12 @@
 -- The law of the machine: what a session knows is a prefix of the history with its own entries in it.
 use Rattle.std.proofs.Common.{◌≡◌, ℕ, ◌≤◌, List, [], ◌∷◌, ◌++◌, length, refl, ap, sym, ◌∙◌, subst, arith}
 use Rattle.std.proofs.lemmas.List.{length-append}
-use native.Mathlib.Decide.{ℕ_discrete}
 use mathlib.Core.Logic.{dite}
 use Rattle.xa_words.specs.Entry.{Entry}
-use Rattle.decision_log.specs.History.{Begins, entries_of}
-use Rattle.decision_log.specs.Machine.{Seen, Machine, Event, Look, Add, Looks, Appends, Happens, Runs, opening_machine}
-use Rattle.decision_log.specs.Machine.{IsState}
+use Rattle.decision_log.specs.{History.{Begins, entries_of}, Machine.{Seen, Machine, Event, Look, Add, Looks, Appends}}
+use Rattle.decision_log.specs.Machine.{Happens, Runs, opening_machine, IsState}
 use Rattle.decision_log.proofs.Histories.{begins_itself, begins_more, own_last, own_other}
+use native.Mathlib.Decide.{ℕ_discrete}
 
 -- what a session knows is right: it has seen a prefix of the history, and both this prefix and the whole history have
 -- just those entries of the session that it has noted as its own

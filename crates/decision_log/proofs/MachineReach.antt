@@ -1,19 +1,15 @@
 -- Each state of the machine, the target, is reached: its entries are added in their order, and after each add those
 -- sessions look that have seen the entry in the target.
 use Rattle.std.proofs.Common.{◌≡◌, ◌≢◌, ℕ, zero, suc, ◌<◌, ◌≤◌, Bool, true, false, cond, nat_eq, List, [], ◌∷◌, ◌++◌}
-use Rattle.std.proofs.Common.{length, take, drop, refl, ap, sym, ◌∙◌}
-use Rattle.std.proofs.Common.{subst, Some, arith, eq-eqb, ne_eqb}
-use Rattle.std.specs.Prelude.{slice_get}
-use Rattle.std.proofs.lemmas.List.{take_all, length-take, length-take-le, take-append-le}
-use native.Mathlib.Decide.{ℕ_discrete, dec_le}
+use Rattle.std.proofs.Common.{length, take, drop, refl, ap, sym, ◌∙◌, subst, Some, arith, eq-eqb, ne_eqb}
+use Rattle.std.{proofs.lemmas.List.{take_all, length-take, length-take-le, take-append-le}, specs.Prelude.slice_get}
 use mathlib.Core.Logic.{dite}
 use Rattle.xa_words.specs.Entry.{Entry}
-use Rattle.decision_log.specs.History.{Begins, entries_of}
-use Rattle.decision_log.specs.Known.{AllOf}
+use Rattle.decision_log.specs.{History.{Begins, entries_of}, Known.AllOf, Reached.{EventsOf, IsReached}}
 use Rattle.decision_log.specs.Machine.{Machine, Event, Look, Add, Looks, Appends, Runs, opening_machine, IsState}
-use Rattle.decision_log.specs.Reached.{EventsOf, IsReached}
 use Rattle.decision_log.proofs.Histories.{behind, length_begins, own_last, own_other, take_next, entry_at, entry_is}
 use Rattle.decision_log.proofs.Histories.{later_other}
+use native.Mathlib.Decide.{ℕ_discrete, dec_le}
 
 -- events one after another
 

@@ -1,21 +1,12 @@
 -- The passes at the seats of a log are the sessions of a state of the log machine.
 use Rattle.std.proofs.Common.{◌≡◌, ℕ, ◌≤◌, cond, nat_eq, List, length, refl, ap, ◌∙◌, subst, eq-eqb, ne_eqb}
-use mathlib.Core.Option.{Option, some, none}
-use mathlib.Core.Logic.{dite}
+use mathlib.Core.{Option.{Option, some, none}, Logic.dite}
+use Rattle.xa_words.specs.Entry.{Entry}
+use Rattle.decision_log.specs.{declared.view.{PassView.PassView, SeatView.SeatView}, History.entries_of, Known.AllOf}
+use Rattle.decision_log.specs.{Machine.{Seen, Machine}, Passes.{KnownTo, SeatKnownTo, HasPasses}, Seats.{Fits, Seats}}
+use Rattle.decision_log.proofs.{Histories.begins_itself, MachineLaw.{Knows, Sound, state_of}, MachineReach.reached}
 use native.Mathlib.Decide.{ℕ_discrete}
 use lib.ListN.{get_elem?}
-use Rattle.xa_words.specs.Entry.{Entry}
-use Rattle.decision_log.specs.declared.view.PassView.{PassView}
-use Rattle.decision_log.specs.declared.view.SeatView.{SeatView}
-use Rattle.decision_log.specs.declared.view.SeatView.TheVariants.{Empty, Single, Pair, Unissued}
-use Rattle.decision_log.specs.History.{entries_of}
-use Rattle.decision_log.specs.Known.{AllOf}
-use Rattle.decision_log.specs.Machine.{Seen, Machine}
-use Rattle.decision_log.specs.Passes.{KnownTo, SeatKnownTo, HasPasses}
-use Rattle.decision_log.specs.Seats.{Fits, Seats}
-use Rattle.decision_log.proofs.Histories.{begins_itself}
-use Rattle.decision_log.proofs.MachineLaw.{Knows, Sound, state_of}
-use Rattle.decision_log.proofs.MachineReach.{reached}
 
 -- what the machine's session of a pass's number knows
 abbrev pub seen_by : PassView → Seen
@@ -28,13 +19,13 @@ module _ (log : List Entry) where
 
   -- what a session knows by a seat: what its pass there has seen, if there is one of its number, and else all
   known_at : ℕ → SeatView → Seen
-  known_at session Empty = absent session
-  known_at session (Single pass_view) =
+  known_at session SeatView.Empty = absent session
+  known_at session (SeatView.Single pass_view) =
       cond (nat_eq pass_view.known.number session) (seen_by pass_view) (absent session)
-  known_at session (Pair first second) =
+  known_at session (SeatView.Pair first second) =
       cond (nat_eq first.known.number session) (seen_by first)
       (cond (nat_eq second.known.number session) (seen_by second) (absent session))
-  known_at session (Unissued pass_view) = absent session
+  known_at session (SeatView.Unissued pass_view) = absent session
 
   -- what a session knows by a seat that may be missing: if it is, all
   known_in : ℕ → Option SeatView → Seen
@@ -61,14 +52,14 @@ module _ (log : List Entry) where
     known_knows : (id session : ℕ) (view : SeatView) → Fits F home next id view
         → Knows log session (known_at session view)
     unfolding known_at
-    known_knows id session Empty fits = absent_knows session
-    known_knows id session (Single pass_view) fits =
+    known_knows id session SeatView.Empty fits = absent_knows session
+    known_knows id session (SeatView.Single pass_view) fits =
         chosen pass_view session (absent session) fits.fact_is (absent_knows session)
-    known_knows id session (Pair first second) fits =
+    known_knows id session (SeatView.Pair first second) fits =
         chosen first session (cond (nat_eq second.known.number session) (seen_by second)
         (absent session)) fits.0.fact_is
         (chosen second session (absent session) fits.1.fact_is (absent_knows session))
-    known_knows id session (Unissued pass_view) fits = absent_knows session
+    known_knows id session (SeatView.Unissued pass_view) fits = absent_knows session
 
     module _ (capacity : ℕ) (views : List SeatView) (seats : Seats F home next views) where
       -- the machine of this history, in which each session knows what it does by the seat of its number
@@ -99,23 +90,23 @@ module _ (log : List Entry) where
       -- each pass at a seat knows what the machine's session of its number knows
       passes : (id : ℕ) (view : SeatView) → get_elem? views id ≡ some view → SeatKnownTo machine view
       unfolding known_at
-      passes id Empty here = tt
-      passes id (Single pass_view) here =
-          let p = seats id (Single pass_view) here in
-          found pass_view id (Single pass_view) p.home_is here
+      passes id SeatView.Empty here = tt
+      passes id (SeatView.Single pass_view) here =
+          let p = seats id (SeatView.Single pass_view) here in
+          found pass_view id (SeatView.Single pass_view) p.home_is here
           (rw (eq-eqb pass_view.known.number pass_view.known.number refl) refl)
-      passes id (Pair first second) here =
-          let p = seats id (Pair first second) here in (
-            found first id (Pair first second) p.0.home_is here
+      passes id (SeatView.Pair first second) here =
+          let p = seats id (SeatView.Pair first second) here in (
+            found first id (SeatView.Pair first second) p.0.home_is here
                 (rw (eq-eqb first.known.number first.known.number refl) refl),
-            found second id (Pair first second) p.1.home_is here
+            found second id (SeatView.Pair first second) p.1.home_is here
                 (rw (
                   ne_eqb first.known.number second.known.number p.2,
                   eq-eqb second.known.number second.known.number
                       refl,
                 ) refl),
           )
-      passes id (Unissued pass_view) here = tt
+      passes id (SeatView.Unissued pass_view) here = tt
 
       -- if the history fits into the capacity and its entries are of sessions 1 to a number, there is a machine that
       -- has this history and these passes, as `HasPasses` says

@@ -5,30 +5,20 @@
 --     opens_seats     and the log can begin
 -- Here `h` is a pass's view: what a seat of the log knows of that pass.
 use Rattle.std.proofs.Common.{◌≡◌, ℕ, zero, suc, ◌+◌, ◌<◌, ◌≤◌, List, [], ◌∷◌, ◌++◌, length, set, refl, sym, subst}
-use Rattle.std.proofs.Common.{Some, None, arith}
-use Rattle.std.specs.Prelude.{slice_index}
-use mathlib.Core.Option.{some, some-injective, some-ne-none}
-use mathlib.Core.Logic.{dite}
-use native.Mathlib.Decide.{dec_le}
-use lib.ListN.{get_elem?}
-use Rattle.std.proofs.lemmas.List.{set-get_or}
+use Rattle.std.{proofs.{Common.{Some, None, arith}, lemmas.List.set-get_or}, specs.Prelude.slice_index}
+use mathlib.Core.{Option.{some, some-injective, some-ne-none}, Logic.dite}
 use Rattle.atomic_table.specs.Table.{keeps, Allows}
 use Rattle.xa_words.specs.Entry.{Entry}
-use Rattle.decision_log.specs.declared.view.PassView.{PassView}
-use Rattle.decision_log.specs.declared.view.SeatView.{SeatView}
-use Rattle.decision_log.specs.declared.view.SeatView.TheVariants.{Empty, Single, Pair, Unissued}
-use Rattle.decision_log.specs.declared.view.Turn.TheVariants.{Without}
-use Rattle.decision_log.specs.declared.sizes.Sizes.{Sizes}
-use Rattle.decision_log.specs.History.{Begins, entries_of}
-use Rattle.decision_log.specs.Seats.{Fits, Seats, newcomer_view, all_passes, following, seated_two}
-use Rattle.decision_log.specs.Observed.{met}
-use Rattle.decision_log.specs.Atomic.{Meets}
-use Rattle.decision_log.specs.AtTable.{KeepsSeats, OpensSeats}
-use Rattle.decision_log.specs.LogRule.{KnowsLog, LogRule}
-use Rattle.decision_log.proofs.Histories.{begins_itself, begins_nothing, begins_between, own_between, own_none}
-use Rattle.decision_log.proofs.Histories.{length_begins}
+use Rattle.decision_log.specs.declared.view.{PassView.PassView, SeatView.SeatView, Turn.TheVariants.Without}
+use Rattle.decision_log.specs.declared.{view.SeatView.TheVariants.{Empty, Single, Pair, Unissued}, sizes.Sizes.Sizes}
+use Rattle.decision_log.specs.{History.{Begins, entries_of}, Atomic.Meets, AtTable.{KeepsSeats, OpensSeats}}
+use Rattle.decision_log.specs.{Seats.{Fits, Seats, newcomer_view, all_passes, following, seated_two}, Observed.met}
+use Rattle.decision_log.{specs.LogRule.{KnowsLog, LogRule}, proofs.Histories.{begins_itself, begins_nothing}}
+use Rattle.decision_log.proofs.Histories.{begins_between, own_between, own_none, length_begins}
 use Rattle.decision_log.proofs.SeatLemmas.{step_two, join_seats, split_two, split_one, deal_seat, moved}
 use Rattle.decision_log.proofs.LogRules.{Rules, reseated, among}
+use native.Mathlib.Decide.{dec_le}
+use lib.ListN.{get_elem?}
 
 -- a pass with no draft and no turn knows nothing of the words; and if a pass has seen the whole history, word 0 is
 -- `newest` of it

@@ -8,14 +8,10 @@
 use Rattle.std.proofs.Common.{◌≡◌, ℕ, sym, subst}
 use Rattle.atomic_table.specs.Table.{State, Me, Allows, Splits, Joins}
 use Rattle.xa_words.specs.Entry.{Entry}
-use Rattle.decision_log.specs.declared.view.PassView.{PassView}
-use Rattle.decision_log.specs.declared.view.SeatView.{SeatView}
-use Rattle.decision_log.specs.declared.view.SeatView.TheVariants.{Empty, Single, Pair, Unissued}
+use Rattle.decision_log.specs.declared.view.{PassView.PassView, SeatView.SeatView}
+use Rattle.decision_log.specs.declared.{view.SeatView.TheVariants.{Empty, Single, Pair, Unissued}, sizes.Sizes.Sizes}
 use Rattle.decision_log.specs.Seats.{pass_view_of, second_of, seated, seated_two, seated_rest, left_of, right_of}
-use Rattle.decision_log.specs.Seats.{both_of, following}
-use Rattle.decision_log.specs.declared.sizes.Sizes.{Sizes}
-use Rattle.decision_log.specs.Atomic.{Meets}
-use Rattle.decision_log.specs.AtTable.{KeepsSeats}
+use Rattle.decision_log.specs.{Seats.{both_of, following}, Atomic.Meets, AtTable.KeepsSeats}
 
 -- if the rule is kept where a seat with one pass (`g`) splits off an empty seat, it is kept where a seat that has
 -- this pass is split

@@ -1,24 +1,17 @@
 -- A step at a seat is nothing or one event of the log machine; a move of seats is nothing.
-use Rattle.std.proofs.Common.{◌≡◌, ◌≢◌, ℕ, zero, suc, ◌<◌, cond, nat_eq, List, [], ◌∷◌, ◌++◌}
-use Rattle.std.proofs.Common.{length, set, refl, ap}
+use Rattle.std.proofs.Common.{◌≡◌, ◌≢◌, ℕ, zero, suc, ◌<◌, cond, nat_eq, List, [], ◌∷◌, ◌++◌, length, set, refl, ap}
 use Rattle.std.proofs.Common.{sym, ◌∙◌, subst, inl, inr, arith, eq-eqb, ne_eqb, length-append, ⊎_elim}
 use mathlib.Core.Option.{some, some-injective, some-ne-none}
-use lib.ListN.{get_elem?}
 use Rattle.atomic_table.proofs.Lists.{at_set}
 use Rattle.xa_words.specs.Entry.{Entry}
-use Rattle.decision_log.specs.declared.view.PassView.{PassView}
-use Rattle.decision_log.specs.declared.view.SeatView.{SeatView}
-use Rattle.decision_log.specs.declared.view.SeatView.TheVariants.{Empty, Single, Pair, Unissued}
-use Rattle.decision_log.specs.declared.sizes.Sizes.{Sizes}
-use Rattle.decision_log.specs.Machine.{Seen, Machine, Look, Add, Looks, Appends, IsState}
-use Rattle.decision_log.specs.Machine.{opening_machine}
-use Rattle.decision_log.specs.Passes.{KnownTo}
-use Rattle.decision_log.specs.Seats.{Fits, all_passes, following}
-use Rattle.decision_log.specs.LogRule.{KnowsLog, LogRule}
-use Rattle.decision_log.specs.MachineSteps.{SeatStands, StandsFor, Learns}
-use Rattle.decision_log.specs.MachineSteps.{Changes, Moves, split_empty, split, join, issue, StepsTo}
-use Rattle.decision_log.proofs.MachineLaw.{state_next, runs_end_in_states}
+use Rattle.decision_log.specs.{declared.view.{PassView.PassView, SeatView.SeatView}, Passes.KnownTo}
+use Rattle.decision_log.specs.declared.{view.SeatView.TheVariants.{Empty, Single, Pair, Unissued}, sizes.Sizes.Sizes}
+use Rattle.decision_log.specs.Machine.{Seen, Machine, Look, Add, Looks, Appends, IsState, opening_machine}
+use Rattle.decision_log.specs.{Seats.{Fits, all_passes, following}, LogRule.{KnowsLog, LogRule}}
+use Rattle.decision_log.specs.MachineSteps.{SeatStands, StandsFor, Learns, Changes, Moves, split_empty, split, join}
+use Rattle.decision_log.{specs.MachineSteps.{issue, StepsTo}, proofs.MachineLaw.{state_next, runs_end_in_states}}
 use Rattle.decision_log.proofs.SeatLemmas.{at_end}
+use lib.ListN.{get_elem?}
 
 -- what the sessions know, with another value for one of them
 known_with : (ℕ → Seen) → ℕ → Seen → ℕ → Seen

@@ -1,26 +1,17 @@
 -- Steps of a log with a turn are nothing or one event of the log machine.
 use Rattle.std.proofs.Common.{◌≡◌, ℕ, ◌<◌, List, [], ◌∷◌, ◌++◌, length, set, refl, ap, sym, ◌∙◌, subst, inl, inr}
 use Rattle.std.specs.Prelude.{slice_index}
-use mathlib.Core.Option.{some}
-use mathlib.Core.Logic.{dite}
+use mathlib.Core.{Option.some, Logic.dite}
+use Rattle.xa_words.specs.Entry.{Entry}
+use Rattle.decision_log.specs.declared.view.{PassView.PassView, SeatView.{SeatView, TheVariants.{Single, Pair}}}
+use Rattle.decision_log.specs.{declared.sizes.Sizes.Sizes, Atomic.{Atomic, Does}, Observed.{met, MetAt}}
+use Rattle.decision_log.{specs.{TurnRule.{TurnRule, HasTurn, count_for}, Draft.drafted}, proofs.LogRules.known}
+use Rattle.decision_log.specs.{TurnTransitions.{Takes, published}, MachineSteps.{Learns, StepsTo}}
+use Rattle.decision_log.specs.TurnSteps.{IsTurnStep, sees, reads, takes, drafts, publishes, releases}
+use Rattle.decision_log.proofs.TurnHistory.{turn_log, stored_log, counted_log, one_log, all_seen}
+use Rattle.decision_log.proofs.{LearnedSteps.{rests_learn, looks_learn, meets_learn}, StepsOfSeats.steps_to}
 use native.Mathlib.Decide.{ℕ_discrete}
 use lib.ListN.{get_elem?}
-use Rattle.xa_words.specs.Entry.{Entry}
-use Rattle.decision_log.specs.declared.view.PassView.{PassView}
-use Rattle.decision_log.specs.declared.view.SeatView.{SeatView}
-use Rattle.decision_log.specs.declared.view.SeatView.TheVariants.{Single, Pair}
-use Rattle.decision_log.specs.declared.sizes.Sizes.{Sizes}
-use Rattle.decision_log.specs.Atomic.{Atomic, Does}
-use Rattle.decision_log.specs.Observed.{met, MetAt}
-use Rattle.decision_log.specs.TurnRule.{TurnRule, HasTurn, count_for}
-use Rattle.decision_log.specs.Draft.{drafted}
-use Rattle.decision_log.specs.TurnTransitions.{Takes, published}
-use Rattle.decision_log.specs.TurnSteps.{IsTurnStep, sees, reads, takes, drafts, publishes, releases}
-use Rattle.decision_log.specs.MachineSteps.{Learns, StepsTo}
-use Rattle.decision_log.proofs.LogRules.{known}
-use Rattle.decision_log.proofs.TurnHistory.{turn_log, stored_log, counted_log, one_log, all_seen}
-use Rattle.decision_log.proofs.LearnedSteps.{rests_learn, looks_learn, meets_learn}
-use Rattle.decision_log.proofs.StepsOfSeats.{steps_to}
 
 -- what a pass knows after a try for the turn: what it knew
 took_known : (word from to found : ℕ) (said : _) (old new : PassView) → Takes word from to said old found new

@@ -2,27 +2,16 @@
 -- entry behind it.
 -- Here `h` is a pass's view: what a seat of the log knows of that pass.
 use Rattle.std.proofs.Common.{◌≡◌, ◌≢◌, ℕ, suc, ◌+◌, ◌<◌, ◌≤◌, List, [], ◌∷◌, ◌++◌, length, set, ap, sym, ◌∙◌, subst}
-use Rattle.std.proofs.Common.{refl, arith, Some}
+use Rattle.std.proofs.{Common.{refl, arith, Some}, lemmas.List.{ext_get_or, get_or-set_other}}
 use Rattle.std.specs.Prelude.{slice_get, slice_index}
 use mathlib.Core.Option.{some}
+use Rattle.xa_words.{specs.{Entry.{Entry, IsEntry}, Words.words_of}, proofs.Spelling.{one_entry, length-words_of}}
+use Rattle.decision_log.specs.declared.view.{PassView.PassView, SeatView.{SeatView, TheVariants.Single}}
+use Rattle.decision_log.specs.{declared.{view.Turn.TheVariants.Fresh, sizes.Sizes.Sizes}, Draft.{HasWordsAt, drafted}}
+use Rattle.decision_log.{specs.{TurnTransitions.published, Atomic.{Atomic, Does, Counts}}, proofs.Drafts.holds_beside}
+use Rattle.decision_log.{specs.TurnRule.{row_at, turn_word, count_for, Knows, TurnRule}, proofs.Histories.begins_same}
+use Rattle.decision_log.proofs.{LogRules.{known, looked_log}, TurnStores.{draft_keeps, publish_keeps, fresh_has}}
 use lib.ListN.{get_elem?}
-use Rattle.std.proofs.lemmas.List.{ext_get_or, get_or-set_other}
-use Rattle.xa_words.specs.Entry.{Entry, IsEntry}
-use Rattle.xa_words.specs.Words.{words_of}
-use Rattle.xa_words.proofs.Spelling.{one_entry, length-words_of}
-use Rattle.decision_log.specs.declared.view.PassView.{PassView}
-use Rattle.decision_log.specs.declared.view.SeatView.{SeatView}
-use Rattle.decision_log.specs.declared.view.SeatView.TheVariants.{Single}
-use Rattle.decision_log.specs.declared.view.Turn.TheVariants.{Fresh}
-use Rattle.decision_log.specs.declared.sizes.Sizes.{Sizes}
-use Rattle.decision_log.specs.Draft.{HasWordsAt, drafted}
-use Rattle.decision_log.specs.TurnTransitions.{published}
-use Rattle.decision_log.specs.Atomic.{Atomic, Does, Counts}
-use Rattle.decision_log.specs.TurnRule.{row_at, turn_word, count_for, Knows, TurnRule}
-use Rattle.decision_log.proofs.Histories.{begins_same}
-use Rattle.decision_log.proofs.Drafts.{holds_beside}
-use Rattle.decision_log.proofs.LogRules.{known, looked_log}
-use Rattle.decision_log.proofs.TurnStores.{draft_keeps, publish_keeps, fresh_has}
 
 -- the rows from a place on have the words of these entries
 Spelled : List ℕ → ℕ → List Entry → Type 0

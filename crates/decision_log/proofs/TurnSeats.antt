@@ -1,13 +1,9 @@
 -- The seats of a log with a turn: its words have what splitting and joining seats asks, and words of zeros begin it.
 use Rattle.std.proofs.Common.{◌≡◌, length, sym, subst, Some, None, arith}
 use Rattle.xa_words.specs.Entry.{Entry}
-use Rattle.decision_log.specs.declared.sizes.Sizes.{Sizes}
-use Rattle.decision_log.specs.Seats.{all_passes}
-use Rattle.decision_log.specs.AtTable.{KeepsSeats, OpensSeats}
-use Rattle.decision_log.specs.TurnRule.{row_at, count_for, HasRows, HasTurn, HasDraft}
-use Rattle.decision_log.proofs.Drafts.{holds_nothing}
-use Rattle.decision_log.proofs.SeatRule.{HasWords, seats_kept, opens_seats}
-use Rattle.decision_log.proofs.TurnSteps.{Rules}
+use Rattle.decision_log.specs.{declared.sizes.Sizes.Sizes, Seats.all_passes, AtTable.{KeepsSeats, OpensSeats}}
+use Rattle.decision_log.{specs.TurnRule.{row_at, count_for, HasRows, HasTurn, HasDraft}, proofs.Drafts.holds_nothing}
+use Rattle.decision_log.proofs.{SeatRule.{HasWords, seats_kept, opens_seats}, TurnSteps.Rules}
 
 -- the words of a log with a turn have what `HasWords` asks: an idle pass knows nothing of them, and word 0 is the count
 has_words : HasWords HasRows HasDraft count_for

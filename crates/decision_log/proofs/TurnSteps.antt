@@ -2,16 +2,9 @@
 -- Here `h` is a pass's view: what a seat of the log knows of that pass.
 use Rattle.std.proofs.Common.{◌≢◌, ℕ, List, get_or, refl, ap, ◌∙◌, arith}
 use Rattle.atomic_table.specs.Table.{State, Allows}
-use Rattle.xa_words.specs.Entry.{Entry}
-use Rattle.xa_words.proofs.Spelling.{length-words_of}
-use Rattle.decision_log.specs.declared.view.PassView.{PassView}
-use Rattle.decision_log.specs.declared.view.SeatView.{SeatView}
-use Rattle.decision_log.specs.declared.view.Turn.{Turn}
-use Rattle.decision_log.specs.declared.view.Turn.TheVariants.{Without, Won, Fresh}
-use Rattle.decision_log.specs.declared.sizes.Sizes.{Sizes}
-use Rattle.decision_log.specs.Seats.{seated}
-use Rattle.decision_log.specs.TurnRule.{HasTurn, TurnRule}
-use Rattle.decision_log.specs.Atomic.{Tells}
+use Rattle.xa_words.{specs.Entry.Entry, proofs.Spelling.length-words_of}
+use Rattle.decision_log.specs.declared.{view.{PassView.PassView, SeatView.SeatView, Turn.Turn}, sizes.Sizes.Sizes}
+use Rattle.decision_log.specs.{Seats.seated, TurnRule.{HasTurn, TurnRule}, Atomic.Tells}
 use Rattle.decision_log.specs.TurnTransitions.{looked_turn, with_look, Sees, Reads}
 use Rattle.decision_log.proofs.Histories.{begins_itself, get_begins}
 use Rattle.decision_log.proofs.LogRules.{known, history, stepped, unmoved, load_step}
@@ -23,9 +16,9 @@ Rules sizes state = TurnRule sizes state.words state.views
 -- what a pass knows of its turn is true after a look too, by which it has seen the whole history
 looked_has : (words : List ℕ) (log : List Entry) (h : PassView) (turn : Turn) → HasTurn words log h turn
     → HasTurn words log (with_look h log) (looked_turn turn)
-looked_has words log h Without has = has
-looked_has words log h Won has = (refl, has.1)
-looked_has words log h Fresh has = (refl, has.1)
+looked_has words log h Turn.Without has = has
+looked_has words log h Turn.Won has = (refl, has.1)
+looked_has words log h Turn.Fresh has = (refl, has.1)
 
 -- a look: the load of the count of entries (word 0) keeps the rule, and tells what `Sees` says
 pub look_step : (sizes : Sizes) (slots id : ℕ) (h : PassView)

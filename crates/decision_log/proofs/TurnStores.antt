@@ -1,36 +1,21 @@
 -- The steps of a log with a turn that change a word keep the rule.
 -- Here `h` is a pass's view: what a seat of the log knows of that pass.
 use Rattle.std.proofs.Common.{◌≡◌, ◌≢◌, ℕ, ◌+◌, ◌<◌, ◌≤◌, List, [], ◌∷◌, ◌++◌, length, set, get_or, refl, ap, sym, ◌∙◌}
-use Rattle.std.proofs.Common.{subst, ⊎_elim}
-use Rattle.std.proofs.Common.{arith, eqb, length-append}
-use Rattle.std.specs.Prelude.{slice_index}
-use mathlib.Core.Option.{none, some}
-use mathlib.Core.Logic.{dite}
+use Rattle.std.proofs.{Common.{subst, ⊎_elim, arith, eqb, length-append}, lemmas.Option.slice_get_within}
+use Rattle.std.{proofs.lemmas.List.{length-set, get_or-set_same, get_or-set_other}, specs.Prelude.slice_index}
+use mathlib.Core.{Option.{none, some}, Logic.dite}
+use Rattle.atomic_table.{specs.Table.{keeps, Allows}, proofs.Lists.exchanged}
+use Rattle.xa_words.{specs.{Entry.{Entry, IsEntry}, Words.words_of}, proofs.Spelling.length-words_of}
+use Rattle.decision_log.specs.declared.view.{PassView.PassView, SeatView.{SeatView, TheVariants.Single}, Turn.Turn}
+use Rattle.decision_log.specs.{declared.{view.Turn.TheVariants.{Without, Won, Fresh}, sizes.Sizes.Sizes}, Seats.seated}
+use Rattle.decision_log.specs.{Draft.{HasWordsAt, drafted}, TurnRule.{row_at, HasRows, HasTurn, HasDraft, TurnRule}}
+use Rattle.decision_log.{specs.Atomic.Tells, proofs.Histories.get_last}
+use Rattle.decision_log.specs.TurnTransitions.{tried, published, released, Takes, Drafts, Publishes, Releases}
+use Rattle.decision_log.proofs.Drafts.{holds_nothing, holds_beside, holds_one_more}
+use Rattle.decision_log.proofs.{LogRules.{RuleOf, known, stepped, appended, loaded, store_step}, TurnSteps.Rules}
 use native.Mathlib.Decide.{ℕ_discrete}
 use lib.ListN.{get_elem?}
 use prog.Atomic.{either}
-use Rattle.std.proofs.lemmas.Option.{slice_get_within}
-use Rattle.std.proofs.lemmas.List.{length-set, get_or-set_same, get_or-set_other}
-use Rattle.atomic_table.specs.Table.{keeps, Allows}
-use Rattle.atomic_table.proofs.Lists.{exchanged}
-use Rattle.xa_words.specs.Entry.{Entry, IsEntry}
-use Rattle.xa_words.specs.Words.{words_of}
-use Rattle.xa_words.proofs.Spelling.{length-words_of}
-use Rattle.decision_log.specs.declared.view.PassView.{PassView}
-use Rattle.decision_log.specs.declared.view.SeatView.{SeatView}
-use Rattle.decision_log.specs.declared.view.SeatView.TheVariants.{Single}
-use Rattle.decision_log.specs.declared.view.Turn.{Turn}
-use Rattle.decision_log.specs.declared.view.Turn.TheVariants.{Without, Won, Fresh}
-use Rattle.decision_log.specs.declared.sizes.Sizes.{Sizes}
-use Rattle.decision_log.specs.Seats.{seated}
-use Rattle.decision_log.specs.Draft.{HasWordsAt, drafted}
-use Rattle.decision_log.specs.TurnRule.{row_at, HasRows, HasTurn, HasDraft, TurnRule}
-use Rattle.decision_log.specs.Atomic.{Tells}
-use Rattle.decision_log.specs.TurnTransitions.{tried, published, released, Takes, Drafts, Publishes, Releases}
-use Rattle.decision_log.proofs.Histories.{get_last}
-use Rattle.decision_log.proofs.Drafts.{holds_nothing, holds_beside, holds_one_more}
-use Rattle.decision_log.proofs.LogRules.{RuleOf, known, stepped, appended, loaded, store_step}
-use Rattle.decision_log.proofs.TurnSteps.{Rules}
 
 -- a pass whose number isn't in the turn's word doesn't have the turn
 without : (words words' : List ℕ) (log log' : List Entry) (g : PassView) (turn : Turn)

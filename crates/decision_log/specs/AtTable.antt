@@ -8,18 +8,12 @@
 --     KeepsSeats      a rule is kept when seats are split and joined, when a pass is issued, and when two passes meet
 --     OpensSeats      words with a 0 in word 0 keep a rule if one seat knows all passes, and `KeepsSeats` holds of it
 use Rattle.std.specs.Prelude.{◌≡◌, ◌<◌, ◌≤◌, ℕ, List, [], length, slice_index}
-use Rattle.atomic_table.specs.Seated.{TableId}
-use Rattle.atomic_table.specs.Table.{State, Allows, Splits, Joins, opening}
-use Rattle.atomic_table.specs.declared.shared.Seat.{Seat}
+use Rattle.atomic_table.specs.{Seated.TableId, Table.{State, Allows, Splits, Joins, opening}, declared.shared.Seat.Seat}
 use Rattle.xa_words.specs.Entry.{Entry}
-use Rattle.decision_log.specs.declared.view.PassView.{PassView}
-use Rattle.decision_log.specs.declared.view.SeatView.{SeatView}
-use Rattle.decision_log.specs.declared.view.SeatView.TheVariants.{Empty, Single, Pair, Unissued}
-use Rattle.decision_log.specs.declared.sizes.Sizes.{Sizes}
-use Rattle.decision_log.specs.Known.{LogIdentity}
+use Rattle.decision_log.specs.{declared.view.{PassView.PassView, SeatView.SeatView}, Known.LogIdentity}
+use Rattle.decision_log.specs.declared.{view.SeatView.TheVariants.{Empty, Single, Pair, Unissued}, sizes.Sizes.Sizes}
 use Rattle.decision_log.specs.Seats.{pass_view_of, second_of, pass_view, seated, seated_two, seated_rest, spent}
-use Rattle.decision_log.specs.Seats.{all_passes, following}
-use Rattle.decision_log.specs.Atomic.{Meets}
+use Rattle.decision_log.specs.{Seats.{all_passes, following}, Atomic.Meets}
 
 -- a seat at this table that knows one pass
 pub record KnowsOne (table_id : TableId) (seat : Seat Entry SeatView) : Type 0 where

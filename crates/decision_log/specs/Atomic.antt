@@ -13,9 +13,7 @@ use Rattle.std.specs.Prelude.{◌≡◌, ◌≢◌, ◌⊎◌, ◌<◌, ◌+◌,
 use mathlib.Core.Option.{Option}
 use Rattle.atomic_table.specs.Table.{Me}
 use Rattle.xa_words.specs.Entry.{Entry}
-use Rattle.decision_log.specs.declared.view.PassView.{PassView}
-use Rattle.decision_log.specs.declared.view.SeatView.{SeatView}
-use Rattle.decision_log.specs.Seats.{seated, seated_two}
+use Rattle.decision_log.specs.{declared.view.{PassView.PassView, SeatView.SeatView}, Seats.{seated, seated_two}}
 use Rattle.decision_log.specs.Observed.{met, MetAt}
 
 -- the word, then at a store the new value, at an exchange the value that is asked for, the new one, and the entry that

@@ -5,10 +5,7 @@
 --     MeetsFirst, MeetsSecond     a meeting of two passes
 use Rattle.std.specs.Prelude.{◌≡◌, ◌<◌, ◌≤◌, ◌+◌, ℕ, Bool, IsTrue, [], ◌∷◌, ◌++◌, length, Result, Ok, Err}
 use Rattle.xa_words.specs.Entry.{Entry}
-use Rattle.decision_log.specs.declared.known.Known.{Known}
-use Rattle.decision_log.specs.declared.fault.AddFault.{AddFault}
-use Rattle.decision_log.specs.declared.fault.AddFault.TheVariants.{Overtaken, Full, Busy}
-use Rattle.decision_log.specs.History.{Begins, entries_of}
+use Rattle.decision_log.specs.{declared.{known.Known.Known, fault.AddFault.AddFault}, History.{Begins, entries_of}}
 
 -- what was seen begins what is seen now, and one more look is counted, in `looks` and `since`; the rest stays
 pub record Looked (old new : Known) : Type 0 where
@@ -50,9 +47,9 @@ pub record IsBusy (old new : Known) : Type 0 where
 -- pass has seen as many entries as the capacity, and then nothing changes; Busy only in a log with a turn (`IsBusy`)
 abbrev pub Adds : Bool → ℕ → Entry → Result (Unit {0}) AddFault → Known → Known → Type 0
 Adds turns capacity entry (Ok _) old new = IsAdded entry old new
-Adds turns capacity entry (Err (Overtaken front)) old new = IsOvertaken front old new
-Adds turns capacity entry (Err Full) old new = (length old.seen ≡ capacity) × (new ≡ old)
-Adds turns capacity entry (Err Busy) old new = IsTrue turns × IsBusy old new
+Adds turns capacity entry (Err (AddFault.Overtaken front)) old new = IsOvertaken front old new
+Adds turns capacity entry (Err AddFault.Full) old new = (length old.seen ≡ capacity) × (new ≡ old)
+Adds turns capacity entry (Err AddFault.Busy) old new = IsTrue turns × IsBusy old new
 
 -- the first of two that meet: it stays as it was, except that `looks` may rise; of `since` nothing is said
 pub record MeetsFirst (old new : Known) : Type 0 where

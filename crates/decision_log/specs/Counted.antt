@@ -3,8 +3,7 @@
 --     IsCounted       each step of a transition raises the counts as `Counts` says
 --     leaves_counts   a step that neither looks nor tries, and leaves the counts, does what `Counts` says
 --     counts_at_load, counts_at_store, counts_at_exchange      a transition of loads, of stores, of exchanges
-use Rattle.std.specs.Prelude.{◌≡◌, ℕ}
-use Rattle.std.proofs.Common.{inr}
+use Rattle.std.{specs.Prelude.{◌≡◌, ℕ}, proofs.Common.inr}
 use mathlib.Core.Option.{Option}
 use Rattle.xa_words.specs.Entry.{Entry}
 use Rattle.decision_log.specs.declared.view.PassView.{PassView}

@@ -3,11 +3,8 @@
 --     LogRule         the rule, given how words spell a history and what a pass knows of them
 use Rattle.std.specs.Prelude.{◌≡◌, ◌<◌, ◌≤◌, ◌+◌, ℕ, List, length, slice_get, Some}
 use Rattle.xa_words.specs.Entry.{Entry, IsEntry}
-use Rattle.decision_log.specs.declared.view.PassView.{PassView}
-use Rattle.decision_log.specs.declared.view.SeatView.{SeatView}
-use Rattle.decision_log.specs.declared.sizes.Sizes.{Sizes}
-use Rattle.decision_log.specs.History.{Begins, entries_of}
-use Rattle.decision_log.specs.Seats.{Seats}
+use Rattle.decision_log.specs.declared.{view.{PassView.PassView, SeatView.SeatView}, sizes.Sizes.Sizes}
+use Rattle.decision_log.specs.{History.{Begins, entries_of}, Seats.Seats}
 
 -- the pass knows the log's sizes, a prefix of its history with all entries of its own number, and of the words what
 -- `KnowsWords` says

@@ -8,22 +8,18 @@
 --     StepsTo           a machine of the seats before a step goes on to one of those after it, by nothing or one event
 use Rattle.std.specs.Prelude.{◌≡◌, ◌≢◌, ◌⊎◌, ◌≤◌, ℕ, List, [], ◌∷◌, ◌++◌, set}
 use mathlib.Core.Option.{some}
-use lib.ListN.{get_elem?}
 use Rattle.xa_words.specs.Entry.{Entry}
-use Rattle.decision_log.specs.declared.view.PassView.{PassView}
-use Rattle.decision_log.specs.declared.view.SeatView.{SeatView}
-use Rattle.decision_log.specs.declared.view.SeatView.TheVariants.{Empty, Single, Pair, Unissued}
-use Rattle.decision_log.specs.Machine.{Machine, Event, Happens, IsState}
-use Rattle.decision_log.specs.Passes.{KnownTo}
-use Rattle.decision_log.specs.Seats.{following}
+use Rattle.decision_log.specs.declared.view.{PassView.PassView, SeatView.SeatView}
+use Rattle.decision_log.specs.{Machine.{Machine, Event, Happens, IsState}, Passes.KnownTo, Seats.following}
+use lib.ListN.{get_elem?}
 
 -- each issued pass at the seat knows what the session of its number knows; a pass that isn't issued has seen nothing,
 -- and the sessions of its number and of higher ones know nothing
 abbrev pub SeatStands : Machine → SeatView → Type 0
-SeatStands machine Empty = Unit {0}
-SeatStands machine (Single pass_view) = KnownTo machine pass_view
-SeatStands machine (Pair first second) = KnownTo machine first × KnownTo machine second
-SeatStands machine (Unissued pass_view) =
+SeatStands machine SeatView.Empty = Unit {0}
+SeatStands machine (SeatView.Single pass_view) = KnownTo machine pass_view
+SeatStands machine (SeatView.Pair first second) = KnownTo machine first × KnownTo machine second
+SeatStands machine (SeatView.Unissued pass_view) =
     (pass_view.known.seen ≡ []) × (pass_view.known.mine ≡ [])
     × ((number : ℕ) → pass_view.known.number ≤ number → machine.knows number ≡ record { seen = []; mine = [] })
 
@@ -68,20 +64,20 @@ Learns log log' old new =
 -- at a seat with one pass that pass changes, at a seat with two the second
 abbrev pub Changes : PassView → PassView → SeatView → SeatView → Type 0
 Changes old new view view' =
-    ((view ≡ Single old) × (view' ≡ Single new))
-    ⊎ ((first : PassView) × (view ≡ Pair first old) × (view' ≡ Pair first new))
+    ((view ≡ SeatView.Single old) × (view' ≡ SeatView.Single new))
+    ⊎ ((first : PassView) × (view ≡ SeatView.Pair first old) × (view' ≡ SeatView.Pair first new))
 
 -- how seats are split and joined, and passes issued, by which no pass changes
 pub data Moves (views : List SeatView) : List SeatView → Type 0 where
-  split_empty : (id : ℕ) (pass : PassView) → get_elem? views id ≡ some (Single pass)
-      → Moves views (set views id (Single pass) ++ Empty ∷ [])
-  split : (id : ℕ) (first second : PassView) → get_elem? views id ≡ some (Pair first second)
-      → Moves views (set views id (Single first) ++ Single second ∷ [])
-  join : (id other : ℕ) (first second : PassView) → get_elem? views id ≡ some (Single first) → other ≢ id
-      → get_elem? views other ≡ some (Single second)
-      → Moves views (set (set views id (Pair first second)) other Empty)
-  issue : (id : ℕ) (pass : PassView) → get_elem? views id ≡ some (Unissued pass)
-      → Moves views (set views id (Unissued (following pass)) ++ Single pass ∷ [])
+  split_empty : (id : ℕ) (pass : PassView) → get_elem? views id ≡ some (SeatView.Single pass)
+      → Moves views (set views id (SeatView.Single pass) ++ SeatView.Empty ∷ [])
+  split : (id : ℕ) (first second : PassView) → get_elem? views id ≡ some (SeatView.Pair first second)
+      → Moves views (set views id (SeatView.Single first) ++ SeatView.Single second ∷ [])
+  join : (id other : ℕ) (first second : PassView) → get_elem? views id ≡ some (SeatView.Single first) → other ≢ id
+      → get_elem? views other ≡ some (SeatView.Single second)
+      → Moves views (set (set views id (SeatView.Pair first second)) other SeatView.Empty)
+  issue : (id : ℕ) (pass : PassView) → get_elem? views id ≡ some (SeatView.Unissued pass)
+      → Moves views (set views id (SeatView.Unissued (following pass)) ++ SeatView.Single pass ∷ [])
 
 -- each machine of the history and seats before goes on to one of those after, by nothing or one event
 abbrev pub StepsTo : ℕ → List Entry → List SeatView → List Entry → List SeatView → Type 0

@@ -5,10 +5,7 @@
 -- Here `h` is a pass's view: what a seat of the log knows of that pass.
 use Rattle.std.specs.Prelude.{◌≡◌, ◌≤◌, List, [], length}
 use Rattle.xa_words.specs.Entry.{Entry}
-use Rattle.decision_log.specs.declared.view.PassView.{PassView}
-use Rattle.decision_log.specs.declared.view.Turn.TheVariants.{Without}
-use Rattle.decision_log.specs.History.{Begins, entries_of}
-use Rattle.decision_log.specs.Known.{AllOf}
+use Rattle.decision_log.specs.{declared.view.{PassView.PassView, Turn.Turn}, History.{Begins, entries_of}, Known.AllOf}
 
 -- what a pass learns of a history that it sees: it begins with all that the pass had seen, is no longer than the log
 -- can have, each entry is of one of the log's sessions, and those of the pass's number are its own
@@ -44,5 +41,5 @@ met h seen = record {
   sessions = h.sessions;
   capacity = h.capacity;
   draft = [];
-  turn = Without;
+  turn = Turn.Without;
 }

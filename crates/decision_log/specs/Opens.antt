@@ -3,10 +3,7 @@
 --     Opens           the passes that a log begins with
 --     Refuses         the only cause of each fault
 use Rattle.std.specs.Prelude.{◌≡◌, ◌≤◌, ◌+◌, ℕ, List, length, slice_get, Some, All}
-use Rattle.decision_log.specs.declared.known.Known.{Known}
-use Rattle.decision_log.specs.declared.fault.OpenFault.{OpenFault}
-use Rattle.decision_log.specs.declared.fault.OpenFault.TheVariants.{CapacityOutOfRange, SessionsOutOfRange, NoMemory}
-use Rattle.decision_log.specs.declared.sizes.Sizes.{Sizes}
+use Rattle.decision_log.specs.declared.{known.Known.Known, fault.OpenFault.OpenFault, sizes.Sizes.Sizes}
 use Rattle.decision_log.specs.Known.{LogIdentity, newcomer}
 
 -- a log may have from 1 to 1024 entries (own rule)
@@ -38,6 +35,6 @@ pub record Opens {Pass : Type 0} (belongs_to : Pass → LogIdentity) (known : Pa
 -- why a log of these sizes isn't opened, in the order of test: a size is out of range only if the one tested before it
 -- isn't; no memory is the reason only if both are in range
 abbrev pub Refuses : ℕ → ℕ → OpenFault → Type 0
-Refuses capacity sessions CapacityOutOfRange = IsCapacity capacity → ⊥
-Refuses capacity sessions SessionsOutOfRange = IsCapacity capacity × (IsCount sessions → ⊥)
-Refuses capacity sessions NoMemory = IsCapacity capacity × IsCount sessions
+Refuses capacity sessions OpenFault.CapacityOutOfRange = IsCapacity capacity → ⊥
+Refuses capacity sessions OpenFault.SessionsOutOfRange = IsCapacity capacity × (IsCount sessions → ⊥)
+Refuses capacity sessions OpenFault.NoMemory = IsCapacity capacity × IsCount sessions

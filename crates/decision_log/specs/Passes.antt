@@ -4,13 +4,10 @@
 --     HasPasses       the machine of a history and of all seats
 use Rattle.std.specs.Prelude.{◌≡◌, ℕ, List}
 use mathlib.Core.Option.{some}
-use lib.ListN.{get_elem?}
 use Rattle.xa_words.specs.Entry.{Entry}
-use Rattle.decision_log.specs.declared.view.PassView.{PassView}
-use Rattle.decision_log.specs.declared.view.SeatView.{SeatView}
-use Rattle.decision_log.specs.declared.view.SeatView.TheVariants.{Empty, Single, Pair, Unissued}
-use Rattle.decision_log.specs.Machine.{Machine, IsState}
-use Rattle.decision_log.specs.Reached.{IsReached}
+use Rattle.decision_log.specs.{declared.view.{PassView.PassView, SeatView.SeatView}, Machine.{Machine, IsState}}
+use Rattle.decision_log.specs.{declared.view.SeatView.TheVariants.{Empty, Single, Pair, Unissued}, Reached.IsReached}
+use lib.ListN.{get_elem?}
 
 -- the pass knows what the session of its number knows
 abbrev pub KnownTo : Machine → PassView → Type 0

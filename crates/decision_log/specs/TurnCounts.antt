@@ -2,18 +2,14 @@
 --     see_counts, read_counts, take_counts, draft_counts, publish_counts, release_counts     the laws of the
 --                                                                                            transitions
 --     tried_counts    an exchange of the turn's word, won or lost
-use Rattle.std.proofs.Common.{ap, ◌∙◌, sym, inl, inr}
-use mathlib.Core.Logic.{dite}
-use native.Mathlib.Decide.{ℕ_discrete}
-use mathlib.Core.Option.{Option}
-use Rattle.std.specs.Prelude.{◌≡◌, ℕ}
+use Rattle.std.{proofs.Common.{ap, ◌∙◌, sym, inl, inr}, specs.Prelude.{◌≡◌, ℕ}}
+use mathlib.Core.{Logic.dite, Option.Option}
 use Rattle.xa_words.specs.Entry.{Entry}
-use Rattle.decision_log.specs.declared.view.PassView.{PassView}
-use Rattle.decision_log.specs.declared.view.Turn.{Turn}
+use Rattle.decision_log.specs.{declared.view.{PassView.PassView, Turn.Turn}, TurnRule.{turn_word, count_for}}
 use Rattle.decision_log.specs.Atomic.{Load, Exchange, AtLoad, AtStore, AtExchange, Counts}
 use Rattle.decision_log.specs.Counted.{IsCounted, leaves_counts, counts_at_load, counts_at_store, counts_at_exchange}
-use Rattle.decision_log.specs.TurnRule.{turn_word, count_for}
 use Rattle.decision_log.specs.TurnTransitions.{tried, Sees, Reads, Takes, Drafts, Publishes, Releases}
+use native.Mathlib.Decide.{ℕ_discrete}
 
 -- `Sees`, the load of how many entries there are, is a look, and raises the counts as a look does
 pub see_counts : IsCounted count_for turn_word (AtLoad Sees)

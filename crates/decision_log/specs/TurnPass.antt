@@ -2,11 +2,8 @@
 --     identity_of     the identity of a log
 --     log_of          the identity of a pass's log
 --     known_of        what a pass knows
-use Rattle.decision_log.specs.declared.known.Known.{Known}
-use Rattle.decision_log.specs.declared.turn_log.TurnLog.{TurnLog}
-use Rattle.decision_log.specs.declared.turn_log.pass.TurnPass.{TurnPass}
-use Rattle.decision_log.specs.Known.{LogIdentity}
-use Rattle.decision_log.specs.Seats.{pass_view_of}
+use Rattle.decision_log.specs.declared.{known.Known.Known, turn_log.{TurnLog.TurnLog, pass.TurnPass.TurnPass}}
+use Rattle.decision_log.specs.{Known.LogIdentity, Seats.pass_view_of}
 
 -- what tells a log from others: its table and its sizes
 abbrev pub identity_of : TurnLog → LogIdentity

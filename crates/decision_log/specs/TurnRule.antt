@@ -8,15 +8,9 @@
 --     Knows           what a pass knows of the log is true
 --     TurnRule        the rule
 use Rattle.std.specs.Prelude.{◌≡◌, ◌+◌, ◌*◌, ℕ, List, [], length, slice_get, slice_index, Some}
-use Rattle.xa_words.specs.Entry.{Entry}
-use Rattle.xa_words.specs.Words.{words_of}
-use Rattle.decision_log.specs.declared.view.PassView.{PassView}
-use Rattle.decision_log.specs.declared.view.SeatView.{SeatView}
-use Rattle.decision_log.specs.declared.view.Turn.{Turn}
-use Rattle.decision_log.specs.declared.view.Turn.TheVariants.{Without, Won, Fresh}
-use Rattle.decision_log.specs.declared.sizes.Sizes.{Sizes}
-use Rattle.decision_log.specs.Draft.{HasWordsAt}
-use Rattle.decision_log.specs.LogRule.{KnowsLog, LogRule}
+use Rattle.xa_words.specs.{Entry.Entry, Words.words_of}
+use Rattle.decision_log.specs.declared.{view.{PassView.PassView, SeatView.SeatView, Turn.Turn}, sizes.Sizes.Sizes}
+use Rattle.decision_log.specs.{Draft.HasWordsAt, LogRule.{KnowsLog, LogRule}}
 
 -- the first word of the row of a place
 abbrev pub row_at : ℕ → ℕ
@@ -40,9 +34,9 @@ pub record HasRows (sizes : Sizes) (words : List ℕ) (log : List Entry) : Type 
 -- `Without` the turn there is no draft; `Won`, just taken, there is none either, and the turn's word is the pass's
 -- number; `Fresh`, the turn's word is the pass's number, and the pass has seen the whole history
 abbrev pub HasTurn : List ℕ → List Entry → PassView → Turn → Type 0
-HasTurn words log pass_view Without = pass_view.draft ≡ []
-HasTurn words log pass_view Won = (pass_view.draft ≡ []) × (slice_index words 1 ≡ pass_view.known.number)
-HasTurn words log pass_view Fresh = (pass_view.known.seen ≡ log) × (slice_index words 1 ≡ pass_view.known.number)
+HasTurn words log pass_view Turn.Without = pass_view.draft ≡ []
+HasTurn words log pass_view Turn.Won = (pass_view.draft ≡ []) × (slice_index words 1 ≡ pass_view.known.number)
+HasTurn words log pass_view Turn.Fresh = (pass_view.known.seen ≡ log) × (slice_index words 1 ≡ pass_view.known.number)
 
 -- a pass's draft is in the row after the history, and what the pass knows of the turn is true
 pub record HasDraft (words : List ℕ) (log : List Entry) (pass_view : PassView) : Type 0 where

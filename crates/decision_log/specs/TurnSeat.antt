@@ -2,9 +2,7 @@
 --     IsSeat          it is a seat of this log, and knows one pass
 use Rattle.atomic_table.specs.declared.shared.Seat.{Seat}
 use Rattle.xa_words.specs.Entry.{Entry}
-use Rattle.decision_log.specs.declared.view.SeatView.{SeatView}
-use Rattle.decision_log.specs.declared.turn_log.TurnLog.{TurnLog}
-use Rattle.decision_log.specs.AtTable.{KnowsOne}
+use Rattle.decision_log.specs.{declared.{view.SeatView.SeatView, turn_log.TurnLog.TurnLog}, AtTable.KnowsOne}
 
 -- the seat is one of this log, and knows one pass
 abbrev pub IsSeat : TurnLog → Seat Entry SeatView → Type 0

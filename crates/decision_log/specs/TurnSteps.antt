@@ -2,13 +2,9 @@
 --     IsTurnStep      a look, a load of a word, a try for the turn, a word of the draft, the count, the turn given back
 use Rattle.std.specs.Prelude.{◌≡◌, ◌<◌, ◌≤◌, ◌+◌, ℕ, length}
 use mathlib.Core.Option.{Option}
-use Rattle.xa_words.specs.Entry.{Entry, IsEntry}
-use Rattle.xa_words.specs.Words.{words_of}
-use Rattle.decision_log.specs.declared.view.PassView.{PassView}
-use Rattle.decision_log.specs.declared.view.Turn.TheVariants.{Fresh}
-use Rattle.decision_log.specs.Atomic.{Atomic, Load, Store, Exchange}
-use Rattle.decision_log.specs.Draft.{drafted}
-use Rattle.decision_log.specs.TurnRule.{row_at, turn_word}
+use Rattle.xa_words.specs.{Entry.{Entry, IsEntry}, Words.words_of}
+use Rattle.decision_log.specs.declared.view.{PassView.PassView, Turn.TheVariants.Fresh}
+use Rattle.decision_log.specs.{Atomic.{Atomic, Load, Store, Exchange}, Draft.drafted, TurnRule.{row_at, turn_word}}
 use Rattle.decision_log.specs.TurnTransitions.{Sees, Reads, Takes, published, released}
 
 -- the step, the pass before it, the number that it finds, and the pass after it. A pass that has the turn and has

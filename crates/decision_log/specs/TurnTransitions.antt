@@ -6,14 +6,9 @@
 -- Here `h` is a pass's view: what a seat of the log knows of that pass.
 use Rattle.std.specs.Prelude.{◌≡◌, ◌≢◌, ◌<◌, ◌+◌, ◌-◌, ℕ, List, [], ◌∷◌, ◌++◌, length, slice_get, slice_index, Some}
 use mathlib.Core.Option.{Option}
-use Rattle.xa_words.specs.Entry.{Entry, IsEntry}
-use Rattle.xa_words.specs.Words.{words_of}
-use Rattle.decision_log.specs.declared.view.PassView.{PassView}
-use Rattle.decision_log.specs.declared.view.Turn.{Turn}
-use Rattle.decision_log.specs.declared.view.Turn.TheVariants.{Without, Won, Fresh}
-use Rattle.decision_log.specs.Draft.{drafted}
-use Rattle.decision_log.specs.Observed.{HistoryIs}
-use Rattle.decision_log.specs.TurnRule.{row_at, turn_word}
+use Rattle.xa_words.specs.{Entry.{Entry, IsEntry}, Words.words_of}
+use Rattle.decision_log.specs.declared.view.{PassView.PassView, Turn.{Turn, TheVariants.{Without, Won, Fresh}}}
+use Rattle.decision_log.specs.{Draft.drafted, Observed.HistoryIs, TurnRule.{row_at, turn_word}}
 
 -- a pass's turn after a look: a pass that has the turn is fresh then; without the turn nothing changes
 abbrev pub looked_turn : Turn → Turn

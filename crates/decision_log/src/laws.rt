@@ -1,25 +1,14 @@
 //! Laws of the log as a machine, and of the passes of a log with a turn: contracts over definitions only.
-ghost use Rattle.std.specs.Prelude.{◌≡◌, ◌≢◌, ◌<◌, ◌≤◌, ◌+◌, ℕ, List, [], ◌∷◌, ◌++◌, length, set, slice_index};
 ghost use mathlib.Core.Option.{Option, some};
 ghost use lib.ListN.{get_elem?};
-ghost use Rattle.xa_words.specs.Entry.{Entry, IsEntry};
-ghost use Rattle.xa_words.specs.Words.{words_of};
-ghost use Rattle.decision_log.specs.declared.view.PassView.{PassView};
-ghost use Rattle.decision_log.specs.declared.view.SeatView.TheVariants.{Single, Pair};
-ghost use Rattle.decision_log.specs.declared.view.Turn.TheVariants.{Fresh};
-ghost use Rattle.decision_log.specs.declared.sizes.Sizes.{Sizes};
-ghost use Rattle.decision_log.specs.declared.view.SeatView.{SeatView};
-ghost use Rattle.decision_log.specs.History.{entries_of};
-ghost use Rattle.decision_log.specs.Machine.{Machine, Event, Runs, opening_machine, IsState};
-ghost use Rattle.decision_log.specs.Known.{AllOf};
-ghost use Rattle.decision_log.specs.Reached.{IsReached};
-ghost use Rattle.decision_log.specs.Passes.{HasPasses};
-ghost use Rattle.decision_log.specs.Atomic.{Atomic, Exchange, Does, Counts};
-ghost use Rattle.decision_log.specs.MachineSteps.{Moves, StandsFor, StepsTo};
-ghost use Rattle.decision_log.specs.Observed.{MetAt, met};
-ghost use Rattle.decision_log.specs.Seats.{all_passes};
-ghost use Rattle.decision_log.specs.TurnSteps.{IsTurnStep};
-ghost use Rattle.decision_log.specs.TurnRule.{row_at, turn_word, count_for, TurnRule};
+ghost use Rattle.std.specs.Prelude.{◌≡◌, ◌≢◌, ◌<◌, ◌≤◌, ◌+◌, ℕ, List, [], ◌∷◌, ◌++◌, length, set, slice_index};
+ghost use Rattle.xa_words.specs.{Entry.{Entry, IsEntry}, Words.words_of};
+ghost use Rattle.decision_log.specs.declared.view.{PassView.PassView, SeatView.{SeatView, TheVariants.{Single, Pair}}};
+ghost use Rattle.decision_log.specs.{declared.{view.Turn.TheVariants.Fresh, sizes.Sizes.Sizes}, History.entries_of};
+ghost use Rattle.decision_log.specs.{Machine.{Machine, Event, Runs, opening_machine, IsState}, Known.AllOf};
+ghost use Rattle.decision_log.specs.{Reached.IsReached, Passes.HasPasses, Atomic.{Atomic, Exchange, Does, Counts}};
+ghost use Rattle.decision_log.specs.{MachineSteps.{Moves, StandsFor, StepsTo}, Observed.{MetAt, met}, Seats.all_passes};
+ghost use Rattle.decision_log.specs.{TurnSteps.IsTurnStep, TurnRule.{row_at, turn_word, count_for, TurnRule}};
 
 /// States that after any looks and appends, the entries of a session's number in what it has seen are its own.
 ///

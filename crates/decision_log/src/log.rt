@@ -1,10 +1,7 @@
 //! The promises of a log to a session, however the log is kept.
 ghost use Rattle.std.specs.Prelude.{◌≡◌, ◌<◌, ◌≤◌, Bool, length, slice_get, Some};
-ghost use Rattle.decision_log.specs.History.{entries_of};
-ghost use Rattle.decision_log.specs.Known.{LogIdentity, AllOf};
-ghost use Rattle.decision_log.specs.Opens.{IsCapacity, IsCount};
-ghost use Rattle.decision_log.specs.Calls.{Looked, Adds, MeetsFirst, MeetsSecond};
-ghost use Rattle.decision_log.specs.declared.known.Known.{Known};
+ghost use Rattle.decision_log.specs.{History.entries_of, Known.{LogIdentity, AllOf}, Opens.{IsCapacity, IsCount}};
+ghost use Rattle.decision_log.specs.{Calls.{Looked, Adds, MeetsFirst, MeetsSecond}, declared.known.Known.Known};
 
 use crate::{AddFault, Known};
 use xa_words::Entry;

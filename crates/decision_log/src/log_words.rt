@@ -2,8 +2,7 @@
 ghost use Rattle.std.specs.Prelude.{ℕ};
 ghost use Rattle.atomic_table.specs.Table.{State};
 ghost use Rattle.xa_words.specs.Entry.{Entry};
-ghost use Rattle.decision_log.specs.declared.view.PassView.{PassView};
-ghost use Rattle.decision_log.specs.Atomic.{Atomic, Counts};
+ghost use Rattle.decision_log.specs.{declared.view.PassView.PassView, Atomic.{Atomic, Counts}};
 
 use crate::{SeatView, Sizes};
 use atomic_table::TableRule;

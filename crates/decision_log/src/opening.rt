@@ -1,10 +1,8 @@
 //! Opening a log, whatever its words are.
 ghost use Rattle.std.specs.Prelude.{◌≡◌, ◌≤◌, IfOk, IfErr};
 ghost use Rattle.decision_log.specs.AtTable.{KnowsRest, KeepsSeats, OpensSeats, identity_at, belongs_at};
-ghost use Rattle.decision_log.specs.Known.{LogIdentity, newcomer};
-ghost use Rattle.decision_log.specs.Opens.{AreSizes, Opens, Refuses};
-ghost use Rattle.decision_log.specs.Seats.{pass_view, newcomer_view, seated};
-ghost use Rattle.decision_log.specs.declared.known.Known.{Known};
+ghost use Rattle.decision_log.specs.{Known.{LogIdentity, newcomer}, Opens.{AreSizes, Opens, Refuses}};
+ghost use Rattle.decision_log.specs.{Seats.{pass_view, newcomer_view, seated}, declared.known.Known.Known};
 
 use crate::{Known, LogTable, LogWords, OpenFault, SeatView, Sizes};
 use atomic_table::Seat;

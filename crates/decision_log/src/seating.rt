@@ -1,6 +1,5 @@
 //! How the seats of a log are split and joined, whatever the log's words are.
-ghost use Rattle.decision_log.specs.Seats.{left_of, right_of, both_of};
-ghost use Rattle.decision_log.specs.declared.view.SeatView.TheVariants.{Empty};
+ghost use Rattle.decision_log.specs.{Seats.{left_of, right_of, both_of}, declared.view.SeatView.TheVariants.Empty};
 
 use crate::SeatView;
 use atomic_table::{Join, Split};

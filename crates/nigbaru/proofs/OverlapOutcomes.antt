@@ -1,28 +1,17 @@
 -- What a race returns, as lines that are left at the beginning of its history.
 use Rattle.std.proofs.Common.{◌≡◌, ℕ, zero, suc, ◌+◌, ◌<◌, ◌≤◌, Some, List, [], ◌∷◌, length, map, refl, sym, ◌∙◌, subst}
-use Rattle.std.proofs.Common.{inl, inr, arith, add-one}
-use Rattle.std.specs.Prelude.{slice_get}
-use Rattle.std.specs.List.{AllZip}
-use Rattle.std.proofs.lemmas.Bool.{cases_lt}
-use Rattle.std.proofs.lemmas.Option.{none-some, same_Some}
-use Rattle.std.proofs.lemmas.Slice.Zip.{AllZip-long}
+use Rattle.std.proofs.{Common.{inl, inr, arith, add-one}, lemmas.{Bool.cases_lt, Option.{none-some, same_Some}}}
+use Rattle.std.{proofs.lemmas.Slice.Zip.AllZip-long, specs.{Prelude.slice_get, List.AllZip}}
 use Rattle.xa_xid.specs.declared.statement.Statement.{Statement}
 use Rattle.xa_words.specs.Entry.{Entry}
 use Rattle.xa_server.specs.State.{State}
-use Rattle.decision_log.specs.declared.known.Known.{Known}
-use Rattle.decision_log.specs.History.{entries_of}
-use Rattle.decision_log.specs.Known.{AllOf, newcomer}
+use Rattle.decision_log.specs.{declared.known.Known.Known, History.entries_of, Known.{AllOf, newcomer}}
 use Rattle.xa_session.specs.declared.answer.Answer.{Answer}
-use Rattle.xa_store.specs.Passes.{known_of}
-use Rattle.xa_store.specs.Legal.{IsLegal, IsOutcome}
-use Rattle.xa_store.specs.declared.run.Run.{Run}
-use Rattle.xa_store.specs.declared.outcome.Outcome.{Outcome}
-use Rattle.xa_judge.specs.Explained.{IsSession}
-use Rattle.xa_judge.proofs.Places.{get_within}
+use Rattle.xa_store.specs.{Passes.known_of, Legal.{IsLegal, IsOutcome}, declared.{run.Run.Run, outcome.Outcome.Outcome}}
+use Rattle.xa_judge.{specs.Explained.IsSession, proofs.Places.get_within}
 use Rattle.nigbaru.specs.Overlapping.{RunLine, Lines, AreFreshRuns, AreLinesOf, IsExplainedOverlap}
-use Rattle.xa_races.proofs.Tests.{all_at}
-use Rattle.xa_races.proofs.Histories.{Remains, statements_in, answers_in, entries_of-other}
 use Rattle.nigbaru.proofs.OverlapSchedules.{spoken, overlap_explained}
+use Rattle.xa_races.proofs.{Tests.all_at, Histories.{Remains, statements_in, answers_in, entries_of-other}}
 
 -- what holds place by place of two lists holds of their elements at a place
 zip_at : {A B : Type 0} (R : A → B → Type 0) (xs : List A) (ys : List B) (place : ℕ) (x : A) (y : B) → AllZip R xs ys

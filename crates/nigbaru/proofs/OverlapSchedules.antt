@@ -3,22 +3,14 @@
 --     StandsWithin           the sessions stand as `Stands` says, and only they have lines
 --     overlap_explained      the lines can be written down so that they are explained
 use Rattle.std.proofs.Common.{◌≡◌, ◌⊎◌, ℕ, zero, suc, ◌+◌, ◌++◌, ◌∷◌, Some, List, [], length, refl, sym, ◌∙◌, subst}
-use Rattle.std.proofs.Common.{inl, inr, arith}
-use Rattle.std.specs.Prelude.{slice_get}
-use Rattle.std.proofs.lemmas.Bool.{cases_lt}
+use Rattle.std.{proofs.{Common.{inl, inr, arith}, lemmas.Bool.cases_lt}, specs.Prelude.slice_get}
 use Rattle.xa_words.specs.Entry.{Entry}
-use Rattle.xa_server.specs.State.{State}
-use Rattle.xa_server.specs.Replies.{reply_to}
-use Rattle.xa_server.specs.Step.{after}
-use Rattle.xa_session.specs.Replay.{state_at}
-use Rattle.xa_session.proofs.Replaying.{state_after-nil}
+use Rattle.xa_server.specs.{State.State, Replies.reply_to, Step.after}
+use Rattle.xa_session.{specs.Replay.state_at, proofs.Replaying.state_after-nil}
 use Rattle.xa_judge.specs.Explained.{Config, opening_config, IsSession}
-use Rattle.xa_races.specs.LinesLeft.{with_lines}
+use Rattle.xa_races.{specs.LinesLeft.with_lines, proofs.{Tests.lines_other, Histories.{Said, Remains}, Schedules.goes}}
 use Rattle.nigbaru.specs.Overlapping.{RunLine, Lines, first_calls, over, IsExplainedOverlap}
-use Rattle.xa_races.proofs.Tests.{lines_other}
 use Rattle.nigbaru.proofs.OverlapSteps.{RunsOn, Stands, Goes, emits, Begun, begins, none_called, opening-state}
-use Rattle.xa_races.proofs.Histories.{Said, Remains}
-use Rattle.xa_races.proofs.Schedules.{goes}
 
 -- what a line of a run says, and was answered
 abbrev pub spoken : RunLine → Said

@@ -12,31 +12,18 @@
 --     none_called        before the first call every session is idle
 --     opening-state      the first configuration has the store's base as its state
 use Rattle.std.proofs.Common.{◌≡◌, ◌≢◌, ℕ, zero, suc, ◌<◌, ◌≤◌, true, cond, Option, Some, None, List, [], ◌∷◌, ◌++◌}
-use Rattle.std.proofs.Common.{set, replicate, refl, ap, sym, ◌∙◌, subst, inl, inr}
-use Rattle.std.proofs.Common.{arith, append_assoc}
+use Rattle.std.proofs.Common.{set, replicate, refl, ap, sym, ◌∙◌, subst, inl, inr, arith, append_assoc}
 use Rattle.std.specs.Prelude.{slice_get}
-use Rattle.xa_server.specs.State.{State}
-use Rattle.xa_server.specs.declared.reply.Reply.{Reply}
-use Rattle.xa_server.specs.Replies.{reply_to}
-use Rattle.xa_server.specs.Step.{after}
-use Rattle.xa_judge.specs.declared.request.Request.TheVariants.{Statement as Given}
-use Rattle.xa_judge.specs.declared.answer.Answer.{Answer}
-use Rattle.xa_judge.specs.declared.answer.Answer.TheVariants.{Reply as Replied}
-use Rattle.xa_judge.specs.declared.event.Event.{Event}
-use Rattle.xa_judge.specs.declared.event.Event.TheVariants.{Call, Return}
-use Rattle.xa_judge.specs.declared.client_state.ClientState.{ClientState}
-use Rattle.xa_judge.specs.declared.client_state.ClientState.TheVariants.{Idle, Called, Answered}
-use Rattle.xa_judge.specs.declared.moves.Act.TheVariants.{Statement as ItsStatement}
-use Rattle.xa_judge.specs.declared.moves.Move.{Move}
-use Rattle.xa_judge.specs.declared.moves.Move.TheVariants.{Event as Seeing, Effect}
-use Rattle.xa_judge.specs.Explained.{Config, with_client, opening_config, effect_of, carried_out, observed, called}
-use Rattle.xa_judge.specs.Explained.{returned, shows_answer, IsSession}
-use Rattle.xa_judge.specs.Explained.{LeadsThrough}
-use Rattle.xa_judge.proofs.Places.{same_number, get_written, get_apart}
-use Rattle.xa_races.specs.LinesLeft.{with_lines}
-use Rattle.nigbaru.specs.Overlapping.{RunLine, Lines, next_call, first_calls, Overlap}
-use Rattle.nigbaru.specs.Overlapping.{returned as returned_next}
-use Rattle.xa_races.proofs.Tests.{lines_own, lines_other}
+use Rattle.xa_server.specs.{State.State, declared.reply.Reply.Reply, Replies.reply_to, Step.after}
+use Rattle.xa_judge.specs.declared.{request.Request.TheVariants.Statement as Given, answer.Answer.Answer}
+use Rattle.xa_judge.specs.declared.{answer.Answer.TheVariants.Reply as Replied, event.Event.Event}
+use Rattle.xa_judge.specs.declared.client_state.ClientState.{ClientState, TheVariants.{Idle, Called, Answered}}
+use Rattle.xa_judge.specs.declared.moves.{Act.TheVariants.Statement as ItsStatement, Move.Move}
+use Rattle.xa_judge.specs.{declared.moves.Move.TheVariants.{Event as Seeing, Effect}, Explained.{Config, with_client}}
+use Rattle.xa_judge.specs.Explained.{opening_config, effect_of, carried_out, observed, called, returned, shows_answer}
+use Rattle.xa_judge.{specs.Explained.{IsSession, LeadsThrough}, proofs.Places.{same_number, get_written, get_apart}}
+use Rattle.xa_races.{specs.LinesLeft.with_lines, proofs.Tests.{lines_own, lines_other}}
+use Rattle.nigbaru.specs.Overlapping.{RunLine, Lines, next_call, first_calls, Overlap, returned as returned_next}
 
 -- some moves lead through the events
 pub record RunsOn (config : Config) (events : List Event) : Type 0 where
@@ -75,7 +62,7 @@ effect_now config session line found = ap (λ (o : Option ClientState). carried_
 return_now : (config : Config) (session : ℕ) (line : RunLine) (answer : Answer)
     → slice_get config.clients session ≡ Some (Answered answer)
     → shows_answer line.seen answer ≡ true
-    → observed config (Return session line.seen) ≡ Some (with_client config session Idle)
+    → observed config (Event.Return session line.seen) ≡ Some (with_client config session Idle)
 unfolding observed returned
 return_now config session line answer found shows =
     ap (λ (o : Option ClientState). returned o config session line.seen) found
@@ -83,7 +70,7 @@ return_now config session line answer found shows =
 
 -- an idle session can call for the statement of a line
 call_now : (config : Config) (session : ℕ) (line : RunLine) → slice_get config.clients session ≡ Some Idle
-    → observed config (Call session (Given line.statement))
+    → observed config (Event.Call session (Given line.statement))
     ≡ Some (with_client config session (Called (Given line.statement)))
 unfolding observed called
 call_now config session line found =
@@ -196,7 +183,7 @@ emits lines session line rest config is left stands reply go =
     let next : GoesNext lines session rest (idle_again config session line) =
     goes_next lines session line rest config stands found go in
     record {
-      events = Return session line.seen ∷ (next_call session rest ++ next.events);
+      events = Event.Return session line.seen ∷ (next_call session rest ++ next.events);
       overlap = returned_next is left next.overlap;
       run = record {
         moves = Effect session ItsStatement ∷ Seeing ∷ next.run.moves;

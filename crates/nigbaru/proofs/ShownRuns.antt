@@ -1,35 +1,20 @@
 -- What is linearizable is explained once it is written down as a record.
 --     Fits      the sessions are as far in the judge's configuration as the server's clients are
-use Rattle.std.proofs.Common.{◌≡◌, ◌⊎◌, ℕ, true, cond, Option, Some, None, List, [], ◌∷◌}
-use Rattle.std.proofs.Common.{refl, ap, sym, ◌∙◌, subst, inl, inr, arith}
-use Rattle.std.specs.Prelude.{slice_get}
-use Rattle.std.proofs.lemmas.Bool.{cases_lt}
+use Rattle.std.proofs.Common.{◌≡◌, ◌⊎◌, ℕ, true, cond, Option, Some, None, List, [], ◌∷◌, refl, ap, sym, ◌∙◌, subst}
+use Rattle.std.{proofs.{Common.{inl, inr, arith}, lemmas.Bool.cases_lt}, specs.Prelude.slice_get}
 use Rattle.xa_xid.specs.declared.statement.Statement.{Statement}
-use Rattle.xa_server.specs.State.{State}
-use Rattle.xa_server.specs.declared.reply.Reply.{Reply}
-use Rattle.xa_server.specs.Replies.{reply_to}
-use Rattle.xa_server.specs.Step.{after}
-use Rattle.xa_session.specs.Timed.{changed}
-use Rattle.xa_session.specs.Linear.{Sight, Client, Idle, Called, Answered, Serves, IsLinearized}
-use Rattle.xa_session.specs.Linear.{over, called, taken, returned, failed}
-use Rattle.xa_session.proofs.Moments.{changed_there, changed_other}
+use Rattle.xa_server.specs.{State.State, declared.reply.Reply.Reply, Replies.reply_to, Step.after}
+use Rattle.xa_session.specs.{Timed.changed, Linear.{Sight, Client, Idle, Called, Answered, Serves, IsLinearized, over}}
+use Rattle.xa_session.{specs.Linear.{called, taken, returned, failed}, proofs.Moments.{changed_there, changed_other}}
 use Rattle.xa_judge.specs.declared.request.Request.TheVariants.{Statement as Given}
-use Rattle.xa_judge.specs.declared.answer.Answer.TheVariants.{Reply as Replied}
-use Rattle.xa_judge.specs.declared.event.Seen.{Seen}
-use Rattle.xa_judge.specs.declared.event.Event.{Event}
-use Rattle.xa_judge.specs.declared.event.Event.TheVariants.{Call as ItsCall, Return as ItsReturn, Unknown}
-use Rattle.xa_judge.specs.declared.client_state.ClientState.{ClientState}
-use Rattle.xa_judge.specs.declared.client_state.ClientState.TheVariants.{Idle as IsIdle, Called as HasCalled}
-use Rattle.xa_judge.specs.declared.client_state.ClientState.TheVariants.{Answered as HasAnswer}
-use Rattle.xa_judge.specs.declared.moves.Act.TheVariants.{Statement as ItsStatement}
-use Rattle.xa_judge.specs.declared.moves.Move.{Move}
-use Rattle.xa_judge.specs.declared.moves.Move.TheVariants.{Event as Seeing, Effect}
-use Rattle.xa_judge.specs.Explained.{Config, with_client, opening_config, effect_of, carried_out, observed}
-use Rattle.xa_judge.specs.Explained.{called as call_seen, returned as return_seen, answered_unknown}
-use Rattle.xa_judge.specs.Explained.{shows_answer, IsSession, LeadsThrough, Explained}
-use Rattle.xa_judge.proofs.Places.{same_number, get_written, get_apart}
-use Rattle.nigbaru.specs.Shown.{IsRecordOf}
-use Rattle.nigbaru.proofs.OverlapSteps.{get_replicate}
+use Rattle.xa_judge.specs.declared.{answer.Answer.TheVariants.Reply as Replied, event.{Seen.Seen, Event.Event}}
+use Rattle.xa_judge.specs.declared.{client_state.ClientState.{ClientState, TheVariants.Idle as IsIdle}, moves.Act.Act}
+use Rattle.xa_judge.specs.declared.client_state.ClientState.TheVariants.{Called as HasCalled, Answered as HasAnswer}
+use Rattle.xa_judge.specs.{declared.moves.Move.{Move, TheVariants.{Event as Seeing, Effect}}, Explained.Config}
+use Rattle.xa_judge.specs.Explained.{with_client, opening_config, effect_of, carried_out, observed, called as call_seen}
+use Rattle.xa_judge.specs.Explained.{returned as return_seen, answered_unknown, shows_answer, IsSession, LeadsThrough}
+use Rattle.xa_judge.{specs.Explained.Explained, proofs.Places.{same_number, get_written, get_apart}}
+use Rattle.nigbaru.{specs.Shown.IsRecordOf, proofs.OverlapSteps.get_replicate}
 
 -- how far a client is, in the judge's words
 client_state : Client → ClientState
@@ -106,13 +91,13 @@ found clients config n client is same fits = fits.within n is ∙ ap (λ c. Some
 
 -- the four steps of the judge's definition
 call_step : (config : Config) (n : ℕ) (statement : Statement) → slice_get config.clients n ≡ Some IsIdle
-    → observed config (ItsCall n (Given statement)) ≡ Some (with_client config n (HasCalled (Given statement)))
+    → observed config (Event.Call n (Given statement)) ≡ Some (with_client config n (HasCalled (Given statement)))
 unfolding observed call_seen
 call_step config n statement at = ap (λ (o : Option ClientState). call_seen o config n (Given statement)) at
 
 take_step : (config : Config) (n : ℕ) (statement : Statement)
     → slice_get config.clients n ≡ Some (HasCalled (Given statement))
-    → effect_of config n ItsStatement
+    → effect_of config n Act.Statement
     ≡ Some (with_client (record config { state = after config.state n statement }) n
     (HasAnswer (Replied (reply_to config.state n statement))))
 unfolding effect_of carried_out
@@ -120,7 +105,7 @@ take_step config n statement at = ap (λ (o : Option ClientState). carried_out o
 
 return_step : (config : Config) (n : ℕ) (reply : Reply) (seen : Seen)
     → slice_get config.clients n ≡ Some (HasAnswer (Replied reply)) → shows_answer seen (Replied reply) ≡ true
-    → observed config (ItsReturn n seen) ≡ Some (with_client config n IsIdle)
+    → observed config (Event.Return n seen) ≡ Some (with_client config n IsIdle)
 unfolding observed return_seen
 return_step config n reply seen at shows =
     ap (λ (o : Option ClientState). return_seen o config n seen) at
@@ -128,7 +113,7 @@ return_step config n reply seen at shows =
 
 fail_step : (config : Config) (n : ℕ) (statement : Statement)
     → slice_get config.clients n ≡ Some (HasCalled (Given statement))
-    → observed config (Unknown n) ≡ Some (with_client config n IsIdle)
+    → observed config (Event.Unknown n) ≡ Some (with_client config n IsIdle)
 unfolding observed answered_unknown
 fail_step config n statement at = ap (λ (o : Option ClientState). answered_unknown o config n) at
 
@@ -162,7 +147,7 @@ explains (taken {clients = clients} n statement has inner) events config same fi
     (subst (λ s. Fits (changed clients n (Answered (reply_to s n statement))) next) same
     (fits_changed clients config (after config.state n statement) n (Answered (reply_to config.state n statement)) is
     fits)) shown in (
-      Effect n ItsStatement ∷ then.0,
+      Effect n Act.Statement ∷ then.0,
       then.1,
       (
         next,

@@ -8,20 +8,14 @@
 --     IsExplainedOverlap    written down as overlapping calls, the lines are explained
 --     AreFreshRuns          runs of the sessions 1, 2 and so on, which have done nothing before
 --     AreLinesOf            the lines are those of the runs, with these answers
-use Rattle.std.specs.Prelude.{◌≡◌, ℕ, zero, suc, ◌+◌, ◌<◌, true, Some, List, [], ◌∷◌, ◌++◌, length, map}
-use Rattle.std.specs.Prelude.{slice_get}
+use Rattle.std.specs.Prelude.{◌≡◌, ℕ, zero, suc, ◌+◌, ◌<◌, true, Some, List, [], ◌∷◌, ◌++◌, length, map, slice_get}
 use Rattle.xa_xid.specs.declared.statement.Statement.{Statement}
 use Rattle.xa_server.specs.State.{State}
 use Rattle.decision_log.specs.Known.{newcomer}
 use Rattle.xa_session.specs.declared.answer.Answer.{Answer}
-use Rattle.xa_store.specs.Passes.{known_of}
-use Rattle.xa_store.specs.declared.run.Run.{Run}
-use Rattle.xa_judge.specs.declared.request.Request.TheVariants.{Statement as Given}
-use Rattle.xa_judge.specs.declared.answer.Answer.TheVariants.{Reply as Replied}
-use Rattle.xa_judge.specs.declared.event.Seen.{Seen}
-use Rattle.xa_judge.specs.declared.event.Event.{Event}
-use Rattle.xa_judge.specs.declared.event.Event.TheVariants.{Call, Return}
-use Rattle.xa_judge.specs.Explained.{shows_answer, IsSession, Explained}
+use Rattle.xa_store.specs.{Passes.known_of, declared.run.Run.Run}
+use Rattle.xa_judge.specs.declared.{request.Request.Request, answer.Answer.TheVariants.Reply as Replied}
+use Rattle.xa_judge.specs.{declared.event.{Seen.Seen, Event.Event}, Explained.{shows_answer, IsSession, Explained}}
 use Rattle.xa_races.specs.LinesLeft.{with_lines}
 
 -- a statement of a run, its answer in the race, and its return in the record, which shows the reply of that answer
@@ -38,7 +32,7 @@ Lines = ℕ → List RunLine
 -- the session's call for the first of these lines, as a list of one event; no event if there is no line
 abbrev pub next_call : ℕ → List RunLine → List Event
 next_call session [] = []
-next_call session (line ∷ lines) = Call session (Given line.statement) ∷ []
+next_call session (line ∷ lines) = Event.Call session (Request.Statement line.statement) ∷ []
 
 -- the calls of the sessions from this number down to 1 for their first lines; a session without a line makes none
 unfoldable pub first_calls : ℕ → Lines → List Event
@@ -52,7 +46,7 @@ pub data Overlap : Lines → List Event → Type 0 where
   returned : {lines : Lines} {session : ℕ} {line : RunLine} {rest : List RunLine} {events : List Event}
       → IsSession session → lines session ≡ line ∷ rest
       → Overlap (with_lines lines session rest) events
-      → Overlap lines (Return session line.seen ∷ (next_call session rest ++ events))
+      → Overlap lines (Event.Return session line.seen ∷ (next_call session rest ++ events))
 
 -- written down as overlapping calls of up to 16 sessions, in some order of the returns, the lines make a record that is
 -- explained from this base

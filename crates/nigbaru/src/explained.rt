@@ -2,18 +2,11 @@
 //! functions that do nothing.
 ghost use Rattle.std.specs.Prelude.{◌≡◌, ◌≤◌, ℕ, None, List, length, map};
 ghost use Rattle.xa_server.specs.State.{State};
-ghost use Rattle.decision_log.specs.Known.{AllOf};
-ghost use Rattle.decision_log.specs.Machine.{IsState};
-ghost use Rattle.xa_session.specs.Replay.{state_after};
-ghost use Rattle.xa_session.specs.Timed.{Moment, Stage, Passes};
-ghost use Rattle.xa_session.specs.Linear.{sights};
-ghost use Rattle.xa_store.specs.declared.run.Run.{Run};
-ghost use Rattle.xa_store.specs.declared.outcome.Outcome.{Outcome};
-ghost use Rattle.xa_store.specs.Legal.{IsOutcome};
-ghost use Rattle.xa_judge.specs.declared.event.Event.{Event};
-ghost use Rattle.xa_judge.specs.Explained.{Explained};
-ghost use Rattle.nigbaru.specs.Shown.{IsRecordOf};
-ghost use Rattle.nigbaru.specs.Overlapping.{Lines, AreFreshRuns, AreLinesOf, IsExplainedOverlap};
+ghost use Rattle.decision_log.specs.{Known.AllOf, Machine.IsState};
+ghost use Rattle.xa_session.specs.{Replay.state_after, Timed.{Moment, Stage, Passes}, Linear.sights};
+ghost use Rattle.xa_store.specs.{declared.{run.Run.Run, outcome.Outcome.Outcome}, Legal.IsOutcome};
+ghost use Rattle.xa_judge.specs.{declared.event.Event.Event, Explained.Explained};
+ghost use Rattle.nigbaru.specs.{Shown.IsRecordOf, Overlapping.{Lines, AreFreshRuns, AreLinesOf, IsExplainedOverlap}};
 
 /// States that the answers of a race of fresh sessions are explained once they are written down as
 /// overlapping calls. Does nothing when it is called.

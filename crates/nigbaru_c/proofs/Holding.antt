@@ -7,8 +7,10 @@
 --     lies, keyless   what it owns may cross threads
 --     quiet           an exit that does nothing further, with its value hidden
 --     E               a box of a chair, as the steps on boxes take it
-use Rattle.std.proofs.Common.{◌≡◌, ℕ, List, [], ◌∷◌, ◌++◌, refl, subst}
-use Rattle.std.specs.Prelude.{Option, Some, None}
+use Rattle.std.proofs.{Common.{◌≡◌, ℕ, List, [], ◌∷◌, ◌++◌, refl, subst}, GlobalToken.dealloc_token-Testable}
+use Rattle.std.{proofs.{Crossing.frees, BoxSteps.Form.Bx}, specs.Prelude.{Option, Some, None}}
+use Rattle.std.specs.contracts.impls.GlobalAllocator.TheImpl.{ghosts, dict}
+use Rattle.nigbaru_c.{specs.Held.{holds, boxed, heap as the_heap}, proofs.chair.Chair.TheSendSync.the_send as sent}
 use seplogic.Ra.Ura.{Ura}
 use mir.Syntax.{impl, tnil, dnil}
 use mir.Raw.{raw as bare}
@@ -28,16 +30,10 @@ use denote.RawPtr.{Ptr, ptr_val, block_ptr, null_ptr, in_a_block, lies_at, Testa
 use denote.Steps.{nothing}
 use denote.Struct.Struct.{within}
 use denote.Struct.Owning.{shape}
-use Rattle.nigbaru_c.specs.Held.{holds, boxed, heap as the_heap}
-use Rattle.std.proofs.GlobalToken.{dealloc_token-Testable}
-use Rattle.std.proofs.Crossing.{frees}
-use Rattle.std.proofs.BoxSteps.Form.{Bx}
 use Rattle.std.specs.contracts.alloc.Global as Heap
-use Rattle.std.specs.contracts.impls.GlobalAllocator.TheImpl.{ghosts, dict}
 use Rattle.std.proofs.alloc.Global.TheLaws as heap
 use Rattle.nigbaru_c.specs.contracts.chair.Chair as Chair
 use Rattle.nigbaru_c.proofs.chair.Chair.TheLaws as chair
-use Rattle.nigbaru_c.proofs.chair.Chair.TheSendSync.{the_send as sent}
 use Rattle.nigbaru_c.specs.contracts.handle.Handle as handle
 
 -- the machine value of a handle: a structure with one pointer

@@ -1,11 +1,10 @@
 -- One more identifier is laid out.
 use Rattle.std.proofs.Common.{◌≡◌, ℕ, ◌+◌, ◌<◌, ◌≤◌, List, length, get_or, set, sym, ap, ◌∙◌, subst, arith}
-use mathlib.Core.Logic.{dite}
-use native.Mathlib.Decide.{ℕ_discrete}
 use Rattle.std.proofs.lemmas.List.{get_or-set_same, get_or-set_other}
+use mathlib.Core.Logic.{dite}
 use Rattle.xa_xid.specs.declared.xid.Xid.{Xid}
-use Rattle.nigbaru_c.specs.declared.xid_part.XidPart.{XidPart}
-use Rattle.nigbaru_c.specs.Telling.{IsLaid}
+use Rattle.nigbaru_c.specs.{declared.xid_part.XidPart.XidPart, Telling.IsLaid}
+use native.Mathlib.Decide.{ℕ_discrete}
 
 -- with the identifier at a place laid out, all up to it are, if those before it were
 pub laid_more : (xids : List Xid) (parts : List XidPart) (i : ℕ) (v : XidPart) → i < length parts

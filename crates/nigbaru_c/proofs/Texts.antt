@@ -1,12 +1,11 @@
 -- The text of an entry's statement has at least one byte.
 use Rattle.std.proofs.Common.{◌≤◌, ◌+◌, ◌≡◌, ℕ, List, ◌++◌, ◌∷◌, length, length-append, true, false, sym, arith}
-use mathlib.Core.Bool.{true≢false}
 use Rattle.std.specs.Prelude.{IsTrue, codes}
+use mathlib.Core.Bool.{true≢false}
 use Rattle.xa_words.specs.Entry.{may_be_entry}
-use Rattle.xa_xid.specs.XidText.{part_text, xid_text}
-use Rattle.xa_xid.specs.declared.statement.Statement.{Statement}
-use Rattle.xa_xid.specs.declared.statement.Statement.TheVariants.{Start, End, Prepare, Commit, Rollback, Recover}
-use Rattle.xa_xid.specs.declared.statement.Statement.TheVariants.{Unsupported, Get, Put, Del, Disconnect}
+use Rattle.xa_xid.specs.{XidText.{part_text, xid_text}, declared.statement.Statement.{Statement, TheVariants.Start}}
+use Rattle.xa_xid.specs.declared.statement.Statement.TheVariants.{End, Prepare, Commit, Rollback, Recover, Unsupported}
+use Rattle.xa_xid.specs.declared.statement.Statement.TheVariants.{Get, Put, Del, Disconnect}
 use Rattle.xa_statement.specs.Canonical.{statement_text}
 
 -- a text of two parts has a byte if the first part has one

@@ -4,35 +4,27 @@
 --     Does             Answers, of a call that returns the outcome's status and tells C its fields
 use Rattle.std.specs.Prelude.{◌≡◌, ℕ, List, Ok, Err, Option, None, Some}
 use Rattle.xa_xid.specs.declared.statement.Statement.{Statement}
-use Rattle.xa_statement.specs.Grammar.{Spells}
-use Rattle.xa_statement.specs.FaultPlace.{FaultAt}
+use Rattle.xa_statement.specs.{Grammar.Spells, FaultPlace.FaultAt}
 use Rattle.xa_endless.specs.declared.session.EndlessSession.{EndlessSession}
-use Rattle.nigbaru_c.specs.Holds.{session_of}
-use Rattle.nigbaru_c.specs.Outcome.{Fits, HasTried, status_of}
-use Rattle.nigbaru_c.specs.Telling.{Tells}
-use Rattle.nigbaru_c.specs.declared.asked.Asked.{Asked}
-use Rattle.nigbaru_c.specs.declared.asked.Asked.TheVariants.{For, Unspelled, Unfit}
-use Rattle.nigbaru_c.specs.declared.chair.Chair.{Chair}
-use Rattle.nigbaru_c.specs.declared.outcome.Outcome.{Outcome}
-use Rattle.nigbaru_c.specs.declared.outcome.Outcome.TheVariants.{Vacant, Misspelled, OutOfRange, Answered, Unanswered}
-use Rattle.nigbaru_c.specs.declared.told.Told.{Told}
+use Rattle.nigbaru_c.specs.{Holds.session_of, Outcome.{Fits, HasTried, status_of}, Telling.Tells}
+use Rattle.nigbaru_c.specs.declared.{asked.Asked.Asked, chair.Chair.Chair, outcome.Outcome.Outcome, told.Told.Told}
 
 -- a text asks for the statement that it spells; for nothing if it spells none, for this fault, or one whose formatID is
 -- too large
 abbrev pub Reads : List ℕ → Asked → Type 0
-Reads text (For statement) = Spells text statement
-Reads text (Unspelled fault) = FaultAt text fault.at
-Reads text Unfit = (statement : Statement) × Spells text statement × (Fits statement → ⊥)
+Reads text (Asked.For statement) = Spells text statement
+Reads text (Asked.Unspelled fault) = FaultAt text fault.at
+Reads text Asked.Unfit = (statement : Statement) × Spells text statement × (Fits statement → ⊥)
 
 -- what comes of it: a session that is held has tried the statement, and answered it or not for a cause; asked for
 -- nothing it is unchanged, and the outcome says why. Without a session the outcome is Vacant, and none is held
 -- afterwards. There is no other outcome
 abbrev pub Answers : Asked → Outcome → Option EndlessSession → Option EndlessSession → Type 0
-Answers asked Vacant None None = Unit {0}
-Answers (For statement) (Answered answer) (Some old) (Some new) = HasTried statement (Ok answer) old new
-Answers (For statement) (Unanswered fault) (Some old) (Some new) = HasTried statement (Err fault) old new
-Answers (Unspelled fault) (Misspelled told) (Some old) (Some new) = (told ≡ fault) × (new ≡ old)
-Answers Unfit OutOfRange (Some old) (Some new) = new ≡ old
+Answers asked Outcome.Vacant None None = Unit {0}
+Answers (Asked.For statement) (Outcome.Answered answer) (Some old) (Some new) = HasTried statement (Ok answer) old new
+Answers (Asked.For statement) (Outcome.Unanswered fault) (Some old) (Some new) = HasTried statement (Err fault) old new
+Answers (Asked.Unspelled fault) (Outcome.Misspelled told) (Some old) (Some new) = (told ≡ fault) × (new ≡ old)
+Answers Asked.Unfit Outcome.OutOfRange (Some old) (Some new) = new ≡ old
 Answers asked outcome old new = ⊥
 
 -- what a call does that asks for this: it returns the status of an outcome, C is told its fields, and the outcome comes

@@ -7,19 +7,16 @@
 use Rattle.std.specs.Prelude.{◌≡◌, ◌≤◌, ℕ, length, take, Option, None, Some}
 use Rattle.chain_log.specs.RingPass.{known_of}
 use Rattle.xa_statement.specs.Canonical.{statement_text}
-use Rattle.xa_endless.specs.Following.{Hands}
-use Rattle.xa_endless.specs.Seen.{HasOnlySeen}
-use Rattle.xa_endless.specs.declared.following.Next.{Next}
-use Rattle.xa_endless.specs.declared.following.Next.TheVariants.{Entry as IsEntry, Lost, End}
+use Rattle.xa_endless.specs.{Following.Hands, Seen.HasOnlySeen, declared.following.Next.Next}
 use Rattle.xa_endless.specs.declared.session.EndlessSession.{EndlessSession}
 use Rattle.nigbaru_c.specs.declared.handed.Handed.{Handed}
 
 -- the status that C gets for what comes next of the history: an entry, the end, or lost entries; None, 9, is that no
 -- session is held
 abbrev pub status_of_next : Option Next → ℕ
-status_of_next (Some (IsEntry entry)) = 0
-status_of_next (Some End) = 2
-status_of_next (Some (Lost count)) = 16
+status_of_next (Some (Next.Entry entry)) = 0
+status_of_next (Some Next.End) = 2
+status_of_next (Some (Next.Lost count)) = 16
 status_of_next None = 9
 
 -- the number is a session's, 1 to 16
@@ -33,12 +30,12 @@ IsLength count = (1 ≤ count) × (count ≤ 304)
 -- an entry's session and the canonical text of its statement, or how many entries are lost; of what there is none of,
 -- the number, the length and the count of lost ones are 0
 abbrev pub Shows : Option Next → Handed → Type 0
-Shows (Some (IsEntry entry)) handed =
+Shows (Some (Next.Entry entry)) handed =
     (handed.number ≡ entry.session) × (handed.length ≡ length (statement_text entry.statement))
     × (take handed.length handed.text ≡ statement_text entry.statement) × (handed.lost ≡ 0)
     × IsNumber handed.number × IsLength handed.length
-Shows (Some (Lost count)) handed = (handed.number ≡ 0) × (handed.length ≡ 0) × (handed.lost ≡ count)
-Shows (Some End) handed = (handed.number ≡ 0) × (handed.length ≡ 0) × (handed.lost ≡ 0)
+Shows (Some (Next.Lost count)) handed = (handed.number ≡ 0) × (handed.length ≡ 0) × (handed.lost ≡ count)
+Shows (Some Next.End) handed = (handed.number ≡ 0) × (handed.length ≡ 0) × (handed.lost ≡ 0)
 Shows None handed = (handed.number ≡ 0) × (handed.length ≡ 0) × (handed.lost ≡ 0)
 
 -- the session's store and replica stay, its pass may have seen more and has tried nothing, and `next` is handed out as

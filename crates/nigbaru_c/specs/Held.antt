@@ -2,17 +2,12 @@
 --     heap            the C library's heap
 --     boxed, holds    what a box of a chair owns, and what a handle owns
 --     held_coded      how what a handle holds is encoded
-use Rattle.std.specs.Prelude.{◌≡◌}
+use Rattle.std.specs.{Prelude.◌≡◌, Box.Ownership.box_owns, Coded.coded_option, declared.option.Option.Option}
+use Rattle.std.specs.{Global.Global, contracts.impls.GlobalAllocator.TheImpl.ghosts}
+use Rattle.nigbaru_c.specs.contracts.chair.Chair.{the_row}
 use base.Fml.{Fml, ftrue, fex}
 use base.Stored.{Coded}
 use denote.RawPtr.{Ptr, null_ptr}
-use Rattle.std.specs.Box.Ownership.{box_owns}
-use Rattle.std.specs.Coded.{coded_option}
-use Rattle.std.specs.declared.option.Option.{Option}
-use Rattle.std.specs.declared.option.Option.TheVariants.{None, Some}
-use Rattle.std.specs.Global.{Global}
-use Rattle.std.specs.contracts.impls.GlobalAllocator.TheImpl.{ghosts}
-use Rattle.nigbaru_c.specs.contracts.chair.Chair.{the_row}
 
 -- the C library's heap; a program has only this one
 abbrev pub heap : Global
@@ -25,8 +20,8 @@ boxed = box_owns (ghosts.dealloc_token heap) the_row
 
 -- what a handle with this address owns: the box of its chair and the right to free it, or nothing at null
 abbrev pub holds : Ptr → Option the_row.Denot → Fml
-holds at None = fex (at ≡ null_ptr) (λ _. ftrue)
-holds at (Some chair) = boxed at chair
+holds at Option.None = fex (at ≡ null_ptr) (λ _. ftrue)
+holds at (Option.Some chair) = boxed at chair
 
 -- what a handle holds is encoded as a chair is, or as nothing
 abbrev pub held_coded : Coded (Option the_row.Denot)

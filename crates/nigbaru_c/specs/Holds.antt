@@ -2,11 +2,8 @@
 --     session_in, session_of    the session that a box or a handle holds, if it holds one
 --     store_in, store_of        the store that a box or a handle holds, if it holds one
 use Rattle.std.specs.Prelude.{Option, None, Some}
-use Rattle.xa_endless.specs.declared.session.EndlessSession.{EndlessSession}
-use Rattle.xa_endless.specs.declared.store.EndlessStore.{EndlessStore}
-use Rattle.nigbaru_c.specs.declared.chair.Chair.{Chair}
-use Rattle.nigbaru_c.specs.declared.hold.Hold.{Hold}
-use Rattle.nigbaru_c.specs.declared.hold.Hold.TheVariants.{Store, Session}
+use Rattle.xa_endless.specs.declared.{session.EndlessSession.EndlessSession, store.EndlessStore.EndlessStore}
+use Rattle.nigbaru_c.specs.declared.{chair.Chair.Chair, hold.Hold.{Hold, TheVariants.{Store, Session}}}
 
 -- the session that a box holds, if it holds one; a box may hold a store, or during a call nothing
 abbrev pub session_in : Option Hold → Option EndlessSession

@@ -4,14 +4,8 @@
 --     on_branch, on_row      a statement about a branch, or about a row, if it is named
 --     put              a PUT, if its key and its value are named
 use Rattle.std.specs.Prelude.{ℕ, ℤ, pos, nat_le, ◌&&◌, if◌then◌else◌, List, length, take, drop, Option, Some, None}
-use Rattle.xa_xid.specs.Limits.{text_bytes}
-use Rattle.xa_xid.specs.Xid.{Text}
-use Rattle.xa_xid.specs.declared.statement.Statement.{Statement}
-use Rattle.xa_xid.specs.declared.statement.Statement.TheVariants.{Put}
-use Rattle.xa_xid.specs.declared.xid.Xid.{Xid}
-use Rattle.nigbaru_c.specs.declared.asked.Asked.{Asked}
-use Rattle.nigbaru_c.specs.declared.asked.Asked.TheVariants.{For, Unfit}
-use Rattle.nigbaru_c.specs.declared.xid_part.XidPart.{XidPart}
+use Rattle.xa_xid.specs.{Limits.text_bytes, Xid.Text, declared.{statement.Statement.Statement, xid.Xid.Xid}}
+use Rattle.nigbaru_c.specs.declared.{asked.Asked.{Asked, TheVariants.{For, Unfit}}, xid_part.XidPart.XidPart}
 
 -- these bytes as a value, if there are at most 64
 abbrev pub value_named : List ℕ → Option Text
@@ -53,7 +47,7 @@ on_row of key = asked_of of (key_named key)
 
 -- a PUT of what is named, if both are
 abbrev pub put_of : Option (List ℕ) → Option Text → Asked
-put_of (Some key) (Some value) = For (Put key value)
+put_of (Some key) (Some value) = For (Statement.Put key value)
 put_of key value = Unfit
 
 -- a PUT of this key and this value

@@ -4,8 +4,7 @@
 use Rattle.std.specs.Prelude.{◌≡◌, ◌≢◌, ◌⊎◌, ℕ, Option, None, Some}
 use Rattle.decision_log.specs.Opens.{IsCount}
 use Rattle.chain_log.specs.RingOpens.{AreRows}
-use Rattle.xa_endless.specs.Opens.{Opens}
-use Rattle.xa_endless.specs.declared.store.EndlessStore.{EndlessStore}
+use Rattle.xa_endless.specs.{Opens.Opens, declared.store.EndlessStore.EndlessStore}
 use Rattle.nigbaru_c.specs.declared.chair.Chair.{Chair}
 
 -- a store is held, and is one that opening with so many rows and sessions gives

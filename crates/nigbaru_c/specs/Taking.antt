@@ -6,8 +6,7 @@
 --     IsTakeStatus     the same, if a store is held
 use Rattle.std.specs.Prelude.{◌≡◌, ◌≢◌, ◌≤◌, ◌⊎◌, ℕ, Option, None, Some}
 use Rattle.chain_log.specs.RingPass.{known_of}
-use Rattle.xa_endless.specs.declared.session.EndlessSession.{EndlessSession}
-use Rattle.xa_endless.specs.declared.store.EndlessStore.{EndlessStore}
+use Rattle.xa_endless.specs.declared.{session.EndlessSession.EndlessSession, store.EndlessStore.EndlessStore}
 use Rattle.nigbaru_c.specs.declared.chair.Chair.{Chair}
 
 -- the session is of the store, and has the number

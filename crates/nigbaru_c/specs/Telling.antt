@@ -4,16 +4,12 @@
 --     IsLaid           an identifier as X/Open lays it out
 --     LaidOut          identifiers, as many as there is room for, and the rest as it was
 --     ListsReply, Lists      the identifiers of a reply, or of an outcome
-use Rattle.std.specs.Prelude.{◌≡◌, ◌<◌, ◌≤◌, ◌+◌, ◌^◌, ◌++◌, ℕ, pos, negsuc, List, length, take}
-use Rattle.std.specs.Prelude.{slice_index_or, Option, Some, None}
+use Rattle.std.specs.Prelude.{◌≡◌, ◌<◌, ◌≤◌, ◌+◌, ◌^◌, ◌++◌, ℕ, pos, negsuc, List, length, take, slice_index_or, Option}
+use Rattle.std.specs.Prelude.{Some, None}
 use Rattle.xa_xid.specs.declared.xid.Xid.{Xid}
-use Rattle.xa_server.specs.declared.reply.Reply.{Reply}
-use Rattle.xa_server.specs.declared.reply.Reply.TheVariants.{Ok as Accepted, Value, Recovered, Refused}
+use Rattle.xa_server.specs.declared.reply.Reply.{Reply, TheVariants.{Ok as Accepted, Value, Recovered, Refused}}
 use Rattle.xa_server.specs.Errors.{number_of}
-use Rattle.nigbaru_c.specs.declared.told.Told.{Told}
-use Rattle.nigbaru_c.specs.declared.xid_part.XidPart.{XidPart}
-use Rattle.nigbaru_c.specs.declared.outcome.Outcome.{Outcome}
-use Rattle.nigbaru_c.specs.declared.outcome.Outcome.TheVariants.{Vacant, Misspelled, OutOfRange, Answered, Unanswered}
+use Rattle.nigbaru_c.specs.declared.{told.Told.Told, xid_part.XidPart.XidPart, outcome.Outcome.Outcome}
 
 -- the reply's value and the value's length, its count of identifiers, or its error, whichever it has; of length, count
 -- and error the rest are 0
@@ -32,11 +28,11 @@ TellsPlace place told = (told.place ≡ place) × (told.length ≡ 0) × (told.c
 -- after an answer its place and the fields of its reply; after any other outcome no field of a reply, and as the place
 -- that of the fault if the text is misspelled, else 0
 abbrev pub Tells : Outcome → Told → Type 0
-Tells (Answered answer) told = (told.place ≡ answer.place) × TellsReply answer.reply told
-Tells (Misspelled fault) told = TellsPlace fault.at told
-Tells (Unanswered fault) told = TellsPlace 0 told
-Tells Vacant told = TellsPlace 0 told
-Tells OutOfRange told = TellsPlace 0 told
+Tells (Outcome.Answered answer) told = (told.place ≡ answer.place) × TellsReply answer.reply told
+Tells (Outcome.Misspelled fault) told = TellsPlace fault.at told
+Tells (Outcome.Unanswered fault) told = TellsPlace 0 told
+Tells Outcome.Vacant told = TellsPlace 0 told
+Tells Outcome.OutOfRange told = TellsPlace 0 told
 
 -- X/Open's parts: the formatID, or that of no identifier (-1) if it is too large, the two lengths, and the bytes of the
 -- gtrid followed by those of the bqual
@@ -64,8 +60,8 @@ ListsReply (Refused error) old new = new ≡ old
 
 -- after an answer the caller's parts have its identifiers, if it is a list; after anything else they are as before
 abbrev pub Lists : Outcome → List XidPart → List XidPart → Type 0
-Lists (Answered answer) old new = ListsReply answer.reply old new
-Lists (Misspelled fault) old new = new ≡ old
-Lists (Unanswered fault) old new = new ≡ old
-Lists Vacant old new = new ≡ old
-Lists OutOfRange old new = new ≡ old
+Lists (Outcome.Answered answer) old new = ListsReply answer.reply old new
+Lists (Outcome.Misspelled fault) old new = new ≡ old
+Lists (Outcome.Unanswered fault) old new = new ≡ old
+Lists Outcome.Vacant old new = new ≡ old
+Lists Outcome.OutOfRange old new = new ≡ old

@@ -1,7 +1,6 @@
 //! How the session of a handle answers what a call asks for.
 ghost use Rattle.std.specs.Prelude.{◌≡◌, Some, None};
-ghost use Rattle.nigbaru_c.specs.Asked.{Answers, Does};
-ghost use Rattle.nigbaru_c.specs.Holds.{session_in, session_of};
+ghost use Rattle.nigbaru_c.specs.{Asked.{Answers, Does}, Holds.{session_in, session_of}};
 ghost use Rattle.nigbaru_c.specs.declared.asked.Asked.TheVariants.{For};
 
 use crate::{Asked, Chair, Handle, Hold, Outcome, Told};

@@ -1,6 +1,5 @@
 //! What a call asks of a session.
-ghost use Rattle.nigbaru_c.specs.Asked.{Reads};
-ghost use Rattle.nigbaru_c.specs.Outcome.{Fits};
+ghost use Rattle.nigbaru_c.specs.{Asked.Reads, Outcome.Fits};
 ghost use Rattle.std.specs.Prelude.{IsTrue};
 
 use xa_statement::{SyntaxFault, read_statement};

@@ -1,8 +1,6 @@
 //! The call that gives a session a statement.
 ghost use Rattle.std.specs.Prelude.{◌≡◌, Some, None};
-ghost use Rattle.nigbaru_c.specs.Holds.{session_of};
-ghost use Rattle.nigbaru_c.specs.Outcome.{status_of, Comes};
-ghost use Rattle.nigbaru_c.specs.Telling.{Tells, Lists};
+ghost use Rattle.nigbaru_c.specs.{Holds.session_of, Outcome.{status_of, Comes}, Telling.{Tells, Lists}};
 ghost use Rattle.nigbaru_c.specs.declared.outcome.Outcome.{Outcome as OutcomeOf};
 
 use crate::telling::list;

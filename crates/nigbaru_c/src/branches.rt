@@ -1,11 +1,7 @@
 //! The calls about branches, which are named by identifiers.
 ghost use Rattle.std.specs.Prelude.{◌≡◌, None, false};
-ghost use Rattle.nigbaru_c.specs.Asked.{Answers, Does};
-ghost use Rattle.nigbaru_c.specs.Holds.{session_of};
-ghost use Rattle.nigbaru_c.specs.Naming.{on_branch};
-ghost use Rattle.nigbaru_c.specs.Outcome.{status_of};
-ghost use Rattle.nigbaru_c.specs.Telling.{Tells, Lists};
-ghost use Rattle.nigbaru_c.specs.declared.asked.Asked.TheVariants.{For};
+ghost use Rattle.nigbaru_c.specs.{Asked.{Answers, Does}, Holds.session_of, Naming.on_branch, Outcome.status_of};
+ghost use Rattle.nigbaru_c.specs.{Telling.{Tells, Lists}, declared.asked.Asked.TheVariants.For};
 ghost use Rattle.nigbaru_c.specs.declared.outcome.Outcome.{Outcome as OutcomeOf};
 ghost use Rattle.xa_xid.specs.declared.statement.Statement.TheVariants.{Start, End, Prepare, Commit, Rollback, Recover};
 

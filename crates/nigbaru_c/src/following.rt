@@ -1,9 +1,7 @@
 //! The call that hands the history out to C.
 ghost use Rattle.std.specs.Prelude.{◌≡◌, Option, Some, None};
-ghost use Rattle.nigbaru_c.specs.Following.{status_of_next, Shows, Follows};
-ghost use Rattle.nigbaru_c.specs.Holds.{session_in, session_of};
-ghost use Rattle.xa_endless.specs.declared.following.Next.{Next as NextOf};
-ghost use Rattle.xa_endless.specs.declared.following.Next.TheVariants.{Entry as IsEntry};
+ghost use Rattle.nigbaru_c.specs.{Following.{status_of_next, Shows, Follows}, Holds.{session_in, session_of}};
+ghost use Rattle.xa_endless.specs.declared.following.Next.{Next as NextOf, TheVariants.Entry as IsEntry};
 
 use crate::spelling::spell;
 use crate::telling::copy_front;

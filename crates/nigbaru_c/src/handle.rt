@@ -1,9 +1,6 @@
 //! Handles.
-ghost use Rattle.std.specs.Prelude.{◌≡◌, Some, None};
-ghost use Rattle.std.specs.declared.option.Option.{Option};
-ghost use Rattle.std.specs.Option.{MatchOption};
-ghost use Rattle.nigbaru_c.specs.declared.chair.Chair.{Chair as ChairOf};
-ghost use Rattle.nigbaru_c.specs.Held.{held_coded, holds};
+ghost use Rattle.std.specs.{Prelude.{◌≡◌, Some, None}, declared.option.Option.Option, Option.MatchOption};
+ghost use Rattle.nigbaru_c.specs.{declared.chair.Chair.Chair as ChairOf, Held.{held_coded, holds}};
 
 use crate::chair::Chair;
 use crate::parts::Parts;

@@ -1,7 +1,6 @@
 //! The call that opens a store.
 ghost use Rattle.std.specs.Prelude.{◌≡◌, ◌≢◌, ◌↔◌, Some, None, IsTrue};
-ghost use Rattle.nigbaru_c.specs.Holds.{store_of};
-ghost use Rattle.nigbaru_c.specs.Opening.{Opened, IsOpenStatus};
+ghost use Rattle.nigbaru_c.specs.{Holds.store_of, Opening.{Opened, IsOpenStatus}};
 
 use crate::{Chair, Handle, Hold, status};
 use chain_log::RingFault;

@@ -1,8 +1,6 @@
 //! The calls about rows, which are named by the bytes of their keys, and the one that ends a session's work.
 ghost use Rattle.std.specs.Prelude.{◌≡◌, None};
-ghost use Rattle.nigbaru_c.specs.Asked.{Does};
-ghost use Rattle.nigbaru_c.specs.Holds.{session_of};
-ghost use Rattle.nigbaru_c.specs.Naming.{on_row, put};
+ghost use Rattle.nigbaru_c.specs.{Asked.Does, Holds.session_of, Naming.{on_row, put}};
 ghost use Rattle.nigbaru_c.specs.declared.asked.Asked.TheVariants.{For};
 ghost use Rattle.xa_xid.specs.declared.statement.Statement.TheVariants.{Get, Del, Disconnect};
 

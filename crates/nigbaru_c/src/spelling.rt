@@ -1,8 +1,7 @@
 //! The canonical text of an entry's statement, written without an allocation: none is longer than 304 bytes.
 ghost use Rattle.std.specs.Prelude.{◌≡◌, ◌≤◌, ◌++◌, ◌∷◌, length};
 ghost use Rattle.xa_statement.specs.Canonical.{statement_text};
-ghost use Rattle.xa_xid.specs.Limits.{text_bytes};
-ghost use Rattle.xa_xid.specs.XidText.{part_text, xid_text};
+ghost use Rattle.xa_xid.specs.{Limits.text_bytes, XidText.{part_text, xid_text}};
 ghost use Rattle.hex.specs.Hex.{encode_lower};
 
 use arrayvec::ArrayVec;

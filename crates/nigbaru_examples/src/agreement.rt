@@ -1,7 +1,6 @@
 //! A transaction over two stores, committed in two phases.
 ghost use Rattle.std.specs.Prelude.{◌≡◌, ◌<◌, ◌∷◌, [], IfOk, vec_len};
-ghost use Rattle.nigbaru.specs.coordinator.Work.{IsRow};
-ghost use Rattle.nigbaru.specs.store.Passes.{log_of, identity_of};
+ghost use Rattle.nigbaru.specs.{coordinator.Work.IsRow, store.Passes.{log_of, identity_of}};
 
 use crate::meeting::{connected, opened_for_one};
 use anyhow::{Result, bail};

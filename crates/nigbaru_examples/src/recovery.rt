@@ -1,7 +1,6 @@
 //! A coordinator that stops, and another one that goes on with its decisions.
 ghost use Rattle.std.specs.Prelude.{◌≡◌, IfOk, vec_len};
-ghost use Rattle.nigbaru.specs.coordinator.Work.{IsRow};
-ghost use Rattle.nigbaru.specs.store.Passes.{log_of, identity_of};
+ghost use Rattle.nigbaru.specs.{coordinator.Work.IsRow, store.Passes.{log_of, identity_of}};
 
 use crate::agreement::{put, text, work};
 use crate::kept::{read_back, write_down};

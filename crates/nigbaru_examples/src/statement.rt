@@ -1,7 +1,6 @@
 //! A statement that comes as bytes.
 ghost use Rattle.std.specs.Prelude.{◌≡◌, IfOk, OnErr};
-ghost use Rattle.nigbaru.specs.server.Step.{Step};
-ghost use Rattle.nigbaru.specs.statement.Grammar.{Spells};
+ghost use Rattle.nigbaru.specs.{server.Step.Step, statement.Grammar.Spells};
 
 use anyhow::Result;
 use nigbaru::{Reply, Server, SessionNo, read_statement};

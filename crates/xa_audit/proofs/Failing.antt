@@ -1,23 +1,14 @@
 -- A branch fails by writes that were dropped.
 use Rattle.std.proofs.Common.{◌≡◌, ◌↔◌, List, [], ◌∷◌, ◌++◌, refl, ap, sym, ◌∙◌, subst, Bool, true, false, append_assoc}
-use Rattle.std.proofs.Common.{append-nil}
-use Rattle.std.specs.Prelude.{Option, Some, None, ◌||◌, ◌&&◌, not}
-use Rattle.std.specs.List.{list_any, list_all}
+use Rattle.std.proofs.{Common.append-nil, lemmas.List.Folds.{list_all-append, list_any-append}}
+use Rattle.std.specs.{Prelude.{Option, Some, None, ◌||◌, ◌&&◌, not}, List.{list_any, list_all}}
 use Rattle.std.specs.Option.{option_map, option_map_or, unwrap_or}
-use Rattle.std.proofs.lemmas.List.Folds.{list_all-append, list_any-append}
 use mathlib.Core.Bool.{true≢false}
-use Rattle.xa_audit.specs.declared.deed.Deed.{Deed}
-use Rattle.xa_audit.specs.declared.deed.Deed.TheVariants.{Starts, Writes, Prepares, Commits, RollsBack}
-use Rattle.xa_audit.specs.declared.ends.End.{End}
-use Rattle.xa_audit.specs.declared.ends.End.TheVariants.{Committed, RolledBack, Empty, InDoubt, Open}
-use Rattle.xa_audit.specs.declared.lives.Life.{Life}
-use Rattle.xa_audit.specs.declared.lives.Lives.{Lives}
-use Rattle.xa_audit.specs.Globals.{is_committed, is_rolled_back, last_end}
-use Rattle.xa_audit.specs.Laws.{is_write, is_within, DropsWrites, FailsBy}
-use Rattle.xa_audit.specs.Lives.{no_lives, noted, dropped, dropped_by, written_life, prepared_life, left_by, left_going}
-use Rattle.xa_audit.specs.Lives.{ends_in, lives_after}
-use Rattle.xa_audit.proofs.Lists.{last_more}
-use Rattle.xa_audit.proofs.Taking.{took_by}
+use Rattle.xa_audit.specs.declared.deed.Deed.{Deed, TheVariants.{Starts, Writes, Prepares, Commits, RollsBack}}
+use Rattle.xa_audit.specs.declared.{ends.End.End, lives.{Life.Life, Lives.Lives}}
+use Rattle.xa_audit.{specs.Globals.{is_committed, is_rolled_back, last_end}, proofs.{Lists.last_more, Taking.took_by}}
+use Rattle.xa_audit.specs.{Laws.{is_write, is_within, DropsWrites, FailsBy}, Lives.{no_lives, noted, dropped}}
+use Rattle.xa_audit.specs.Lives.{dropped_by, written_life, prepared_life, left_by, left_going, ends_in, lives_after}
 
 -- the deeds end within a life, which goes on; `wrote` says whether one of the life's deeds is a write
 record GoesOn (wrote : Bool) (deeds : List Deed) : Type 0 where
@@ -30,7 +21,7 @@ record GoesOn (wrote : Bool) (deeds : List Deed) : Type 0 where
 -- what lives tell of the deeds that they come from: if a life goes on, whether it has written; if none does and the
 -- last end is ROLLED BACK, that the last life's writes were dropped
 Tells : Option Life → List End → List Deed → Type 0
-Tells None over deeds = last_end over ≡ Some RolledBack → DropsWrites deeds
+Tells None over deeds = last_end over ≡ Some End.RolledBack → DropsWrites deeds
 Tells (Some life) over deeds = GoesOn life.wrote deeds
 
 -- if two tests hold, both hold together
@@ -115,8 +106,8 @@ now_dropped deeds on = record {
 }
 
 -- if an end that isn't ROLLED BACK stands last, the last end can't be ROLLED BACK: this case doesn't arise
-other_last : (over : List End) (end : End) (deeds : List Deed) → (Some end ≡ Some RolledBack → ⊥)
-    → last_end (over ++ end ∷ []) ≡ Some RolledBack → DropsWrites deeds
+other_last : (over : List End) (end : End) (deeds : List Deed) → (Some end ≡ Some End.RolledBack → ⊥)
+    → last_end (over ++ end ∷ []) ≡ Some End.RolledBack → DropsWrites deeds
 other_last over end deeds apart is = absurd (apart (sym (last_more over end) ∙ is))
 
 -- if lives tell of deeds what `Tells` says, they still do after one deed more: a write
@@ -136,17 +127,17 @@ prepares_step (Some life) over deeds tells =
 
 -- if a rollback ends the life that goes on, and ROLLED BACK is noted as its end, the life's writes were dropped
 by_wrote : (wrote : Bool) (over : List End) (deeds : List Deed) → GoesOn wrote deeds
-    → last_end (over ++ dropped_by wrote ∷ []) ≡ Some RolledBack
+    → last_end (over ++ dropped_by wrote ∷ []) ≡ Some End.RolledBack
     → DropsWrites (deeds ++ RollsBack ∷ [])
 by_wrote true over deeds on is = now_dropped deeds on
-by_wrote false over deeds on is = other_last over Empty (deeds ++ RollsBack ∷ []) (λ e. absurd (cc)) is
+by_wrote false over deeds on is = other_last over End.Empty (deeds ++ RollsBack ∷ []) (λ e. absurd (cc)) is
 
 -- if lives tell of deeds what `Tells` says, they still do after one deed more: a rollback, which ends the life that
 -- goes on
 rolls_step : (going : Option Life) (over : List End) (deeds : List Deed) → Tells going over deeds
     → Tells None (over ++ dropped going ∷ []) (deeds ++ RollsBack ∷ [])
 unfolding Tells
-rolls_step None over deeds tells = λ is. other_last over Empty (deeds ++ RollsBack ∷ []) (λ e. absurd (cc)) is
+rolls_step None over deeds tells = λ is. other_last over End.Empty (deeds ++ RollsBack ∷ []) (λ e. absurd (cc)) is
 rolls_step (Some life) over deeds tells = λ is. by_wrote life.wrote over deeds tells is
 
 -- if lives tell of deeds what `Tells` says, they still do after one deed more of any kind
@@ -156,7 +147,7 @@ unfolding Tells
 step lives deeds Starts tells = record { before = deeds; life = []; cut = refl; within = refl; total = refl }
 step lives deeds Writes tells = writes_step lives.going lives.over deeds tells
 step lives deeds Prepares tells = prepares_step lives.going lives.over deeds tells
-step lives deeds Commits tells = λ is. other_last lives.over Committed (deeds ++ Commits ∷ []) (λ e. absurd (cc)) is
+step lives deeds Commits tells = λ is. other_last lives.over End.Committed (deeds ++ Commits ∷ []) (λ e. absurd (cc)) is
 step lives deeds RollsBack tells = rolls_step lives.going lives.over deeds tells
 
 -- what `Tells` says, also where there are no lives yet
@@ -186,22 +177,22 @@ unfolding TellsAll
 tells_of deeds lives is = subst (λ (l : Option Lives). TellsAll l deeds) is (steps deeds [] None from_none)
 
 -- if an end that may be missing passes the test for ROLLED BACK, it is there and is ROLLED BACK
-rolled : (end : Option End) → option_map_or is_rolled_back end false ≡ true → end ≡ Some RolledBack
+rolled : (end : Option End) → option_map_or is_rolled_back end false ≡ true → end ≡ Some End.RolledBack
 rolled None is = absurd (true≢false (sym is))
-rolled (Some Committed) is = absurd (true≢false (sym is))
-rolled (Some RolledBack) is = refl
-rolled (Some Empty) is = absurd (true≢false (sym is))
-rolled (Some InDoubt) is = absurd (true≢false (sym is))
-rolled (Some Open) is = absurd (true≢false (sym is))
+rolled (Some End.Committed) is = absurd (true≢false (sym is))
+rolled (Some End.RolledBack) is = refl
+rolled (Some End.Empty) is = absurd (true≢false (sym is))
+rolled (Some End.InDoubt) is = absurd (true≢false (sym is))
+rolled (Some End.Open) is = absurd (true≢false (sym is))
 
 -- a life that is left open or in doubt wasn't rolled back
-left_apart : (prepared : Bool) → Some (left_by prepared) ≡ Some RolledBack → ⊥
+left_apart : (prepared : Bool) → Some (left_by prepared) ≡ Some End.RolledBack → ⊥
 left_apart true e = absurd (cc)
 left_apart false e = absurd (cc)
 
 -- if the last end is ROLLED BACK, the writes of the deeds' last life were dropped
 drops_by : (going : Option Life) (over : List End) (deeds : List Deed) → Tells going over deeds
-    → last_end (over ++ left_going going) ≡ Some RolledBack
+    → last_end (over ++ left_going going) ≡ Some End.RolledBack
     → DropsWrites deeds
 unfolding Tells
 drops_by None over deeds tells is = tells (ap last_end (sym (append-nil over)) ∙ is)
@@ -272,7 +263,7 @@ lived (Commits ∷ life) lives wrote goes within = absurd (true≢false (sym wit
 lived (RollsBack ∷ life) lives wrote goes within = absurd (true≢false (sym within))
 
 -- a life that wrote and is dropped is rolled back
-dropped_then : (going : Option Life) → Goes true going → dropped going ≡ RolledBack
+dropped_then : (going : Option Life) → Goes true going → dropped going ≡ End.RolledBack
 unfolding Goes
 dropped_then None goes = absurd goes
 dropped_then (Some life) goes = ap dropped_by goes
@@ -282,11 +273,11 @@ record Ended (lives : Option Lives) : Type 0 where
   now : Lives
   is : lives ≡ Some now
   going : now.going ≡ None
-  last : last_end now.over ≡ Some RolledBack
+  last : last_end now.over ≡ Some End.RolledBack
 
 -- if no life goes on and the last end is ROLLED BACK, that stays so after deeds that neither begin nor end a life
 -- (`Ended`)
-still : (later : List Deed) (lives : Lives) → lives.going ≡ None → last_end lives.over ≡ Some RolledBack
+still : (later : List Deed) (lives : Lives) → lives.going ≡ None → last_end lives.over ≡ Some End.RolledBack
     → list_all is_within later ≡ true
     → Ended (lives_after (Some lives) later)
 unfolding lives_after
@@ -329,7 +320,7 @@ failed_by deeds lives is (none, drops) =
     let ended = ended_after deeds drops in
     let same : ended.now ≡ lives = ended_is ended.now lives (sym ended.is ∙ is) in
     let going : lives.going ≡ None = ap (λ (l : Lives). l.going) (sym same) ∙ ended.going in
-    let last : last_end (ends_in lives) ≡ Some RolledBack =
+    let last : last_end (ends_in lives) ≡ Some End.RolledBack =
     ap (λ g. last_end (lives.over ++ left_going g)) going ∙ ap last_end (append-nil lives.over)
     ∙ ap (λ (l : Lives). last_end l.over) (sym same) ∙ ended.last in
     let untaken : list_any is_committed (ends_in lives) ≡ false =

@@ -1,26 +1,14 @@
 -- A history, line by line: the lives that are kept, and the lives after it.
 use Rattle.std.proofs.Common.{◌≡◌, ℕ, List, [], ◌∷◌, ◌++◌, refl, ap, sym, ◌∙◌, subst, Bool, true, false, inl, inr}
-use Rattle.std.specs.Prelude.{Option, Some, None, cond, option_to_list}
-use Rattle.std.specs.Option.{unwrap_or}
-use Rattle.std.specs.BTreeMap.{BTreeMap, get}
-use Rattle.std.specs.Ordering.{is_eq}
-use Rattle.std.specs.Cmp.{eq_by_cmp_equiv}
-use Rattle.xa_xid.specs.declared.xid.Xid.{Xid}
-use Rattle.xa_xid.specs.Xid.{xid_cmp, same_xid}
+use Rattle.std.specs.{Prelude.{Option, Some, None, cond, option_to_list}, Option.unwrap_or, BTreeMap.{BTreeMap, get}}
+use Rattle.std.specs.{Ordering.is_eq, Cmp.eq_by_cmp_equiv}
+use Rattle.xa_xid.specs.{declared.{xid.Xid.Xid, statement.Statement.Statement}, Xid.{xid_cmp, same_xid}}
 use Rattle.xa_xid.proofs.Orders.{xids_total, exact_xids}
-use Rattle.xa_xid.specs.declared.statement.Statement.{Statement}
-use Rattle.xa_server.specs.State.{State, own_xid}
-use Rattle.xa_server.specs.Replies.{reply_to}
-use Rattle.xa_server.specs.Step.{after, is_refused}
+use Rattle.xa_server.specs.{State.{State, own_xid}, Replies.reply_to, Step.{after, is_refused}}
 use Rattle.xa_server.proofs.Maps.{same_or_apart, same_itself}
-use Rattle.xa_audit.specs.declared.deed.Deed.{Deed}
-use Rattle.xa_audit.specs.declared.lives.Lives.{Lives}
-use Rattle.xa_audit.specs.declared.said.Said.{Said}
-use Rattle.xa_audit.specs.declared.said.Said.TheVariants.{Nothing, Given, Unread}
-use Rattle.xa_audit.specs.Histories.{statement_said, statements_in, said_on}
-use Rattle.xa_audit.specs.Deeds.{deed_by, deed_of, deeds_from, deeds_about}
-use Rattle.xa_audit.specs.Lives.{no_lives, noted, lives_after}
-use Rattle.xa_audit.specs.Following.{state_said, deed_said, Notes}
+use Rattle.xa_audit.specs.declared.{deed.Deed.Deed, lives.Lives.Lives, said.Said.Said}
+use Rattle.xa_audit.specs.{Histories.{statement_said, statements_in, said_on}, Following.{state_said, deed_said, Notes}}
+use Rattle.xa_audit.specs.{Deeds.{deed_by, deed_of, deeds_from, deeds_about}, Lives.{no_lives, noted, lives_after}}
 
 -- the lives after a deed was noted, and then after these deeds, are those after all of them
 told_more : (told : Xid × Deed) (deeds : List (Xid × Deed)) (m n : BTreeMap Xid Lives) → Notes (Some told) m n
@@ -67,11 +55,11 @@ pub said_more : (said : Said) (state : State) (m n : BTreeMap Xid Lives) (rest :
     → lives_after (get xid_cmp n xid) (deeds_about xid (deeds_from (state_said state said) rest))
     ≡ lives_after (get xid_cmp m xid) (deeds_about xid (deeds_from state (statement_said said ++ rest)))
 unfolding deeds_from
-said_more Nothing state m n rest same xid =
+said_more Said.Nothing state m n rest same xid =
     ap (λ map. lives_after (get xid_cmp map xid) (deeds_about xid (deeds_from state rest))) same
-said_more (Given session statement) state m n rest notes xid =
+said_more (Said.Given session statement) state m n rest notes xid =
     deed_more (deed_of state session statement) (deeds_from (after state session statement) rest) m n notes xid
-said_more (Unread place) state m n rest same xid =
+said_more (Said.Unread place) state m n rest same xid =
     ap (λ map. lives_after (get xid_cmp map xid) (deeds_about xid (deeds_from state rest))) same
 
 -- the loop over lines: once one more is carried out and its deed noted, the lives so far and the deeds of the lines

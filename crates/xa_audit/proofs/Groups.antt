@@ -1,22 +1,13 @@
 -- Global transactions: the order of their names, and one more branch.
 use Rattle.std.proofs.Common.{◌≡◌, ℕ, ◌+◌, ◌<◌, List, [], ◌∷◌, ◌++◌, length, take, get_or, refl, ap, sym, ◌∙◌, subst}
-use Rattle.std.proofs.Common.{true, inl, inr}
-use Rattle.std.specs.Prelude.{Option, Some, cond, filter}
-use Rattle.std.specs.Option.{unwrap_or}
-use Rattle.std.specs.BTreeMap.{BTreeMap, get}
-use Rattle.std.specs.Ordering.{nat_cmp, is_eq}
-use Rattle.std.specs.Cmp.{IsTotalOrder, nat_cmp_total, eq_by_cmp_equiv}
-use Rattle.std.proofs.lemmas.Cmp.{on_total, then_total}
-use Rattle.std.proofs.lemmas.List.{take_more}
+use Rattle.std.proofs.{Common.{true, inl, inr}, lemmas.{Cmp.{on_total, then_total}, List.take_more}}
 use Rattle.std.proofs.lemmas.Map.Lookups.{CmpEqualImpliesEq, exact_unsigned, exact_bytes, exact_pairs}
-use Rattle.xa_xid.specs.Xid.{bytes_cmp}
-use Rattle.xa_xid.proofs.Orders.{bytes_total}
+use Rattle.std.specs.{Prelude.{Option, Some, cond, filter}, Option.unwrap_or, BTreeMap.{BTreeMap, get}}
+use Rattle.std.specs.{Ordering.{nat_cmp, is_eq}, Cmp.{IsTotalOrder, nat_cmp_total, eq_by_cmp_equiv}}
+use Rattle.xa_xid.{specs.Xid.bytes_cmp, proofs.Orders.bytes_total}
 use Rattle.xa_server.proofs.Maps.{same_or_apart, same_itself}
-use Rattle.xa_audit.specs.declared.branch.Branch.{Branch}
-use Rattle.xa_audit.specs.declared.global.GlobalName.{GlobalName}
-use Rattle.xa_audit.specs.Following.{PutsAt}
-use Rattle.xa_audit.specs.Globals.{global_cmp, global_of, is_of, if_any}
-use Rattle.xa_audit.proofs.Lists.{filter_more}
+use Rattle.xa_audit.specs.{declared.{branch.Branch.Branch, global.GlobalName.GlobalName}, Following.PutsAt}
+use Rattle.xa_audit.{specs.Globals.{global_cmp, global_of, is_of, if_any}, proofs.Lists.filter_more}
 
 -- `global_cmp` is a total order of the names of global transactions
 pub globals_total : IsTotalOrder global_cmp

@@ -1,13 +1,9 @@
 -- Lists with one element more: reading at a place, a filter, the last end, counting verdicts; and a key that is set
 -- again.
 use Rattle.std.proofs.Common.{◌≡◌, ℕ, zero, suc, ◌+◌, ◌≤◌, List, [], ◌∷◌, ◌++◌, length, get_or, refl, ap, sym, ◌∙◌}
-use Rattle.std.proofs.Common.{Bool, true, false, arith}
-use Rattle.std.specs.Prelude.{Option, Some, None, cond, filter}
-use Rattle.std.specs.BTreeMap.{BTreeMap, get, is_at}
-use Rattle.std.specs.declared.cmp.Ordering.{Ordering}
-use Rattle.xa_audit.specs.Following.{PutsAt}
-use Rattle.xa_audit.specs.declared.ends.End.{End}
-use Rattle.xa_audit.specs.declared.verdict.Verdict.{Verdict}
+use Rattle.std.{proofs.Common.{Bool, true, false, arith}, specs.Prelude.{Option, Some, None, cond, filter}}
+use Rattle.std.specs.{BTreeMap.{BTreeMap, get, is_at}, declared.cmp.Ordering.Ordering}
+use Rattle.xa_audit.specs.{Following.PutsAt, declared.{ends.End.End, verdict.Verdict.Verdict}}
 use Rattle.xa_audit.specs.Globals.{Global, last_end, verdict_of, same_verdict, count_of}
 
 -- if `d` is what is read where a list has no place, one place more at its end, with `d`, changes nothing that is read

@@ -1,33 +1,19 @@
 -- MIXED, over the histories: one branch was committed, and another one's writes were dropped.
 use Rattle.std.proofs.Common.{◌≡◌, ◌↔◌, ℕ, zero, suc, ◌+◌, ◌<◌, List, [], ◌∷◌, length, refl, ap, sym, ◌∙◌, Bool, true}
-use Rattle.std.proofs.Common.{false, ◌⊎◌, inl, inr, arith}
-use Rattle.std.specs.Prelude.{Option, Some, None, ◌||◌, ◌&&◌, cond, filter, map}
-use Rattle.std.specs.List.{list_any, Contains}
-use Rattle.std.specs.Map.{keys_of}
-use Rattle.std.specs.Option.{option_map_or}
-use Rattle.std.specs.Ordering.{eq_by_cmp}
-use Rattle.std.specs.Cmp.{eq_by_cmp_equiv}
-use Rattle.std.proofs.lemmas.List.Folds.{list_any-append}
+use Rattle.std.proofs.{Common.{false, ◌⊎◌, inl, inr, arith}, lemmas.List.Folds.list_any-append}
 use Rattle.std.proofs.lemmas.List.Elements.{Contains-append_left, Contains-append_right, Contains-append_cases}
-use Rattle.std.proofs.lemmas.Map.Keys.{IsDistinct-from_sorted}
-use Rattle.std.proofs.lemmas.Map.Views.{Contains-from_lookup, lookup-from_Contains}
+use Rattle.std.proofs.lemmas.Map.{Keys.IsDistinct-from_sorted, Views.{Contains-from_lookup, lookup-from_Contains}}
+use Rattle.std.specs.{Prelude.{Option, Some, None, ◌||◌, ◌&&◌, cond, filter, map}, List.{list_any, Contains}}
+use Rattle.std.specs.{Map.keys_of, Option.option_map_or, Ordering.eq_by_cmp, Cmp.eq_by_cmp_equiv}
 use mathlib.Core.Bool.{true≢false}
-use Rattle.xa_xid.specs.declared.xid.Xid.{Xid}
-use Rattle.xa_xid.specs.Xid.{xid_cmp}
-use Rattle.xa_xid.proofs.Orders.{xids_total, exact_xids}
+use Rattle.xa_xid.{specs.{declared.xid.Xid.Xid, Xid.xid_cmp}, proofs.Orders.{xids_total, exact_xids}}
 use Rattle.xa_server.proofs.Maps.{same_itself, same_is}
-use Rattle.xa_audit.specs.declared.lives.Lives.{Lives}
-use Rattle.xa_audit.specs.declared.branch.Branch.{Branch}
-use Rattle.xa_audit.specs.declared.global.GlobalName.{GlobalName}
+use Rattle.xa_audit.specs.declared.{lives.Lives.Lives, branch.Branch.Branch, global.GlobalName.GlobalName}
 use Rattle.xa_audit.specs.declared.verdict.Verdict.TheVariants.{Mixed}
-use Rattle.xa_audit.specs.Branches.{IsIndex, lives_in, branch_in, AreBranches}
-use Rattle.xa_audit.specs.Deeds.{deeds_in, deeds_about}
+use Rattle.xa_audit.specs.{Branches.{IsIndex, lives_in, branch_in, AreBranches}, Deeds.{deeds_in, deeds_about}}
 use Rattle.xa_audit.specs.Globals.{Global, IsAccount, global_cmp, global_of, is_of, if_any, took, failed, verdict_of}
-use Rattle.xa_audit.specs.Laws.{is_commit, failed_in, HasCommitted, HasDropped}
-use Rattle.xa_audit.proofs.Failing.{fails_iff}
-use Rattle.xa_audit.proofs.Groups.{globals_total, exact_globals}
-use Rattle.xa_audit.proofs.Taking.{took_by}
-use Rattle.xa_audit.proofs.Verdicts.{mixed_iff}
+use Rattle.xa_audit.{specs.Laws.{is_commit, failed_in, HasCommitted, HasDropped}, proofs.Failing.fails_iff}
+use Rattle.xa_audit.proofs.{Groups.{globals_total, exact_globals}, Taking.took_by, Verdicts.mixed_iff}
 
 -- in one of the histories a branch has lives that, with its identifier, pass a test, whatever the number of its store
 record IsFound (test : Xid × Lives → Bool) (histories : List (List ℕ)) : Type 0 where

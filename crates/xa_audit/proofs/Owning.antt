@@ -1,37 +1,24 @@
 -- What a session owns after its own accepted statement.
 use Rattle.std.proofs.Common.{◌≡◌, ◌≢◌, ℕ, refl, ap, sym, ◌∙◌, subst, eq-eqb, eqb-true, Bool, true, false, ◌⊎◌, inl}
-use Rattle.std.proofs.Common.{inr}
-use Rattle.std.specs.Prelude.{Option, Some, None, cond, ◌==◌}
-use Rattle.std.specs.Option.{option_map, option_map_or}
-use Rattle.std.specs.FinMap as map
-use mathlib.Core.Bool.{true≢false}
-use Rattle.xa_xid.specs.declared.xid.Xid.{Xid}
+use Rattle.std.{proofs.Common.inr, specs.{Prelude.{Option, Some, None, cond, ◌==◌}, Option.{option_map, option_map_or}}}
 use Rattle.std.specs.FinMap.{get-empty}
-use Rattle.xa_xid.specs.Xid.{xid_cmp, same_xid}
+use mathlib.Core.Bool.{true≢false}
+use Rattle.xa_xid.specs.declared.{xid.Xid.Xid, statement.Statement.{Statement, TheVariants.{Start, End, Prepare}}}
+use Rattle.xa_xid.specs.declared.statement.Statement.TheVariants.{Commit, Rollback, Recover, Unsupported, Get, Put, Del}
+use Rattle.xa_xid.specs.{declared.statement.Statement.TheVariants.Disconnect, Xid.{xid_cmp, same_xid}}
 use Rattle.xa_xid.proofs.Orders.{xids_total, exact_xids}
-use Rattle.xa_xid.specs.declared.statement.Statement.{Statement}
-use Rattle.xa_xid.specs.declared.statement.Statement.TheVariants.{Start, End, Prepare, Commit, Rollback, Recover}
-use Rattle.xa_xid.specs.declared.statement.Statement.TheVariants.{Unsupported, Get, Put, Del, Disconnect}
-use Rattle.xa_server.specs.declared.branch.Phase.{Phase}
-use Rattle.xa_server.specs.declared.branch.Phase.TheVariants.{Active as PhaseActive, Idle as PhaseIdle}
-use Rattle.xa_server.specs.declared.branch.Phase.TheVariants.{Prepared as PhasePrepared}
-use Rattle.xa_server.specs.declared.association.Association.{Association}
-use Rattle.xa_server.specs.declared.association.Association.TheVariants.{Free, Active, Idle}
-use Rattle.xa_server.specs.State.{Branch, State, no_state, is_prepared, is_prepared_phase, owner_at, owns, own_xid}
-use Rattle.xa_server.specs.State.{phase_at, association_in, association_of, IsOpen}
-use Rattle.xa_server.specs.Locks.{LockLaw}
-use Rattle.xa_server.specs.Replies.{table, reply_to}
-use Rattle.xa_server.specs.Step.{started_by, with_lock, with_own_write, is_refused, after}
-use Rattle.xa_server.proofs.Maps.{same_itself}
-use Rattle.xa_server.proofs.Index.{not_none}
-use Rattle.xa_server.proofs.Seen.{owned_is}
-use Rattle.xa_server.proofs.Changes.{idle, detached, branch_after, effect-branch, accepted_done}
-use Rattle.xa_server.proofs.Accepted.{accepted_there, open_association, own_is}
-use Rattle.xa_server.proofs.Others.{is_owned, IsOwn, own_association, own_found, none_found, find_owned, owned_before}
-use Rattle.xa_server.proofs.Others.{IsStarted, IsFinishable, accepted_prepare_own, accepted_commit_own}
-use Rattle.xa_server.proofs.Others.{accepted_rollback_own, others_left}
-use Rattle.xa_audit.specs.declared.owned.Owned.{Owned}
-use Rattle.xa_audit.specs.Following.{own_after, owned_at, IsFollowed}
+use Rattle.xa_server.specs.declared.{branch.Phase.Phase, association.Association.Association}
+use Rattle.xa_server.specs.{declared.association.Association.TheVariants.{Free, Active, Idle}, State.{Branch, State}}
+use Rattle.xa_server.specs.State.{no_state, is_prepared, is_prepared_phase, owner_at, owns, own_xid, phase_at}
+use Rattle.xa_server.specs.{State.{association_in, association_of, IsOpen}, Locks.LockLaw, Replies.{table, reply_to}}
+use Rattle.xa_server.{specs.Step.{started_by, with_lock, with_own_write, is_refused, after}, proofs.Maps.same_itself}
+use Rattle.xa_server.proofs.{Index.not_none, Seen.owned_is, Accepted.{accepted_there, open_association, own_is}}
+use Rattle.xa_server.proofs.{Changes.{idle, detached, branch_after, effect-branch, accepted_done}, Others.is_owned}
+use Rattle.xa_server.proofs.Others.{IsOwn, own_association, own_found, none_found, find_owned, owned_before, IsStarted}
+use Rattle.xa_server.proofs.Others.{IsFinishable, accepted_prepare_own, accepted_commit_own, accepted_rollback_own}
+use Rattle.xa_server.proofs.Others.{others_left}
+use Rattle.xa_audit.specs.{declared.owned.Owned.Owned, Following.{own_after, owned_at, IsFollowed}}
+use Rattle.std.specs.FinMap as map
 
 -- a test can't hold and fail
 never : {A : Type 0} (b : Bool) → b ≡ false → b ≡ true → A
@@ -241,11 +228,11 @@ free_owns state session law free xid e = by (map.get state.branches xid) refl
         owner = owned_is (owner_at state xid) session e
 
         phase : (phase : Phase) → branch.phase ≡ phase → ⊥
-        phase PhaseActive p = no_active xid (sym (ap (λ f. association_in f xid) (at_phase PhaseActive p)) ∙ here)
-        phase PhaseIdle p = no_idle xid (sym (ap (λ f. association_in f xid) (at_phase PhaseIdle p)) ∙ here)
-        phase PhasePrepared p =
+        phase Phase.Active p = no_active xid (sym (ap (λ f. association_in f xid) (at_phase Phase.Active p)) ∙ here)
+        phase Phase.Idle p = no_idle xid (sym (ap (λ f. association_in f xid) (at_phase Phase.Idle p)) ∙ here)
+        phase Phase.Prepared p =
             not_none session
-            (sym (law.detached xid (ap (λ f. option_map_or is_prepared_phase f false) (at_phase PhasePrepared p)))
+            (sym (law.detached xid (ap (λ f. option_map_or is_prepared_phase f false) (at_phase Phase.Prepared p)))
             ∙ owner)
 
 -- if the branch `xid` is the session's own, or is PREPARED while the session is free, the session owns no other

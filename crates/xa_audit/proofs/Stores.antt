@@ -3,11 +3,8 @@ use Rattle.std.proofs.Common.{◌≡◌, ℕ, ◌+◌, List, [], ◌∷◌, ◌+
 use Rattle.std.proofs.Common.{append_assoc, append-nil, length-append}
 use mathlib.Core.Bool.{true≢false}
 use Rattle.xa_lines.specs.Script.{lines_of}
-use Rattle.xa_audit.specs.declared.audit.Audit.{Audit}
-use Rattle.xa_audit.specs.declared.branch.Branch.{Branch}
-use Rattle.xa_audit.specs.Histories.{faults_in, faults_from, faults_of}
-use Rattle.xa_audit.specs.Branches.{AreBranchesOf, AreBranches}
-use Rattle.xa_audit.specs.Audits.{IsAuditOf}
+use Rattle.xa_audit.specs.{declared.{audit.Audit.Audit, branch.Branch.Branch}, Audits.IsAuditOf}
+use Rattle.xa_audit.specs.{Histories.{faults_in, faults_from, faults_of}, Branches.{AreBranchesOf, AreBranches}}
 
 -- one history more adds its faults behind the others', under the next store's number
 pub faults_more : (store : ℕ) (histories : List (List ℕ)) (history : List ℕ)

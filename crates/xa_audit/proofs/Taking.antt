@@ -1,14 +1,8 @@
 -- A branch takes by an accepted XA COMMIT.
 use Rattle.std.proofs.Common.{◌≡◌, List, [], ◌∷◌, ◌++◌, refl, ap, sym, ◌∙◌, Bool, true, false}
-use Rattle.std.specs.Prelude.{Option, Some, None, ◌||◌}
-use Rattle.std.specs.List.{list_any}
-use Rattle.std.specs.Option.{option_map_or, unwrap_or}
-use Rattle.xa_audit.specs.declared.deed.Deed.{Deed}
-use Rattle.xa_audit.specs.declared.deed.Deed.TheVariants.{Starts, Writes, Prepares, Commits, RollsBack}
-use Rattle.xa_audit.specs.declared.lives.Life.{Life}
-use Rattle.xa_audit.specs.declared.lives.Lives.{Lives}
-use Rattle.xa_audit.specs.Globals.{is_committed}
-use Rattle.xa_audit.specs.Laws.{is_commit}
+use Rattle.std.specs.{Prelude.{Option, Some, None, ◌||◌}, List.list_any, Option.{option_map_or, unwrap_or}}
+use Rattle.xa_audit.specs.declared.deed.Deed.{Deed, TheVariants.{Starts, Writes, Prepares, Commits, RollsBack}}
+use Rattle.xa_audit.specs.{declared.lives.{Life.Life, Lives.Lives}, Globals.is_committed, Laws.is_commit}
 use Rattle.xa_audit.specs.Lives.{no_lives, noted, dropped, dropped_by, left_by, left_going, ends_in, lives_after}
 
 -- of three tests, it doesn't matter which two are taken first

@@ -1,11 +1,10 @@
 -- What is written for each element of a list: texts, elements of a JSON array, faults of lines; and four counts in a
 -- row.
 use Rattle.std.proofs.Common.{◌≡◌, ℕ, ◌+◌, ◌<◌, ◌≤◌, List, [], ◌∷◌, ◌++◌, length, drop, get_or, refl, ap, sym, ◌∙◌}
-use Rattle.std.proofs.Common.{Bool, true, false, ◌==◌, arith, append_assoc, append-nil}
-use Rattle.std.proofs.lemmas.Grind.{common_steps}
+use Rattle.std.proofs.{Common.{Bool, true, false, ◌==◌, arith, append_assoc, append-nil}, lemmas.Grind.common_steps}
+use Rattle.std.proofs.lemmas.List.{drop_more, drop_all}
 use Rattle.xa_lines.specs.Script.{lines_of}
 use Rattle.xa_audit.specs.Histories.{said_on, fault_said, faults_in}
-use Rattle.std.proofs.lemmas.List.{drop_more, drop_all}
 use Rattle.xa_audit.specs.Written.{each_text, comma_unless, comma_before, each_json}
 
 -- the loop over elements: the text of one more is written, and those behind it are left

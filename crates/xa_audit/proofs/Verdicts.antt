@@ -1,10 +1,8 @@
 -- When the verdict on a global transaction is MIXED.
-use Rattle.std.proofs.Common.{◌≡◌, ◌↔◌, List, refl, sym, Bool, true, false}
-use Rattle.std.specs.Prelude.{◌&&◌, if◌then◌else◌}
+use Rattle.std.{proofs.Common.{◌≡◌, ◌↔◌, List, refl, sym, Bool, true, false}, specs.Prelude.{◌&&◌, if◌then◌else◌}}
 use Rattle.std.specs.List.{list_any}
 use mathlib.Core.Bool.{true≢false}
-use Rattle.xa_audit.specs.declared.branch.Branch.{Branch}
-use Rattle.xa_audit.specs.declared.verdict.Verdict.TheVariants.{Atomic, Mixed, InDoubt, Open}
+use Rattle.xa_audit.specs.declared.{branch.Branch.Branch, verdict.Verdict.TheVariants.{Atomic, Mixed, InDoubt, Open}}
 use Rattle.xa_audit.specs.Globals.{took, failed, ends_as, is_in_doubt, is_open, verdict_of}
 
 -- if a verdict is MIXED, its two conditions hold

@@ -7,19 +7,10 @@
 --     AfterAuditFault   what a fault leaves in the writer
 use Rattle.std.specs.Prelude.{◌≡◌, ℕ, ◌==◌, Bool, true, false, Option, List, [], ◌∷◌, length}
 use Rattle.std.specs.Io.KnownBytes.{Keeps, Appends}
-use Rattle.xa_lines.specs.declared.script_fault.ScriptFault.{ScriptFault}
-use Rattle.xa_lines.specs.declared.script_fault.ScriptFault.TheVariants.{Read, TooLong, Write, NoMemory, Full, GateShut}
-use Rattle.xa_lines.specs.declared.script_fault.ScriptFault.TheVariants.{ThreadRefused}
-use Rattle.xa_lines.specs.Transcript.{AppendsPrefix}
-use Rattle.xa_audit.specs.declared.audit.Audit.{Audit}
-use Rattle.xa_audit.specs.declared.ended.Ended.{Ended}
-use Rattle.xa_audit.specs.declared.ended.Ended.TheVariants.{AllAtomic, SomeNotAtomic, Unread}
-use Rattle.xa_audit.specs.declared.form.Form.{Form}
-use Rattle.xa_audit.specs.declared.verdict.Verdict.TheVariants.{Atomic}
-use Rattle.xa_audit.specs.Histories.{faults_of}
-use Rattle.xa_audit.specs.Branches.{AreBranches}
-use Rattle.xa_audit.specs.Globals.{Global, IsAccount, count_of}
-use Rattle.xa_audit.specs.Written.{text_in}
+use Rattle.xa_lines.specs.{declared.script_fault.ScriptFault.ScriptFault, Transcript.AppendsPrefix}
+use Rattle.xa_audit.specs.declared.{audit.Audit.Audit, ended.Ended.Ended, form.Form.Form}
+use Rattle.xa_audit.specs.{declared.verdict.Verdict.TheVariants.Atomic, Histories.faults_of, Branches.AreBranches}
+use Rattle.xa_audit.specs.{Globals.{Global, IsAccount, count_of}, Written.text_in}
 
 -- the greatest length of a history that is read: 16 MiB, as of a record
 abbrev pub history_bytes : ℕ
@@ -34,8 +25,8 @@ pub record IsAuditOf (histories : List (List ℕ)) (audit : Audit) : Type 0 wher
 
 -- how an audit ends, by whether each global transaction is ATOMIC
 abbrev pub ended_by : Bool → Ended
-ended_by true = AllAtomic
-ended_by false = SomeNotAtomic
+ended_by true = Ended.AllAtomic
+ended_by false = Ended.SomeNotAtomic
 
 -- how an audit ends: whether every global transaction is atomic
 unfoldable pub ended_of : List Global → Ended
@@ -46,7 +37,7 @@ ended_of globals = ended_by (count_of Atomic globals == length globals)
 abbrev pub IsAuditedWith : List ℕ → List (List ℕ) → Form → Ended → List ℕ → Type 0
 IsAuditedWith [] histories form ended text =
     (globals : List Global) × IsAccount histories globals × (ended ≡ ended_of globals) × (text ≡ text_in form globals)
-IsAuditedWith (byte ∷ faults) histories form ended text = (ended ≡ Unread) × (text ≡ byte ∷ faults)
+IsAuditedWith (byte ∷ faults) histories form ended text = (ended ≡ Ended.Unread) × (text ≡ byte ∷ faults)
 
 -- an audit of these histories ends so, and this is written in the form
 abbrev pub IsAudited : List (List ℕ) → Form → Ended → List ℕ → Type 0
@@ -64,10 +55,10 @@ AppendsAuditPrefix histories form old new =
 -- what a fault leaves in the writer: a prefix of the text if a write failed, nothing if there was no memory. No other
 -- fault occurs
 abbrev pub AfterAuditFault : List (List ℕ) → Form → ScriptFault → Option (List ℕ) → Option (List ℕ) → Type 0
-AfterAuditFault histories form Read old new = ⊥
-AfterAuditFault histories form TooLong old new = ⊥
-AfterAuditFault histories form Write old new = AppendsAuditPrefix histories form old new
-AfterAuditFault histories form NoMemory old new = Keeps old new
-AfterAuditFault histories form Full old new = ⊥
-AfterAuditFault histories form GateShut old new = ⊥
-AfterAuditFault histories form ThreadRefused old new = ⊥
+AfterAuditFault histories form ScriptFault.Read old new = ⊥
+AfterAuditFault histories form ScriptFault.TooLong old new = ⊥
+AfterAuditFault histories form ScriptFault.Write old new = AppendsAuditPrefix histories form old new
+AfterAuditFault histories form ScriptFault.NoMemory old new = Keeps old new
+AfterAuditFault histories form ScriptFault.Full old new = ⊥
+AfterAuditFault histories form ScriptFault.GateShut old new = ⊥
+AfterAuditFault histories form ScriptFault.ThreadRefused old new = ⊥

@@ -3,16 +3,10 @@
 --     lives_in             the lives of a branch in a history
 --     AreBranchesOf        the branches of one store
 --     AreBranches          those of every store, in the order of the stores
-use Rattle.std.specs.Prelude.{◌≡◌, ℕ, ◌+◌, None, Option, List, [], ◌∷◌, ◌++◌, map}
-use Rattle.std.specs.declared.cmp.Ordering.{Ordering}
-use Rattle.std.specs.List.Sorted.{IsStrictlySortedBy}
-use Rattle.std.specs.Map.{lookup, keys_of}
-use Rattle.std.specs.BTreeMap.{is_at}
-use Rattle.xa_xid.specs.declared.xid.Xid.{Xid}
-use Rattle.xa_xid.specs.Xid.{xid_cmp}
-use Rattle.xa_audit.specs.Deeds.{deeds_in, deeds_about}
-use Rattle.xa_audit.specs.Lives.{lives_after, ends_in}
-use Rattle.xa_audit.specs.declared.lives.Lives.{Lives}
+use Rattle.std.specs.{Prelude.{◌≡◌, ℕ, ◌+◌, None, Option, List, [], ◌∷◌, ◌++◌, map}, declared.cmp.Ordering.Ordering}
+use Rattle.std.specs.{List.Sorted.IsStrictlySortedBy, Map.{lookup, keys_of}, BTreeMap.is_at}
+use Rattle.xa_xid.specs.{declared.xid.Xid.Xid, Xid.xid_cmp}
+use Rattle.xa_audit.specs.{Deeds.{deeds_in, deeds_about}, Lives.{lives_after, ends_in}, declared.lives.Lives.Lives}
 use Rattle.xa_audit.specs.declared.branch.Branch.{Branch}
 
 -- the keys of the entries ascend, and looking up a key finds what is told of it, or nothing

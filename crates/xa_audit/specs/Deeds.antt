@@ -3,35 +3,26 @@
 --     deeds_from      the deeds of statements, beginning in a state
 --     deeds_in        the deeds of a history, by a server that holds nothing at first
 --     deeds_about     the deeds that are about one branch
-use Rattle.std.specs.Prelude.{ℕ, cond, Option, Some, None, option_to_list, List, [], ◌∷◌, ◌++◌}
-use Rattle.std.specs.Option.{option_map}
-use Rattle.xa_xid.specs.declared.xid.Xid.{Xid}
-use Rattle.xa_xid.specs.Xid.{same_xid}
-use Rattle.xa_xid.specs.declared.statement.Statement.{Statement}
-use Rattle.xa_xid.specs.declared.statement.Statement.TheVariants.{Start, End, Prepare, Commit, Rollback, Recover}
-use Rattle.xa_xid.specs.declared.statement.Statement.TheVariants.{Unsupported, Get, Put, Del, Disconnect}
-use Rattle.xa_server.specs.State.{State, no_state, own_xid}
-use Rattle.xa_server.specs.Replies.{reply_to}
-use Rattle.xa_server.specs.Step.{after, is_refused}
+use Rattle.std.specs.{Prelude.{ℕ, cond, Option, Some, None, option_to_list, List, [], ◌∷◌, ◌++◌}, Option.option_map}
+use Rattle.xa_xid.specs.{declared.{xid.Xid.Xid, statement.Statement.Statement}, Xid.same_xid}
+use Rattle.xa_server.specs.{State.{State, no_state, own_xid}, Replies.reply_to, Step.{after, is_refused}}
 use Rattle.xa_lines.specs.Script.{lines_of}
-use Rattle.xa_audit.specs.Histories.{statements_in}
-use Rattle.xa_audit.specs.declared.deed.Deed.{Deed}
-use Rattle.xa_audit.specs.declared.deed.Deed.TheVariants.{Starts, Writes, Prepares, Commits, RollsBack}
+use Rattle.xa_audit.specs.{Histories.statements_in, declared.deed.Deed.Deed}
 
 -- what an accepted statement does: XA START, PREPARE, COMMIT and ROLLBACK name the branch; PUT, DEL and DISCONNECT are
 -- about the one that the session owns, if it owns one. The others change no life
 abbrev pub deed_by : Option Xid → Statement → Option (Xid × Deed)
-deed_by own (Start xid) = Some (xid, Starts)
-deed_by own (End xid) = None
-deed_by own (Prepare xid) = Some (xid, Prepares)
-deed_by own (Commit xid one_phase) = Some (xid, Commits)
-deed_by own (Rollback xid) = Some (xid, RollsBack)
-deed_by own (Recover convert) = None
-deed_by own Unsupported = None
-deed_by own (Get key) = None
-deed_by own (Put key value) = option_map (λ xid. (xid, Writes)) own
-deed_by own (Del key) = option_map (λ xid. (xid, Writes)) own
-deed_by own Disconnect = option_map (λ xid. (xid, RollsBack)) own
+deed_by own (Statement.Start xid) = Some (xid, Deed.Starts)
+deed_by own (Statement.End xid) = None
+deed_by own (Statement.Prepare xid) = Some (xid, Deed.Prepares)
+deed_by own (Statement.Commit xid one_phase) = Some (xid, Deed.Commits)
+deed_by own (Statement.Rollback xid) = Some (xid, Deed.RollsBack)
+deed_by own (Statement.Recover convert) = None
+deed_by own Statement.Unsupported = None
+deed_by own (Statement.Get key) = None
+deed_by own (Statement.Put key value) = option_map (λ xid. (xid, Deed.Writes)) own
+deed_by own (Statement.Del key) = option_map (λ xid. (xid, Deed.Writes)) own
+deed_by own Statement.Disconnect = option_map (λ xid. (xid, Deed.RollsBack)) own
 
 -- what a statement does in this state: nothing, if it is refused
 unfoldable pub deed_of : State → ℕ → Statement → Option (Xid × Deed)

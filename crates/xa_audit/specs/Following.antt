@@ -4,38 +4,26 @@
 --     IsFollowed     the branches that are kept for sessions are those that they own
 --     PutsAt         a map after a value was put at a key
 --     Notes          what is kept of lives after a statement
-use Rattle.std.specs.Prelude.{◌≡◌, ℕ, cond, Option, Some, None, slice_index_or}
-use Rattle.std.specs.Option.{unwrap_or}
-use Rattle.std.specs.BTreeMap.{BTreeMap, get, is_at}
-use Rattle.std.specs.declared.cmp.Ordering.{Ordering}
-use Rattle.xa_xid.specs.declared.xid.Xid.{Xid}
-use Rattle.xa_xid.specs.Xid.{xid_cmp}
-use Rattle.xa_xid.specs.declared.statement.Statement.{Statement}
-use Rattle.xa_xid.specs.declared.statement.Statement.TheVariants.{Start, End, Prepare, Commit, Rollback, Recover}
-use Rattle.xa_xid.specs.declared.statement.Statement.TheVariants.{Unsupported, Get, Put, Del, Disconnect}
-use Rattle.xa_server.specs.State.{State, own_xid}
-use Rattle.xa_server.specs.Step.{after}
-use Rattle.xa_audit.specs.Deeds.{deed_of}
-use Rattle.xa_audit.specs.declared.said.Said.{Said}
-use Rattle.xa_audit.specs.declared.said.Said.TheVariants.{Nothing, Given, Unread}
-use Rattle.xa_audit.specs.Lives.{no_lives, noted}
-use Rattle.xa_audit.specs.declared.deed.Deed.{Deed}
-use Rattle.xa_audit.specs.declared.lives.Lives.{Lives}
-use Rattle.xa_audit.specs.declared.owned.Owned.{Owned}
+use Rattle.std.specs.{Prelude.{◌≡◌, ℕ, cond, Option, Some, None, slice_index_or}, Option.unwrap_or}
+use Rattle.std.specs.{BTreeMap.{BTreeMap, get, is_at}, declared.cmp.Ordering.Ordering}
+use Rattle.xa_xid.specs.{declared.{xid.Xid.Xid, statement.Statement.Statement}, Xid.xid_cmp}
+use Rattle.xa_server.specs.{State.{State, own_xid}, Step.after}
+use Rattle.xa_audit.specs.{Deeds.deed_of, declared.said.Said.{Said, TheVariants.{Nothing, Given, Unread}}}
+use Rattle.xa_audit.specs.{declared.{deed.Deed.Deed, lives.Lives.Lives, owned.Owned.Owned}, Lives.{no_lives, noted}}
 
 -- what a session owns after its statement was accepted, by what it owned before
 abbrev pub own_after : Option Xid → Statement → Option Xid
-own_after own (Start xid) = Some xid
-own_after own (End xid) = own
-own_after own (Prepare xid) = None
-own_after own (Commit xid one_phase) = None
-own_after own (Rollback xid) = None
-own_after own (Recover convert) = own
-own_after own Unsupported = own
-own_after own (Get key) = own
-own_after own (Put key value) = own
-own_after own (Del key) = own
-own_after own Disconnect = None
+own_after own (Statement.Start xid) = Some xid
+own_after own (Statement.End xid) = own
+own_after own (Statement.Prepare xid) = None
+own_after own (Statement.Commit xid one_phase) = None
+own_after own (Statement.Rollback xid) = None
+own_after own (Statement.Recover convert) = own
+own_after own Statement.Unsupported = own
+own_after own (Statement.Get key) = own
+own_after own (Statement.Put key value) = own
+own_after own (Statement.Del key) = own
+own_after own Statement.Disconnect = None
 
 -- the state after the statement that a line gives; as it was, if the line gives none
 abbrev pub state_said : State → Said → State

@@ -5,20 +5,11 @@
 --     verdict_of        the verdict on a global transaction
 --     count_of          how many have this verdict
 use Rattle.std.specs.Prelude.{ℕ, ◌+◌, Bool, true, false, not, ◌&&◌, cond, if◌then◌else◌, Option, Some, None, List, []}
-use Rattle.std.specs.Prelude.{◌∷◌, filter}
-use Rattle.std.specs.List.{list_any}
-use Rattle.std.specs.Option.{option_map_or}
-use Rattle.std.specs.declared.cmp.Ordering.{Ordering}
+use Rattle.std.specs.{Prelude.{◌∷◌, filter}, List.list_any, Option.option_map_or, declared.cmp.Ordering.Ordering}
 use Rattle.std.specs.Ordering.{nat_cmp, ordering_then, eq_by_cmp}
-use Rattle.xa_xid.specs.declared.xid.Xid.{Xid}
-use Rattle.xa_xid.specs.Xid.{bytes_cmp}
-use Rattle.xa_audit.specs.declared.ends.End.{End}
-use Rattle.xa_audit.specs.declared.ends.End.TheVariants.{Committed, RolledBack, InDoubt, Open}
-use Rattle.xa_audit.specs.declared.branch.Branch.{Branch}
-use Rattle.xa_audit.specs.declared.global.GlobalName.{GlobalName}
-use Rattle.xa_audit.specs.declared.verdict.Verdict.{Verdict}
-use Rattle.xa_audit.specs.declared.verdict.Verdict.TheVariants.{Atomic, Mixed, InDoubt as LeftInDoubt, Open as LeftOpen}
-use Rattle.xa_audit.specs.Branches.{IsIndex, AreBranches}
+use Rattle.xa_xid.specs.{declared.xid.Xid.Xid, Xid.bytes_cmp}
+use Rattle.xa_audit.specs.declared.{ends.End.End, branch.Branch.Branch, global.GlobalName.GlobalName}
+use Rattle.xa_audit.specs.{declared.verdict.Verdict.Verdict, Branches.{IsIndex, AreBranches}}
 
 -- the order of global transactions: by formatID, then gtrid
 abbrev pub global_cmp : GlobalName → GlobalName → Ordering
@@ -49,22 +40,22 @@ pub record IsAccount (histories : List (List ℕ)) (globals : List Global) : Typ
 
 -- the life ended in a commit
 abbrev pub is_committed : End → Bool
-is_committed Committed = true
+is_committed End.Committed = true
 is_committed end = false
 
 -- whether a life ended in a rollback of its writes
 abbrev pub is_rolled_back : End → Bool
-is_rolled_back RolledBack = true
+is_rolled_back End.RolledBack = true
 is_rolled_back end = false
 
 -- the life is left PREPARED
 abbrev pub is_in_doubt : End → Bool
-is_in_doubt InDoubt = true
+is_in_doubt End.InDoubt = true
 is_in_doubt end = false
 
 -- the life is left ACTIVE or IDLE
 abbrev pub is_open : End → Bool
-is_open Open = true
+is_open End.Open = true
 is_open end = false
 
 -- how the last life ends; None if there is none
@@ -89,16 +80,16 @@ failed branch = not (took branch) && ends_as is_rolled_back branch
 -- last life of some branch is; else ATOMIC
 abbrev pub verdict_of : List Branch → Verdict
 verdict_of branches =
-    if list_any took branches && list_any failed branches then Mixed
-    else (if list_any (ends_as is_in_doubt) branches then LeftInDoubt else (if list_any
-    (ends_as is_open) branches then LeftOpen else Atomic))
+    if list_any took branches && list_any failed branches then Verdict.Mixed
+    else (if list_any (ends_as is_in_doubt) branches then Verdict.InDoubt else (if list_any
+    (ends_as is_open) branches then Verdict.Open else Verdict.Atomic))
 
 -- whether two verdicts are the same
 abbrev pub same_verdict : Verdict → Verdict → Bool
-same_verdict Atomic Atomic = true
-same_verdict Mixed Mixed = true
-same_verdict LeftInDoubt LeftInDoubt = true
-same_verdict LeftOpen LeftOpen = true
+same_verdict Verdict.Atomic Verdict.Atomic = true
+same_verdict Verdict.Mixed Verdict.Mixed = true
+same_verdict Verdict.InDoubt Verdict.InDoubt = true
+same_verdict Verdict.Open Verdict.Open = true
 same_verdict verdict other = false
 
 -- how many global transactions have this verdict

@@ -7,10 +7,8 @@
 use Rattle.std.specs.Prelude.{ℕ, ◌+◌, if◌then◌else◌, Result, Ok, Err, List, [], ◌∷◌, ◌++◌, codes, decimal}
 use Rattle.xa_xid.specs.declared.statement.Statement.{Statement}
 use Rattle.xa_statement.specs.Reading.{read_of}
-use Rattle.xa_lines.specs.Script.{Line, Blank, Bad, Given, line_of, lines_of, is_comment_line}
-use Rattle.xa_lines.specs.Printed.{syntax_text}
-use Rattle.xa_audit.specs.declared.said.Said.{Said}
-use Rattle.xa_audit.specs.declared.said.Said.TheVariants.{Nothing, Given as Gives, Unread}
+use Rattle.xa_lines.specs.{Script.{Line, Blank, Bad, Given, line_of, lines_of, is_comment_line}, Printed.syntax_text}
+use Rattle.xa_audit.specs.declared.said.Said.{Said, TheVariants.{Nothing, Given as Gives, Unread}}
 
 -- what a line says, by how its text was read
 abbrev pub said_by : ℕ → Result Statement ℕ → Said

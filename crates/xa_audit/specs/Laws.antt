@@ -6,25 +6,19 @@
 --     failed_in     the branch failed in the history of a store
 --     FailsBy       by its deeds, a branch had no accepted XA COMMIT, and the writes of its last life were dropped
 --     HasCommitted, HasDropped     a branch of a global transaction was committed;  one failed by dropped writes
-use Rattle.std.specs.Prelude.{◌≡◌, Bool, true, false, List, ◌∷◌, ◌++◌, ℕ}
-use Rattle.std.specs.List.{list_any, list_all, Contains}
+use Rattle.std.specs.{Prelude.{◌≡◌, Bool, true, false, List, ◌∷◌, ◌++◌, ℕ}, List.{list_any, list_all, Contains}}
 use Rattle.std.specs.Option.{option_map_or}
 use Rattle.xa_xid.specs.declared.xid.Xid.{Xid}
-use Rattle.xa_audit.specs.declared.deed.Deed.{Deed}
-use Rattle.xa_audit.specs.declared.deed.Deed.TheVariants.{Starts, Writes, Prepares, Commits, RollsBack}
-use Rattle.xa_audit.specs.declared.global.GlobalName.{GlobalName}
-use Rattle.xa_audit.specs.Branches.{lives_in, branch_in}
-use Rattle.xa_audit.specs.Deeds.{deeds_in, deeds_about}
-use Rattle.xa_audit.specs.Globals.{is_committed, failed, global_of}
-use Rattle.xa_audit.specs.Lives.{ends_in}
+use Rattle.xa_audit.specs.{declared.{deed.Deed.Deed, global.GlobalName.GlobalName}, Branches.{lives_in, branch_in}}
+use Rattle.xa_audit.specs.{Deeds.{deeds_in, deeds_about}, Globals.{is_committed, failed, global_of}, Lives.ends_in}
 
 -- the deed is a commit
 abbrev pub is_commit : Deed → Bool
-is_commit Starts = false
-is_commit Writes = false
-is_commit Prepares = false
-is_commit Commits = true
-is_commit RollsBack = false
+is_commit Deed.Starts = false
+is_commit Deed.Writes = false
+is_commit Deed.Prepares = false
+is_commit Deed.Commits = true
+is_commit Deed.RollsBack = false
 
 -- some life of the branch is COMMITTED in the history
 abbrev pub took_in : List ℕ → Xid → Bool
@@ -32,26 +26,26 @@ took_in history xid = option_map_or (λ lives. list_any is_committed (ends_in li
 
 -- the deed is a write
 abbrev pub is_write : Deed → Bool
-is_write Starts = false
-is_write Writes = true
-is_write Prepares = false
-is_write Commits = false
-is_write RollsBack = false
+is_write Deed.Starts = false
+is_write Deed.Writes = true
+is_write Deed.Prepares = false
+is_write Deed.Commits = false
+is_write Deed.RollsBack = false
 
 -- the deed neither begins nor ends a life
 abbrev pub is_within : Deed → Bool
-is_within Starts = false
-is_within Writes = true
-is_within Prepares = true
-is_within Commits = false
-is_within RollsBack = false
+is_within Deed.Starts = false
+is_within Deed.Writes = true
+is_within Deed.Prepares = true
+is_within Deed.Commits = false
+is_within Deed.RollsBack = false
 
 -- the last life wrote, and was rolled back: none begins or ends after it
 pub record DropsWrites (deeds : List Deed) : Type 0 where
   pub before : List Deed
   pub life : List Deed
   pub later : List Deed
-  pub cut : deeds ≡ before ++ (Starts ∷ (life ++ (RollsBack ∷ later)))
+  pub cut : deeds ≡ before ++ (Deed.Starts ∷ (life ++ (Deed.RollsBack ∷ later)))
   pub within : list_all is_within life ≡ true
   pub wrote : list_any is_write life ≡ true
   pub last : list_all is_within later ≡ true

@@ -4,12 +4,7 @@
 --     ends_in         how each of the lives ends, in order
 use Rattle.std.specs.Prelude.{Bool, true, false, Option, Some, None, List, [], ◌∷◌, ◌++◌}
 use Rattle.std.specs.Option.{option_map, unwrap_or}
-use Rattle.xa_audit.specs.declared.deed.Deed.{Deed}
-use Rattle.xa_audit.specs.declared.deed.Deed.TheVariants.{Starts, Writes, Prepares, Commits, RollsBack}
-use Rattle.xa_audit.specs.declared.ends.End.{End}
-use Rattle.xa_audit.specs.declared.ends.End.TheVariants.{Committed, RolledBack, Empty, InDoubt, Open}
-use Rattle.xa_audit.specs.declared.lives.Life.{Life}
-use Rattle.xa_audit.specs.declared.lives.Lives.{Lives}
+use Rattle.xa_audit.specs.declared.{deed.Deed.Deed, ends.End.End, lives.{Life.Life, Lives.Lives}}
 
 -- no life is over, and none goes on
 abbrev pub no_lives : Lives
@@ -21,12 +16,12 @@ new_life = record { wrote = false; prepared = false }
 
 -- how a life ends that is rolled back, by whether it wrote: RolledBack, since its writes are dropped, or Empty
 abbrev pub dropped_by : Bool → End
-dropped_by true = RolledBack
-dropped_by false = Empty
+dropped_by true = End.RolledBack
+dropped_by false = End.Empty
 
 -- how a life ends that is rolled back, by whether it wrote; without a life nothing was there to drop
 abbrev pub dropped : Option Life → End
-dropped None = Empty
+dropped None = End.Empty
 dropped (Some life) = dropped_by life.wrote
 
 -- the lives with this end behind the ends of those that are over, and none that goes on
@@ -43,11 +38,11 @@ prepared_life life = record life { prepared = true }
 
 -- the lives after one more deed
 abbrev pub noted : Lives → Deed → Lives
-noted lives Starts = record lives { going = Some new_life }
-noted lives Writes = record lives { going = option_map written_life lives.going }
-noted lives Prepares = record lives { going = option_map prepared_life lives.going }
-noted lives Commits = over_by Committed lives
-noted lives RollsBack = over_by (dropped lives.going) lives
+noted lives Deed.Starts = record lives { going = Some new_life }
+noted lives Deed.Writes = record lives { going = option_map written_life lives.going }
+noted lives Deed.Prepares = record lives { going = option_map prepared_life lives.going }
+noted lives Deed.Commits = over_by End.Committed lives
+noted lives Deed.RollsBack = over_by (dropped lives.going) lives
 
 -- the lives of a branch after these deeds; None if it had none and there is no deed
 unfoldable pub lives_after : Option Lives → List Deed → Option Lives
@@ -56,8 +51,8 @@ lives_after lives (deed ∷ deeds) = lives_after (Some (noted (unwrap_or lives n
 
 -- how a life is left at the history's end, by whether it was prepared
 abbrev pub left_by : Bool → End
-left_by true = InDoubt
-left_by false = Open
+left_by true = End.InDoubt
+left_by false = End.Open
 
 -- the end of the life that goes on at the end of the history, if one does
 abbrev pub left_going : Option Life → List End

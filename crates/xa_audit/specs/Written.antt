@@ -6,23 +6,17 @@
 --     text_in                    in the form that is asked for
 use Rattle.std.specs.Prelude.{ℕ, Bool, true, false, List, [], ◌∷◌, ◌++◌, length, codes, decimal}
 use Rattle.xa_xid.specs.XidText.{part_text}
-use Rattle.xa_audit.specs.declared.ends.End.{End}
-use Rattle.xa_audit.specs.declared.ends.End.TheVariants.{Committed, RolledBack, Empty, InDoubt, Open}
-use Rattle.xa_audit.specs.declared.branch.Branch.{Branch}
-use Rattle.xa_audit.specs.declared.global.GlobalName.{GlobalName}
-use Rattle.xa_audit.specs.declared.verdict.Verdict.{Verdict}
+use Rattle.xa_audit.specs.declared.{ends.End.End, branch.Branch.Branch, global.GlobalName.GlobalName}
+use Rattle.xa_audit.specs.{declared.{verdict.Verdict.Verdict, form.Form.Form}, Globals.{Global, verdict_of, count_of}}
 use Rattle.xa_audit.specs.declared.verdict.Verdict.TheVariants.{Atomic, Mixed, InDoubt as LeftInDoubt, Open as LeftOpen}
-use Rattle.xa_audit.specs.declared.form.Form.{Form}
-use Rattle.xa_audit.specs.declared.form.Form.TheVariants.{Lines, LastLine, Json}
-use Rattle.xa_audit.specs.Globals.{Global, verdict_of, count_of}
 
 -- the words for an end
 abbrev pub end_text : End → List ℕ
-end_text Committed = codes "COMMITTED"
-end_text RolledBack = codes "ROLLED BACK"
-end_text Empty = codes "EMPTY"
-end_text InDoubt = codes "IN DOUBT"
-end_text Open = codes "OPEN"
+end_text End.Committed = codes "COMMITTED"
+end_text End.RolledBack = codes "ROLLED BACK"
+end_text End.Empty = codes "EMPTY"
+end_text End.InDoubt = codes "IN DOUBT"
+end_text End.Open = codes "OPEN"
 
 -- the words for a verdict
 abbrev pub verdict_text : Verdict → List ℕ
@@ -122,6 +116,6 @@ json_text globals =
 
 -- what is written in each form
 abbrev pub text_in : Form → List Global → List ℕ
-text_in Lines globals = lines_text globals
-text_in LastLine globals = last_text globals
-text_in Json globals = json_text globals
+text_in Form.Lines globals = lines_text globals
+text_in Form.LastLine globals = last_text globals
+text_in Form.Json globals = json_text globals

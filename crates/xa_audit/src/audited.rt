@@ -1,8 +1,7 @@
 //! How an audit ends, and what is written for it.
-ghost use Rattle.std.specs.Prelude.{◌≡◌, ℕ, List, IfOk};
 ghost use Rattle.std.specs.BTreeMap as tree;
-ghost use Rattle.xa_audit.specs.Audits.{ended_of as end_of, IsAuditOf, IsAudited};
-ghost use Rattle.xa_audit.specs.Globals.{global_cmp};
+ghost use Rattle.std.specs.Prelude.{◌≡◌, ℕ, List, IfOk};
+ghost use Rattle.xa_audit.specs.{Audits.{ended_of as end_of, IsAuditOf, IsAudited}, Globals.global_cmp};
 ghost use Rattle.xa_audit.specs.Written.{text_in as text_of_globals};
 
 use crate::audit::Audit;

@@ -1,6 +1,6 @@
 //! Lists of branches.
-ghost use Rattle.std.specs.Prelude.{◌≡◌, [], ◌∷◌, ◌++◌, OnOk, map};
 ghost use Rattle.std.specs.BTreeMap as tree;
+ghost use Rattle.std.specs.Prelude.{◌≡◌, [], ◌∷◌, ◌++◌, OnOk, map};
 ghost use Rattle.xa_xid.specs.Xid.{xid_cmp};
 ghost use Rattle.xa_audit.specs.Branches.{branch_in};
 

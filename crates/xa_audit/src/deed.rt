@@ -1,6 +1,5 @@
 //! What accepted statements do to branches.
-ghost use Rattle.std.specs.Prelude.{◌≡◌};
-ghost use Rattle.std.specs.Option.{option_map};
+ghost use Rattle.std.specs.{Prelude.◌≡◌, Option.option_map};
 ghost use Rattle.xa_audit.specs.Deeds.{deed_by as deed_said};
 
 use xa_xid::{Statement, Xid};

@@ -1,9 +1,7 @@
 //! The global transactions of branches.
-ghost use Rattle.std.specs.Prelude.{◌≡◌, ◌++◌, ◌∷◌, [], filter, IfOk, OnOk};
-ghost use Rattle.std.specs.Option.{unwrap_or};
 ghost use Rattle.std.specs.BTreeMap as tree;
-ghost use Rattle.xa_audit.specs.declared.global.GlobalName.{GlobalName as NameSeen};
-ghost use Rattle.xa_audit.specs.Following.{PutsAt};
+ghost use Rattle.std.specs.{Prelude.{◌≡◌, ◌++◌, ◌∷◌, [], filter, IfOk, OnOk}, Option.unwrap_or};
+ghost use Rattle.xa_audit.specs.{declared.global.GlobalName.GlobalName as NameSeen, Following.PutsAt};
 ghost use Rattle.xa_audit.specs.Globals.{global_cmp, is_of, if_any};
 
 use crate::branch::Branch;

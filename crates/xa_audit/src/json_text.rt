@@ -1,7 +1,6 @@
 //! Writes global transactions as an object of JSON.
 ghost use Rattle.std.specs.Prelude.{◌≡◌, ◌≤◌, ◌++◌, length, OnOk, IfOk};
-ghost use Rattle.xa_xid.specs.Limits.{text_bytes};
-ghost use Rattle.xa_xid.specs.XidText.{part_text};
+ghost use Rattle.xa_xid.specs.{Limits.text_bytes, XidText.part_text};
 ghost use Rattle.xa_audit.specs.Written.{string_text, comma_unless, each_json, end_json, branch_json, head_json};
 ghost use Rattle.xa_audit.specs.Written.{tail_json, global_json, counts_json, json_text as json};
 

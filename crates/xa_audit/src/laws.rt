@@ -1,11 +1,8 @@
 //! Laws of audits, each as the contract of a function that does nothing.
-ghost use Rattle.std.specs.Prelude.{◌≡◌, ◌↔◌, ℕ, List, true};
-ghost use Rattle.std.specs.List.{list_any, Contains};
+ghost use Rattle.std.specs.{Prelude.{◌≡◌, ◌↔◌, ℕ, List, true}, List.{list_any, Contains}};
 ghost use Rattle.xa_xid.specs.declared.xid.Xid.{Xid};
-ghost use Rattle.xa_audit.specs.declared.branch.Branch.{Branch};
-ghost use Rattle.xa_audit.specs.declared.verdict.Verdict.TheVariants.{Mixed};
-ghost use Rattle.xa_audit.specs.Deeds.{deeds_in, deeds_about};
-ghost use Rattle.xa_audit.specs.Globals.{Global, IsAccount, took, failed, verdict_of};
+ghost use Rattle.xa_audit.specs.declared.{branch.Branch.Branch, verdict.Verdict.TheVariants.Mixed};
+ghost use Rattle.xa_audit.specs.{Deeds.{deeds_in, deeds_about}, Globals.{Global, IsAccount, took, failed, verdict_of}};
 ghost use Rattle.xa_audit.specs.Laws.{is_commit, took_in, failed_in, FailsBy, HasCommitted, HasDropped};
 
 /// States that a branch took if, and only if, an `XA COMMIT` of it was accepted in its history.

@@ -1,10 +1,8 @@
 //! Writes global transactions as lines.
 ghost use Rattle.std.specs.Prelude.{◌≡◌, ◌≤◌, ◌++◌, length, decimal, OnOk, IfOk};
-ghost use Rattle.xa_xid.specs.Limits.{text_bytes};
-ghost use Rattle.xa_xid.specs.XidText.{part_text};
-ghost use Rattle.xa_audit.specs.Globals.{count_of};
-ghost use Rattle.xa_audit.specs.Written.{end_text, verdict_text, life_text, each_text, branch_text, global_text};
-ghost use Rattle.xa_audit.specs.Written.{last_text as last_line, lines_text as lines};
+ghost use Rattle.xa_xid.specs.{Limits.text_bytes, XidText.part_text};
+ghost use Rattle.xa_audit.specs.{Globals.count_of, Written.{end_text, verdict_text, life_text, each_text, branch_text}};
+ghost use Rattle.xa_audit.specs.Written.{global_text, last_text as last_line, lines_text as lines};
 
 use crate::branch::Branch;
 use crate::branches::Branches;

@@ -1,6 +1,5 @@
 //! The lives of a branch.
-ghost use Rattle.std.specs.Prelude.{◌≡◌, IfOk, OnOk};
-ghost use Rattle.std.specs.Option.{option_map};
+ghost use Rattle.std.specs.{Prelude.{◌≡◌, IfOk, OnOk}, Option.option_map};
 ghost use Rattle.xa_audit.specs.Lives.{no_lives, dropped, written_life, prepared_life, over_by, noted, ends_in};
 
 use crate::deed::Deed;

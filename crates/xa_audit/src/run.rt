@@ -1,11 +1,10 @@
 //! Reads histories from readers, and writes the audit.
 ghost use Rattle.std.specs.Prelude.{◌≡◌, ◌≤◌, ◌<◌, ◌+◌, ◌++◌, ◌∷◌, [], ℕ, List, length, IfOk, IfErr, IfSome, OnOk};
-ghost use Rattle.std.specs.Prelude.{OnErr, Err};
-ghost use Rattle.std.specs.Io.KnownBytes.{IsAtEnd, Consumes};
+ghost use Rattle.std.specs.{Prelude.{OnErr, Err}, Io.KnownBytes.{IsAtEnd, Consumes}};
 ghost use Rattle.xa_lines.specs.Calls.{HasReadAll, StopsReading, HasWritten, StopsWriting};
 ghost use Rattle.xa_lines.specs.Transcript.{ConsumesMoreThan, IsOfReading};
-ghost use Rattle.xa_audit.specs.Audits.{history_bytes, IsAuditOf, IsAudited, AppendsAudit};
-ghost use Rattle.xa_audit.specs.Audits.{AppendsAuditPrefix, AfterAuditFault};
+ghost use Rattle.xa_audit.specs.Audits.{history_bytes, IsAuditOf, IsAudited, AppendsAudit, AppendsAuditPrefix};
+ghost use Rattle.xa_audit.specs.Audits.{AfterAuditFault};
 
 use crate::audit::Audit;
 use crate::audited::audit_text;

@@ -1,14 +1,9 @@
 //! A store that a history is carried out on, and the lives of its branches.
-ghost use Rattle.std.specs.Prelude.{◌≡◌, ◌==◌, ℕ, cond, None, IfOk, OnOk};
-ghost use Rattle.std.specs.Option.{unwrap_or};
 ghost use Rattle.std.specs.BTreeMap as tree;
-ghost use Rattle.xa_xid.specs.declared.xid.Xid.{Xid as XidSeen};
-ghost use Rattle.xa_xid.specs.Xid.{xid_cmp};
-ghost use Rattle.xa_server.specs.State.{no_state};
-ghost use Rattle.xa_server.specs.Step.{after};
-ghost use Rattle.xa_audit.specs.Branches.{lives_in};
-ghost use Rattle.xa_audit.specs.Deeds.{deed_of, deed_by as deed_of_statement};
-ghost use Rattle.xa_audit.specs.Histories.{said_on};
+ghost use Rattle.std.specs.{Prelude.{◌≡◌, ◌==◌, ℕ, cond, None, IfOk, OnOk}, Option.unwrap_or};
+ghost use Rattle.xa_xid.specs.{declared.xid.Xid.Xid as XidSeen, Xid.xid_cmp};
+ghost use Rattle.xa_server.specs.{State.no_state, Step.after};
+ghost use Rattle.xa_audit.specs.{Branches.lives_in, Deeds.{deed_of, deed_by as deed_of_statement}, Histories.said_on};
 ghost use Rattle.xa_audit.specs.Lives.{no_lives, noted};
 ghost use Rattle.xa_audit.specs.Following.{PutsAt, Notes, IsFollowed, owned_at, own_after, state_said, deed_said};
 

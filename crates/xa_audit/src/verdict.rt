@@ -1,8 +1,7 @@
 //! Verdicts on global transactions.
-ghost use Rattle.std.specs.Prelude.{◌≡◌};
-ghost use Rattle.std.specs.List.{list_any};
-ghost use Rattle.xa_audit.specs.Globals.{is_committed, is_in_doubt, is_open, last_end, ends_as};
-ghost use Rattle.xa_audit.specs.Globals.{took as took_by, failed as failed_by, verdict_of as verdict_on, same_verdict};
+ghost use Rattle.std.specs.{Prelude.◌≡◌, List.list_any};
+ghost use Rattle.xa_audit.specs.Globals.{is_committed, is_in_doubt, is_open, last_end, ends_as, took as took_by};
+ghost use Rattle.xa_audit.specs.Globals.{failed as failed_by, verdict_of as verdict_on, same_verdict};
 
 use crate::branch::Branch;
 use crate::ends::End;

@@ -1,18 +1,11 @@
 -- How many entries the session of a store has added, before and after it was used.
-use Rattle.std.proofs.Common.{◌≡◌, ◌<◌, ◌≤◌, ◌+◌, ℕ, List, length, get_or, map, ap, sym, ◌∙◌, inl, inr, Result}
-use Rattle.std.proofs.Common.{Ok, Err, Some, arith, length-append}
+use Rattle.std.proofs.Common.{◌≡◌, ◌<◌, ◌≤◌, ◌+◌, ℕ, List, length, get_or, map, ap, sym, ◌∙◌, inl, inr, Result, Ok, Err}
+use Rattle.std.proofs.{Common.{Some, arith, length-append}, lemmas.{List.length-map, Option.slice_get-get_or}}
 use Rattle.std.specs.Prelude.{IfOk, IfErr, slice_get, slice_set}
-use Rattle.std.proofs.lemmas.List.{length-map}
-use Rattle.std.proofs.lemmas.Option.{slice_get-get_or}
-use Rattle.xa_xid.specs.declared.statement.Statement.{Statement}
-use Rattle.xa_xid.specs.declared.statement.Statement.TheVariants.{Disconnect}
-use Rattle.xa_session.specs.Answer.{entry_of}
-use Rattle.xa_session.specs.View.{SessionView}
-use Rattle.xa_coordinator.specs.Agreement.{AddsStatements}
-use Rattle.xa_coordinator.specs.Parts.{added_by, added_at}
-use Rattle.xa_coordinator.specs.Recovery.{IsDisconnected}
-use Rattle.xa_coordinator.specs.Work.{MayBe}
-use Rattle.xa_coordinator.proofs.Places.{get_set_same}
+use Rattle.xa_xid.specs.declared.statement.Statement.{Statement, TheVariants.Disconnect}
+use Rattle.xa_session.specs.{Answer.entry_of, View.SessionView}
+use Rattle.xa_coordinator.specs.{Agreement.AddsStatements, Parts.{added_by, added_at}, Recovery.IsDisconnected}
+use Rattle.xa_coordinator.{specs.Work.MayBe, proofs.Places.get_set_same}
 
 -- a session has at most as many entries more as statements were added
 pub adds_so_many : (statements : List Statement) (old new : SessionView) → AddsStatements statements old new

@@ -1,44 +1,24 @@
 -- What calls add agrees with the decisions.
 use Rattle.std.proofs.Common.{◌≡◌, ◌<◌, inl, inr, ◌^◌, ℕ, Bool, true, false, List, [], ◌∷◌, refl, sym, subst}
-use Rattle.std.specs.Prelude.{slice_get, Option, Some}
+use Rattle.std.{proofs.lemmas.List.Elements.{All-nil, All-cons}, specs.Prelude.{slice_get, Option, Some}}
 use Rattle.xa_session.specs.View.{SessionView}
-use Rattle.xa_coordinator.specs.declared.branches.OpenBranch.{OpenBranch}
-use Rattle.std.proofs.lemmas.List.Elements.{All-nil, All-cons}
-use Rattle.xa_xid.specs.declared.xid.Xid.{Xid}
-use Rattle.xa_xid.specs.declared.statement.Statement.{Statement}
-use Rattle.xa_xid.specs.declared.statement.Statement.TheVariants.{End, Prepare}
-use Rattle.xa_coordinator.specs.declared.fault.Cause.{Cause}
-use Rattle.xa_coordinator.specs.declared.decisions.Decision.{Decision}
-use Rattle.xa_coordinator.specs.declared.transaction.Transaction.{Transaction}
-use Rattle.xa_coordinator.specs.declared.closing.Closing.{Closing}
-use Rattle.xa_coordinator.specs.declared.closing.Closing.TheVariants.{InTwoPhases, InOnePhase, RollBack}
-use Rattle.xa_coordinator.specs.declared.ending.Ending.{Ending}
-use Rattle.xa_coordinator.specs.declared.ending.Ending.TheVariants.{Committed, RolledBack, Hazard, Unfinished}
-use Rattle.xa_coordinator.specs.declared.vote.Vote.{Vote}
-use Rattle.xa_coordinator.specs.declared.vote.Vote.TheVariants.{Ready, OnePhase, No, Nothing}
-use Rattle.xa_coordinator.specs.Branch.{branch_xid}
-use Rattle.xa_coordinator.specs.Participants.{takes_part}
-use Rattle.xa_coordinator.specs.Agreement.{AddsStatements, AgreesWith, Agrees}
-use Rattle.xa_coordinator.specs.Stores.{EachStore}
+use Rattle.xa_coordinator.specs.declared.{branches.OpenBranch.OpenBranch, fault.Cause.Cause, vote.Vote.Vote}
+use Rattle.xa_coordinator.specs.declared.{decisions.Decision.Decision, transaction.Transaction.Transaction}
+use Rattle.xa_coordinator.specs.declared.{transaction.VoteKind.VoteKind, closing.Closing.Closing, ending.Ending.Ending}
+use Rattle.xa_coordinator.specs.{Branch.branch_xid, Participants.takes_part}
+use Rattle.xa_coordinator.specs.{Agreement.{AddsStatements, AgreesWith, Agrees}, Stores.EachStore}
 use Rattle.xa_coordinator.specs.Told.{IsDone, IsUndone, IsUndoneBehind, IsStopped, IsMissing, IsUnfinished}
 use Rattle.xa_coordinator.specs.Outcomes.{branch_of, finish_statement, ends_in, IsClosed, Settles, SettlesIn, IsVoted}
-use Rattle.xa_coordinator.specs.Outcomes.{IsEnded, EndsAs, VotesAs}
-use Rattle.xa_coordinator.specs.Outcomes.{finish_for}
-use Rattle.xa_coordinator.specs.Outcomes.{lists_store}
-use Rattle.xa_coordinator.specs.Decisions.{is_decided}
-use Rattle.xa_coordinator.specs.declared.transaction.VoteKind.{VoteKind}
-use Rattle.xa_coordinator.specs.declared.transaction.VoteKind.TheVariants.{Ready as VoteKindReady}
-use Rattle.xa_coordinator.specs.declared.transaction.VoteKind.TheVariants.{OnePhase as VoteKindOnePhase}
-use Rattle.xa_coordinator.specs.declared.transaction.VoteKind.TheVariants.{No as VoteKindNo}
-use Rattle.xa_coordinator.proofs.Telling.{adds_then, adds_nothing}
-use Rattle.xa_coordinator.proofs.Walk.{at_weaker, from_ends, same_one}
+use Rattle.xa_coordinator.specs.{Outcomes.{IsEnded, EndsAs, VotesAs, finish_for, lists_store}, Decisions.is_decided}
+use Rattle.xa_coordinator.proofs.{Telling.{adds_then, adds_nothing}, Walk.{at_weaker, from_ends, same_one}}
+use Rattle.xa_xid.specs.declared.{xid.Xid.Xid, statement.Statement.{Statement, TheVariants.{End, Prepare}}}
 
 -- the decisions allow this way of finishing a transaction: two phases if it is decided, a rollback if it isn't, and
 -- one phase always
 abbrev pub Allows : List Decision → ℕ → Closing → Type 0
-Allows decisions number InTwoPhases = is_decided decisions number ≡ true
-Allows decisions number InOnePhase = Unit {0}
-Allows decisions number RollBack = is_decided decisions number ≡ false
+Allows decisions number Closing.InTwoPhases = is_decided decisions number ≡ true
+Allows decisions number Closing.InOnePhase = Unit {0}
+Allows decisions number Closing.RollBack = is_decided decisions number ≡ false
 
 module _ (decisions : List Decision) (name : List ℕ) (store : ℕ) where
   -- a session that isn't used adds nothing, which agrees with the decisions
@@ -128,9 +108,9 @@ module _ (decisions : List Decision) (name : List ℕ) (store : ℕ) where
   -- way for the number
   pub closing_agrees : (number : ℕ) → number < 2 ^ 64 → (closing : Closing) → Allows decisions number closing
       → AgreesWith decisions name store (finish_statement closing (branch_xid name number store))
-  closing_agrees number fits InTwoPhases allows = (number, record { fits = fits; is = refl }, allows)
-  closing_agrees number fits InOnePhase allows = (number, record { fits = fits; is = refl })
-  closing_agrees number fits RollBack allows = (number, record { fits = fits; is = refl }, allows)
+  closing_agrees number fits Closing.InTwoPhases allows = (number, record { fits = fits; is = refl }, allows)
+  closing_agrees number fits Closing.InOnePhase allows = (number, record { fits = fits; is = refl })
+  closing_agrees number fits Closing.RollBack allows = (number, record { fits = fits; is = refl }, allows)
 
   -- a branch that was finished by a statement that agrees with the decisions agrees with them
   closed_agrees : (ends : Bool) (statement : Statement) (xid : Xid) → AgreesWith decisions name store statement
@@ -165,17 +145,17 @@ module _ {S : Type 0} (view : S → SessionView) (decisions : List Decision) (tr
   pub ending_agrees : (branches : List (Option OpenBranch)) (closing : Closing) (ending : Ending) (old new : List S)
       → Allows decisions transaction.number closing → EndsAs view branches transaction closing ending old new →
       EachStore view (Agrees decisions transaction.name.items) old new
-  ending_agrees branches closing Committed old new allows is store =
+  ending_agrees branches closing Ending.Committed old new allows is store =
       at_weaker view store _ (Agrees decisions transaction.name.items store)
       (part_agrees branches closing allows store false) old new (is.1 store)
-  ending_agrees branches closing RolledBack old new allows is store =
+  ending_agrees branches closing Ending.RolledBack old new allows is store =
       at_weaker view store _ (Agrees decisions transaction.name.items store)
       (part_agrees branches closing allows store false) old new (is.1 store)
-  ending_agrees branches closing (Hazard stores) old new allows is store =
+  ending_agrees branches closing (Ending.Hazard stores) old new allows is store =
       at_weaker view store _ (Agrees decisions transaction.name.items store)
       (part_agrees branches closing allows store (lists_store stores.items store)) old new
       (is.1 store)
-  ending_agrees branches closing (Unfinished last cause) old new allows is store =
+  ending_agrees branches closing (Ending.Unfinished last cause) old new allows is store =
       from_ends view _ (Agrees decisions transaction.name.items) last _ old new is.1
       (λ other a b settled. part_agrees branches closing allows other settled.0 a b settled.1)
       (λ a b unfinished. unfinished_agrees decisions transaction.name.items last
@@ -187,15 +167,15 @@ module _ {S : Type 0} (view : S → SessionView) (decisions : List Decision) (tr
   -- what the vote on a transaction did in each store agrees with any decisions, whatever the vote
   pub vote_agrees : (vote : Vote) (old new : List S) → VotesAs view transaction vote old new
       → EachStore view (Agrees decisions transaction.name.items) old new
-  vote_agrees (Ready prepared) old new is store =
+  vote_agrees (Vote.Ready prepared) old new is store =
       at_weaker view store _ (Agrees decisions transaction.name.items store)
       (voted_agrees decisions transaction.name.items store (branch_of transaction store)
       (takes_part transaction.participants store)) old new (is.2 store)
-  vote_agrees (OnePhase prepared) old new is store =
+  vote_agrees (Vote.OnePhase prepared) old new is store =
       at_weaker view store _ (Agrees decisions transaction.name.items store)
       (ends_agrees decisions transaction.name.items store (branch_of transaction store)
       (takes_part transaction.participants store)) old new (is.2 store)
-  vote_agrees (No prepared last cause) old new is store =
+  vote_agrees (Vote.No prepared last cause) old new is store =
       from_ends view _ (Agrees decisions transaction.name.items) last _ old new is.2
       (λ other a b voted. voted_agrees decisions transaction.name.items other (branch_of transaction other)
       (takes_part transaction.participants other) a b voted)
@@ -203,7 +183,7 @@ module _ {S : Type 0} (view : S → SessionView) (decisions : List Decision) (tr
       (branch_of transaction last) cause a b stopped)
       (λ other a. nothing_agrees decisions transaction.name.items other a)
       store
-  vote_agrees Nothing old new is store = λ before after is_before is_after.
+  vote_agrees Vote.Nothing old new is store = λ before after is_before is_after.
       subst (λ (s : S). Agrees decisions transaction.name.items store (view before) (view s))
       (same_one (slice_get new store) before after (subst (λ (list : List S). slice_get list store ≡ Some before)
       (sym is.1) is_before) is_after)
@@ -217,6 +197,6 @@ allows_for decisions number vote_kind = by (is_decided decisions number) vote_ki
     by : (b : Bool) (vote_kind : VoteKind) → is_decided decisions number ≡ b
         → Allows decisions number (finish_for b vote_kind)
     by true vote_kind is = is
-    by false VoteKindReady is = is
-    by false VoteKindOnePhase is = tt
-    by false VoteKindNo is = is
+    by false VoteKind.Ready is = is
+    by false VoteKind.OnePhase is = tt
+    by false VoteKind.No is = is

@@ -1,18 +1,10 @@
 -- What one statement, or two, make of a branch that is prepared or finished.
 use Rattle.std.proofs.Common.{◌≡◌, Bool, false, true, refl, inr, [], ◌∷◌, Result, Ok, Err}
-use Rattle.xa_xid.specs.declared.statement.Statement.{Statement}
-use Rattle.xa_xid.specs.declared.xid.Xid.{Xid}
-use Rattle.xa_xid.specs.declared.statement.Statement.TheVariants.{End, Prepare}
+use Rattle.xa_xid.specs.declared.{statement.Statement.{Statement, TheVariants.{End, Prepare}}, xid.Xid.Xid}
 use Rattle.xa_session.specs.View.{SessionView}
-use Rattle.xa_coordinator.specs.declared.fault.Cause.{Cause}
-use Rattle.xa_coordinator.specs.declared.closing.Closing.{Closing}
-use Rattle.xa_coordinator.specs.declared.closing.Closing.TheVariants.{InTwoPhases, InOnePhase, RollBack}
-use Rattle.xa_coordinator.specs.declared.closing.Found.{Found}
-use Rattle.xa_coordinator.specs.declared.closing.Found.TheVariants.{Closed, Missing}
-use Rattle.xa_coordinator.specs.Agreement.{AddsEach}
-use Rattle.xa_coordinator.specs.Outcomes.{ends_first}
-use Rattle.xa_coordinator.specs.Parts.{SaysAs, ClosesAs, PreparesAs, IsToldAs}
-use Rattle.xa_coordinator.specs.Told.{IsDone}
+use Rattle.xa_coordinator.specs.{declared.{fault.Cause.Cause, closing.Closing.Closing}, Agreement.AddsEach}
+use Rattle.xa_coordinator.specs.declared.closing.{Closing.TheVariants.{InTwoPhases, InOnePhase, RollBack}, Found.Found}
+use Rattle.xa_coordinator.specs.{Outcomes.ends_first, Parts.{SaysAs, ClosesAs, PreparesAs, IsToldAs}, Told.IsDone}
 use Rattle.xa_coordinator.proofs.Telling.{each_then, each_alone}
 
 -- an XA END and then an XA PREPARE that were carried out added these two entries
@@ -25,17 +17,17 @@ ended_prepared xid old mid new one two =
 pub said_alone : (statement : Statement) (xid : Xid) (found : Result Found Cause) (old new : SessionView)
     → SaysAs statement found old new
     → ClosesAs false statement xid found old new
-said_alone statement xid (Ok Closed) old new is = is
-said_alone statement xid (Ok Missing) old new is = is
+said_alone statement xid (Ok Found.Closed) old new is = is
+said_alone statement xid (Ok Found.Missing) old new is = is
 said_alone statement xid (Err cause) old new is = is
 
 -- after an XA END that was carried out, what became of the finishing statement is what became of the branch
 pub said_behind : (statement : Statement) (xid : Xid) (found : Result Found Cause) (old mid new : SessionView)
     → IsDone (End xid) old mid
     → SaysAs statement found mid new → ClosesAs true statement xid found old new
-said_behind statement xid (Ok Closed) old mid new ends is =
+said_behind statement xid (Ok Found.Closed) old mid new ends is =
     each_then (End xid) (statement ∷ []) old mid new ends is
-said_behind statement xid (Ok Missing) old mid new ends is = record { mid = mid; ends = ends; undone = is }
+said_behind statement xid (Ok Found.Missing) old mid new ends is = record { mid = mid; ends = ends; undone = is }
 said_behind statement xid (Err cause) old mid new ends is = inr (is.0, record { mid = mid; ends = ends; undone = is.1 })
 
 -- after an XA END that was carried out, what became of XA PREPARE is what became of the branch that was to be prepared

@@ -1,18 +1,12 @@
 -- How numbers stand, before and after a decision.
 use Rattle.std.proofs.Common.{◌≡◌, ◌≢◌, ◌<◌, ◌≤◌, ◌+◌, ◌-◌, ℕ, zero, suc, Bool, true, false, List, [], ◌∷◌, ◌++◌, take}
-use Rattle.std.proofs.Common.{drop, get_or, add-one, append-nil, sym}
-use Rattle.std.proofs.Common.{length, refl, ap, ◌∙◌, Option, Some, None, cond, arith, ne_eqb, subst, inl, inr}
-use Rattle.std.proofs.lemmas.Bool.{eqb-false}
-use Rattle.std.proofs.lemmas.Bool.Decides.{eqb_tells}
-use Rattle.std.proofs.lemmas.Option.{slice_get_within}
-use Rattle.std.specs.Prelude.{◌==◌, slice_get, slice_set, map}
+use Rattle.std.proofs.Common.{drop, get_or, add-one, append-nil, sym, length, refl, ap, ◌∙◌, Option, Some, None, cond}
+use Rattle.std.proofs.{Common.{arith, ne_eqb, subst, inl, inr}, lemmas.Bool.{eqb-false, Decides.eqb_tells}}
+use Rattle.std.{proofs.lemmas.{Option.slice_get_within, List.take_all}, specs.Prelude.{◌==◌, slice_get, slice_set, map}}
 use Rattle.std.specs.Option.{option_map}
-use Rattle.std.proofs.lemmas.List.{take_all}
-use Rattle.xa_coordinator.specs.declared.decisions.Decision.{Decision}
-use Rattle.xa_coordinator.specs.declared.decisions.Decision.TheVariants.{Undecided, Decided, Closed}
+use Rattle.xa_coordinator.specs.declared.decisions.Decision.{Decision, TheVariants.{Undecided, Decided, Closed}}
 use Rattle.xa_coordinator.specs.Decisions.{decision_of, is_not_closed, decides, may_be_decided, is_decided}
-use Rattle.xa_coordinator.specs.Decisions.{with_decided, closed_of}
-use Rattle.xa_coordinator.proofs.Places.{get_set_same, get_set_other}
+use Rattle.xa_coordinator.{specs.Decisions.{with_decided, closed_of}, proofs.Places.{get_set_same, get_set_other}}
 
 -- a number that was given has its place in the list
 pub record HasPlace (decisions : List Decision) (number : ℕ) : Type 0 where

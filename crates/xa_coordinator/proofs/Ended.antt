@@ -2,13 +2,9 @@
 use Rattle.std.proofs.Common.{◌≡◌, ◌≢◌, ℕ, Bool, true, false, List, sym, subst, refl}
 use Rattle.xa_xid.specs.declared.statement.Statement.TheVariants.{End}
 use Rattle.xa_session.specs.View.{SessionView}
-use Rattle.xa_coordinator.specs.declared.transaction.Transaction.{Transaction}
-use Rattle.xa_coordinator.specs.Participants.{takes_part, OnlyTakesPart}
-use Rattle.xa_coordinator.specs.Stores.{AtStore, EachStore, ChangesAt}
-use Rattle.xa_coordinator.specs.Told.{IsDone}
-use Rattle.xa_coordinator.specs.Outcomes.{branch_of, IsEnded}
-use Rattle.xa_coordinator.proofs.Telling.{each_alone}
-use Rattle.xa_coordinator.proofs.Walk.{at_weaker, only_at}
+use Rattle.xa_coordinator.specs.{declared.transaction.Transaction.Transaction, Participants.{takes_part, OnlyTakesPart}}
+use Rattle.xa_coordinator.specs.{Stores.{AtStore, EachStore, ChangesAt}, Told.IsDone, Outcomes.{branch_of, IsEnded}}
+use Rattle.xa_coordinator.proofs.{Telling.each_alone, Walk.{at_weaker, only_at}}
 
 -- if only one store takes part, another doesn't
 others_out : (transaction : Transaction) (store other : ℕ) → OnlyTakesPart transaction.participants store

@@ -1,21 +1,14 @@
 -- The list of the stores whose branch wasn't known, as it grows.
 use Rattle.std.proofs.Common.{◌≡◌, ◌<◌, ◌≤◌, ◌+◌, ℕ, Bool, true, false, List, [], ◌∷◌, ◌++◌, length, refl, ap, sym, ◌∙◌}
-use Rattle.std.proofs.Common.{subst, inl, inr, arith, ne_eqb, eq-eqb}
-use Rattle.std.proofs.Common.{length-append}
-use Rattle.std.specs.Prelude.{All, nat_eq, ◌||◌, Option}
+use Rattle.std.proofs.Common.{subst, inl, inr, arith, ne_eqb, eq-eqb, length-append}
 use Rattle.std.proofs.lemmas.List.Elements.{All-nil, All-push, All-head, All-tail, All-weaker}
-use Rattle.std.proofs.lemmas.List.Folds.{list_any-append, list_any_none}
+use Rattle.std.{proofs.lemmas.List.Folds.{list_any-append, list_any_none}, specs.Prelude.{All, nat_eq, ◌||◌, Option}}
 use Rattle.xa_session.specs.View.{SessionView}
-use Rattle.xa_coordinator.specs.declared.participants.Participants.{Participants}
-use Rattle.xa_coordinator.specs.declared.closing.Closing.{Closing}
-use Rattle.xa_coordinator.specs.declared.transaction.Transaction.{Transaction}
-use Rattle.xa_coordinator.specs.Participants.{takes_part}
-use Rattle.xa_coordinator.specs.Stores.{AtStore, EachStore, ChangesAt}
-use Rattle.xa_coordinator.specs.Told.{IsMissing}
+use Rattle.xa_coordinator.specs.declared.{participants.Participants.Participants, closing.Closing.Closing}
+use Rattle.xa_coordinator.specs.declared.{transaction.Transaction.Transaction, branches.OpenBranch.OpenBranch}
+use Rattle.xa_coordinator.specs.{Participants.takes_part, Stores.{AtStore, EachStore, ChangesAt}, Told.IsMissing}
 use Rattle.xa_coordinator.specs.Outcomes.{Ascends, lists_store, branch_of, finish_statement, ends_in, IsClosed, Settles}
-use Rattle.xa_coordinator.specs.Outcomes.{SettlesIn}
-use Rattle.xa_coordinator.specs.Parts.{ClosesNext}
-use Rattle.xa_coordinator.specs.declared.branches.OpenBranch.{OpenBranch}
+use Rattle.xa_coordinator.specs.{Outcomes.SettlesIn, Parts.ClosesNext}
 use Rattle.xa_coordinator.proofs.Walk.{Reached, reached_skip, reached_next, reached_weaker, at_weaker}
 
 -- the stores listed so far: participants below this place, ascending

@@ -1,21 +1,14 @@
 -- The branches that a coordinator has open stay what its sessions have open.
 use Rattle.std.proofs.Common.{◌≡◌, ℕ, List, get_or, ap, sym, ◌∙◌, subst, inl, inr, Option, Some, None}
+use Rattle.std.proofs.{lemmas.{Bool.Decides.eqb_tells, Option.get_or_from_slice_get}, Math.ListN.length-set}
 use Rattle.std.specs.Prelude.{slice_get, slice_set}
-use Rattle.std.proofs.lemmas.Bool.Decides.{eqb_tells}
-use Rattle.std.proofs.lemmas.Option.{get_or_from_slice_get}
-use Rattle.std.proofs.Math.ListN.{length-set}
-use Rattle.xa_xid.specs.declared.xid.Xid.{Xid}
-use Rattle.xa_xid.specs.declared.statement.Statement.{Statement}
+use Rattle.xa_xid.specs.declared.{xid.Xid.Xid, statement.Statement.Statement}
 use Rattle.xa_server.specs.Locks.{LockLaw}
 use Rattle.decision_log.specs.History.{entries_of}
 use Rattle.xa_session.specs.View.{SessionView}
-use Rattle.xa_coordinator.specs.Told.{IsDone}
-use Rattle.xa_coordinator.proofs.Telling.{association_done}
-use Rattle.xa_coordinator.specs.Branch.{branch_xid}
-use Rattle.xa_coordinator.specs.Stores.{AtStore, ChangesAt}
-use Rattle.xa_coordinator.specs.OpenBranches.{association_seen, association_in, OpenThere}
-use Rattle.xa_coordinator.specs.Parts.{LeavesOpen}
-use Rattle.xa_coordinator.specs.declared.branches.OpenBranch.{OpenBranch}
+use Rattle.xa_coordinator.specs.{Told.IsDone, Branch.branch_xid, Stores.{AtStore, ChangesAt}}
+use Rattle.xa_coordinator.specs.{OpenBranches.{association_seen, association_in, OpenThere}, Parts.LeavesOpen}
+use Rattle.xa_coordinator.{specs.declared.branches.OpenBranch.OpenBranch, proofs.Telling.association_done}
 use Rattle.xa_coordinator.proofs.Places.{get_set_other, get_set_is, get_before_set}
 
 module _ {S : Type 0} (view : S → SessionView) (name : List ℕ) where

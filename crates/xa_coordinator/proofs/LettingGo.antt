@@ -1,26 +1,18 @@
 -- What a session has open after DISCONNECT, and what XA RECOVER answers.
 use Rattle.std.proofs.Common.{◌≡◌, Bool, true, false, List, [], ◌∷◌, refl, ap, sym, ◌∙◌, subst, inl, inr, append-nil}
-use Rattle.xa_xid.specs.declared.xid.Xid.{Xid}
-use Rattle.xa_xid.specs.declared.statement.Statement.TheVariants.{Recover, Disconnect}
-use Rattle.xa_server.specs.declared.reply.Reply.TheVariants.{Recovered}
-use Rattle.xa_server.specs.Locks.{LockLaw}
-use Rattle.xa_server.specs.State.{State, association_of, prepared_xids}
-use Rattle.xa_server.specs.Step.{enters}
-use Rattle.decision_log.specs.History.{entries_of}
 use Rattle.std.specs.Prelude.{Result, Ok, Err, IfOk, IfErr}
-use Rattle.decision_log.specs.declared.known.Known.{Known}
-use Rattle.xa_session.specs.declared.fault.Fault.{Fault}
+use Rattle.xa_xid.specs.declared.{xid.Xid.Xid, statement.Statement.TheVariants.{Recover, Disconnect}}
+use Rattle.xa_server.specs.{declared.reply.Reply.TheVariants.Recovered, Locks.LockLaw}
+use Rattle.xa_server.specs.{State.{State, association_of, prepared_xids}, Step.enters}
+use Rattle.decision_log.specs.{History.entries_of, declared.known.Known.Known}
+use Rattle.xa_session.specs.declared.{fault.Fault.Fault, answer.Answer.Answer}
 use Rattle.xa_session.specs.View.{SessionView, StaysOfLog, Takes, TakesBy}
-use Rattle.xa_session.proofs.Entering.{recover_outside, recover_reply}
-use Rattle.xa_session.proofs.OwnAssociations.{let_go, outside_free}
+use Rattle.xa_session.specs.{Answer.{IsAnswered, IsUnanswered, Fails, IsFinal}, Replay.{state_after, state_at}}
+use Rattle.xa_session.proofs.{Entering.{recover_outside, recover_reply}, OwnAssociations.{let_go, outside_free}}
 use Rattle.xa_session.proofs.Associations.{law_seen, association_unanswered, state_entered, state_outside}
-use Rattle.xa_coordinator.specs.declared.fault.Cause.TheVariants.{Session}
-use Rattle.xa_coordinator.proofs.Telling.{is_undone, association_refused}
-use Rattle.xa_session.specs.Answer.{IsAnswered, IsUnanswered, Fails, IsFinal}
-use Rattle.xa_session.specs.Replay.{state_after, state_at}
-use Rattle.xa_session.specs.declared.answer.Answer.{Answer}
-use Rattle.xa_coordinator.specs.OpenBranches.{association_seen}
+use Rattle.xa_coordinator.specs.{declared.fault.Cause.TheVariants.Session, OpenBranches.association_seen}
 use Rattle.xa_coordinator.specs.Recovery.{IsDisconnected, ListsPrepared}
+use Rattle.xa_coordinator.proofs.Telling.{is_undone, association_refused}
 
 -- after an answered DISCONNECT its session has nothing open, and has added at most the DISCONNECT
 pub disconnected_as : (answer : Answer) (old new : SessionView) → LockLaw new.base → StaysOfLog old new

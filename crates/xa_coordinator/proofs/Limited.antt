@@ -1,10 +1,7 @@
 -- How many calls a session has left, once one session of a list was limited.
-use Rattle.std.proofs.Common.{◌≡◌, ◌<◌, ℕ, List, length, map, ap, ◌∙◌, Some}
-use Rattle.std.specs.Prelude.{slice_get, slice_set}
-use Rattle.std.specs.Option.{option_map}
-use Rattle.std.proofs.lemmas.Option.{slice_get-map}
-use Rattle.xa_coordinator.specs.declared.fused.Fused.{Fused}
-use Rattle.xa_coordinator.proofs.Places.{get_set_same}
+use Rattle.std.proofs.{Common.{◌≡◌, ◌<◌, ℕ, List, length, map, ap, ◌∙◌, Some}, lemmas.Option.slice_get-map}
+use Rattle.std.specs.{Prelude.{slice_get, slice_set}, Option.option_map}
+use Rattle.xa_coordinator.{specs.declared.fused.Fused.Fused, proofs.Places.get_set_same}
 
 -- once a session that has so many calls left stands in a store's place, so many are left there
 pub left_there : {S : Type 0} (sessions : List (Fused S)) (store calls : ℕ) (session : Fused S)

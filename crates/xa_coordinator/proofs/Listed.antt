@@ -1,25 +1,13 @@
 -- Which branches of a list are of a coordinator's naming.
 use Rattle.std.proofs.Common.{◌≡◌, ◌<◌, ◌+◌, ◌^◌, ℕ, Bool, true, false, List, [], ◌∷◌, ◌++◌, length, take, drop, get_or}
-use Rattle.std.proofs.Common.{zero, suc, refl, ap, sym}
-use Rattle.std.proofs.Common.{◌∙◌, subst, inl, inr, Some, add-one, length-append}
-use Rattle.std.specs.Prelude.{All, slice_get, ◌||◌, ◌&&◌, ◌⊎◌}
-use Rattle.std.specs.List.{list_any}
-use Rattle.std.specs.Int.{w64, to_be_bytes, from_be_bytes}
-use Rattle.std.proofs.lemmas.List.Elements.{All-push, All-weaker}
-use Rattle.std.proofs.lemmas.List.Folds.{list_any_none}
-use Rattle.std.proofs.lemmas.Nat.{from_be_bytes-to_be_bytes_8}
-use Rattle.std.proofs.lemmas.Option.{slice_get-get_or}
-use Rattle.std.proofs.Math.Seq.{drop-append_seam}
-use Rattle.xa_xid.specs.declared.xid.Xid.{Xid}
-use Rattle.xa_xid.specs.Xid.{same_xid}
-use Rattle.xa_xid.proofs.Orders.{xids_total, exact_xids}
-use Rattle.xa_server.proofs.Maps.{same_or_apart, same_itself}
-use Rattle.xa_server.proofs.Listing.{prepared_exactly}
-use Rattle.xa_server.specs.State.{is_prepared}
-use Rattle.xa_session.specs.Replay.{state_after}
-use Rattle.xa_session.specs.View.{SessionView}
-use Rattle.xa_coordinator.specs.Branch.{branch_xid, IsBranchOf}
-use Rattle.xa_coordinator.specs.Recovery.{IsNamed, ListsPrepared, NoneLeft}
+use Rattle.std.proofs.Common.{zero, suc, refl, ap, sym, ◌∙◌, subst, inl, inr, Some, add-one, length-append}
+use Rattle.std.proofs.lemmas.List.{Elements.{All-push, All-weaker}, Folds.list_any_none}
+use Rattle.std.proofs.{lemmas.{Nat.from_be_bytes-to_be_bytes_8, Option.slice_get-get_or}, Math.Seq.drop-append_seam}
+use Rattle.std.specs.{Prelude.{All, slice_get, ◌||◌, ◌&&◌, ◌⊎◌}, List.list_any, Int.{w64, to_be_bytes, from_be_bytes}}
+use Rattle.xa_xid.{specs.{declared.xid.Xid.Xid, Xid.same_xid}, proofs.Orders.{xids_total, exact_xids}}
+use Rattle.xa_server.{proofs.{Maps.{same_or_apart, same_itself}, Listing.prepared_exactly}, specs.State.is_prepared}
+use Rattle.xa_session.specs.{Replay.state_after, View.SessionView}
+use Rattle.xa_coordinator.specs.{Branch.{branch_xid, IsBranchOf}, Recovery.{IsNamed, ListsPrepared, NoneLeft}}
 
 -- the first place + 1 identifiers are the first `place` and the one at the place
 pub take_next : (xs : List Xid) (place : ℕ) (x : Xid) → slice_get xs place ≡ Some x

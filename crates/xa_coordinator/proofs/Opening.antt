@@ -1,13 +1,8 @@
 -- What a coordinator has open, before and after calls.
 use Rattle.std.proofs.Common.{◌≡◌, ◌≤◌, ◌+◌, ℕ, true, false, List, Option, Some, None, refl, ap, sym, ◌∙◌, arith}
-use Rattle.std.proofs.lemmas.Bool.{eqb-true}
-use Rattle.std.specs.Prelude.{slice_get, ◌&&◌, ◌==◌}
-use Rattle.xa_coordinator.specs.declared.branches.OpenBranch.{OpenBranch}
-use Rattle.xa_coordinator.specs.declared.branches.Phase.{Phase}
-use Rattle.xa_coordinator.specs.declared.branches.Phase.TheVariants.{Active, Idle}
-use Rattle.xa_coordinator.specs.declared.participants.Participants.{Participants}
-use Rattle.xa_coordinator.specs.Participants.{takes_part}
-use Rattle.xa_coordinator.specs.Stores.{ChangesAt}
+use Rattle.std.{proofs.lemmas.Bool.eqb-true, specs.Prelude.{slice_get, ◌&&◌, ◌==◌}}
+use Rattle.xa_coordinator.specs.{declared.branches.{OpenBranch.OpenBranch, Phase.Phase}, Stores.ChangesAt}
+use Rattle.xa_coordinator.specs.{declared.participants.Participants.Participants, Participants.takes_part}
 use Rattle.xa_coordinator.specs.OpenBranches.{is_active, works_for, has_working_branch, IsWorking, KeepsOpen}
 
 -- what a coordinator keeps of a branch that it has open: its transaction's number and its phase
@@ -21,9 +16,9 @@ unfolding has_working_branch
 working branches store number is = by (slice_get branches store) refl is
   where
     of_phase : (phase : Phase) (n : ℕ) → (is_active phase && (n == number)) ≡ true
-        → branch_with n phase ≡ branch_with number Active
-    of_phase Active n e = ap (λ m. branch_with m Active) (eqb-true n number e)
-    of_phase Idle n e = absurd (cc)
+        → branch_with n phase ≡ branch_with number Phase.Active
+    of_phase Phase.Active n e = ap (λ m. branch_with m Phase.Active) (eqb-true n number e)
+    of_phase Phase.Idle n e = absurd (cc)
 
     by : (found : Option (Option OpenBranch)) → slice_get branches store ≡ found → works_for number found ≡ true
         → IsWorking branches store number

@@ -1,13 +1,9 @@
 -- A walk over how numbers stand: which is undecided first, and that none behind it is closed so far.
 use Rattle.std.proofs.Common.{◌≡◌, ◌≢◌, ◌<◌, ◌≤◌, ◌+◌, ◌-◌, ℕ, zero, suc, Bool, true, false, List, Option, Some, None}
-use Rattle.std.proofs.Common.{length, refl, ap, ◌∙◌, sym, arith, cond, ne_eqb, subst, get_or}
-use Rattle.std.proofs.Common.{inl, inr}
-use Rattle.std.proofs.Math.Nat.{lt_of_not-le}
-use Rattle.std.proofs.lemmas.Bool.{cases_eq}
-use Rattle.std.proofs.lemmas.Option.{slice_get-get_or, slice_get_within}
+use Rattle.std.proofs.Common.{length, refl, ap, ◌∙◌, sym, arith, cond, ne_eqb, subst, get_or, inl, inr}
+use Rattle.std.proofs.{Math.Nat.lt_of_not-le, lemmas.{Bool.cases_eq, Option.{slice_get-get_or, slice_get_within}}}
 use Rattle.std.specs.Prelude.{◌==◌, slice_get}
-use Rattle.xa_coordinator.specs.declared.decisions.Decision.{Decision}
-use Rattle.xa_coordinator.specs.declared.decisions.Decision.TheVariants.{Undecided, Closed}
+use Rattle.xa_coordinator.specs.declared.decisions.Decision.{Decision, TheVariants.{Undecided, Closed}}
 use Rattle.xa_coordinator.specs.Decisions.{decision_of, IsOvertaken}
 
 -- the first `count` numbers were looked at: `undecided` is the first undecided one, and none behind it is closed

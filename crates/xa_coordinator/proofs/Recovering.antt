@@ -1,33 +1,18 @@
 -- Recovering store after store.
 use Rattle.std.proofs.Common.{◌≡◌, ◌<◌, ◌≤◌, ◌+◌, ℕ, zero, suc, List, [], ◌∷◌, ◌++◌, length, refl, ap, sym, ◌∙◌, subst}
-use Rattle.std.proofs.Common.{inl, inr, Option, Some}
-use Rattle.std.proofs.Common.{None, arith, length-append}
-use Rattle.std.specs.Prelude.{slice_get, map, Result, Ok, Err, IfOk, IfErr}
-use Rattle.std.specs.List.{sum_by}
-use Rattle.std.proofs.lemmas.List.{map_push}
-use Rattle.std.proofs.lemmas.List.Sums.{sum_by_push}
-use Rattle.std.proofs.lemmas.Bool.{cases_lt}
+use Rattle.std.proofs.{Common.{inl, inr, Option, Some, None, arith, length-append}, lemmas.List.map_push}
+use Rattle.std.proofs.lemmas.{List.Sums.sum_by_push, Bool.cases_lt}
+use Rattle.std.specs.{Prelude.{slice_get, map, Result, Ok, Err, IfOk, IfErr}, List.sum_by}
 use Rattle.xa_session.specs.View.{SessionView}
-use Rattle.xa_coordinator.specs.declared.fault.Cause.{Cause}
-use Rattle.xa_coordinator.specs.declared.fault.Cause.TheVariants.{Session as CauseSession, Refused as CauseRefused}
-use Rattle.xa_coordinator.specs.declared.branches.OpenBranch.{OpenBranch}
-use Rattle.xa_coordinator.specs.declared.fault.RecoverFault.{RecoverFault}
-use Rattle.xa_coordinator.specs.declared.fault.RecoverFault.TheVariants.{Session, StillPrepared, NoMemory, Refused}
-use Rattle.xa_coordinator.specs.declared.report.Report.{Report}
-use Rattle.xa_coordinator.specs.declared.decisions.Decision.{Decision}
-use Rattle.xa_coordinator.specs.declared.report.Tally.{Tally}
-use Rattle.xa_xid.specs.declared.statement.Statement.TheVariants.{Disconnect}
-use Rattle.xa_coordinator.specs.Told.{IsUndone}
-use Rattle.xa_coordinator.specs.Agreement.{Agrees}
-use Rattle.xa_coordinator.specs.Stores.{AtStore, EachStore, ChangesAt, EndsAt}
+use Rattle.xa_coordinator.specs.declared.{fault.{Cause.Cause, RecoverFault.RecoverFault}, decisions.Decision.Decision}
+use Rattle.xa_coordinator.specs.declared.{branches.OpenBranch.OpenBranch, report.{Report.Report, Tally.Tally}}
+use Rattle.xa_coordinator.specs.{Told.IsUndone, Agreement.Agrees, Stores.{AtStore, EachStore, ChangesAt, EndsAt}}
 use Rattle.xa_coordinator.specs.Recovery.{IsRecovered, RecoveredBy, Recovers, BreaksBy, BreaksHere, BreaksOff}
-use Rattle.xa_coordinator.specs.Recovery.{asked_by_fault}
-use Rattle.xa_coordinator.specs.Parts.{fault_by}
-use Rattle.xa_coordinator.specs.Recovery.{IsCutOff, IsStillPrepared}
+use Rattle.xa_coordinator.specs.{Recovery.{asked_by_fault, IsCutOff, IsStillPrepared}, Parts.fault_by}
 use Rattle.xa_coordinator.proofs.Walk.{Reached, reached_none, reached_next, reached_weaker, reached_all, from_ends}
-use Rattle.xa_coordinator.proofs.Walk.{at_weaker, at_same}
+use Rattle.xa_coordinator.proofs.{Walk.{at_weaker, at_same}, Agreeing.nothing_agrees}
 use Rattle.xa_coordinator.proofs.Settling.{IsBroken, recovered_agrees, broken_agrees, still_agrees}
-use Rattle.xa_coordinator.proofs.Agreeing.{nothing_agrees}
+use Rattle.xa_xid.specs.declared.statement.Statement.TheVariants.{Disconnect}
 
 -- nothing is open in the stores below a number, and in those from it on what is open is as it was
 pub record FreesOpen (place : ℕ) (old new : List (Option OpenBranch)) : Type 0 where
@@ -155,9 +140,9 @@ module _ {S : Type 0} (view : S → SessionView) (decisions : List Decision) (na
   broken_at : (place : ℕ) (cause : Cause) (marks marks' : List (Option OpenBranch)) (old new : List S)
       → BreaksBy view decisions name place cause marks marks' old new
       → AtStore view place (IsBroken decisions name place cause) old new
-  broken_at place (CauseSession fault) marks marks' old new (inl is) = λ a b is_a is_b. inl (is.1 a b is_a is_b)
-  broken_at place (CauseSession fault) marks marks' old new (inr is) = λ a b is_a is_b. inr (is.1 a b is_a is_b)
-  broken_at place (CauseRefused error) marks marks' old new is = is.1
+  broken_at place (Cause.Session fault) marks marks' old new (inl is) = λ a b is_a is_b. inl (is.1 a b is_a is_b)
+  broken_at place (Cause.Session fault) marks marks' old new (inr is) = λ a b is_a is_b. inr (is.1 a b is_a is_b)
+  broken_at place (Cause.Refused error) marks marks' old new is = is.1
 
   -- if the stores below this one were recovered first, what then holds of this one holds since the beginning: it was
   -- as at first
@@ -174,18 +159,18 @@ module _ {S : Type 0} (view : S → SessionView) (decisions : List Decision) (na
       → RecoversBelow place report old now → slice_get now_marks place ≡ slice_get marks place →
       BreaksBy view decisions name place cause now_marks marks' now next
       → BreaksBy view decisions name place cause marks marks' old next
-  broke_by place report (CauseSession fault) marks now_marks marks' old now next so_far same (inl is) =
-      inl (is.0 ∙ same, here_at place report (IsUndone Disconnect (CauseSession fault)) old now next so_far is.1)
-  broke_by place report (CauseSession fault) marks now_marks marks' old now next so_far same (inr is) =
+  broke_by place report (Cause.Session fault) marks now_marks marks' old now next so_far same (inl is) =
+      inl (is.0 ∙ same, here_at place report (IsUndone Disconnect (Cause.Session fault)) old now next so_far is.1)
+  broke_by place report (Cause.Session fault) marks now_marks marks' old now next so_far same (inr is) =
       inr (
         is.0,
         here_at place report (λ before after. IsCutOff decisions name place before
-            (CauseSession fault) after) old now next so_far is.1,
+            (Cause.Session fault) after) old now next so_far is.1,
       )
-  broke_by place report (CauseRefused error) marks now_marks marks' old now next so_far same is = (
+  broke_by place report (Cause.Refused error) marks now_marks marks' old now next so_far same is = (
     is.0,
     here_at place report (λ before after. IsCutOff decisions name place before
-        (CauseRefused error) after) old now next so_far is.1,
+        (Cause.Refused error) after) old now next so_far is.1,
   )
 
   -- if the stores below this one were recovered first, and then its recovery failed with this fault, it failed so since
@@ -196,13 +181,13 @@ module _ {S : Type 0} (view : S → SessionView) (decisions : List Decision) (na
       → asked_by_fault fault ≡ place + 1
       → BreaksHere view decisions name fault now_marks marks' now next →
       BreaksHere view decisions name fault marks marks' old next
-  breaks_there place report (Session at fault) marks now_marks marks' old now next so_far same asked is =
+  breaks_there place report (RecoverFault.Session at fault) marks now_marks marks' old now next so_far same asked is =
       let there : at + 1 ≡ place + 1 = asked in
       let here : place ≡ at = omega (arith, there) in
-      subst (λ n. BreaksBy view decisions name n (CauseSession fault) marks marks' old next) here
-      (broke_by place report (CauseSession fault) marks now_marks marks' old now next so_far same
-      (subst (λ n. BreaksBy view decisions name n (CauseSession fault) now_marks marks' now next) (sym here) is))
-  breaks_there place report (StillPrepared at) marks now_marks marks' old now next so_far same asked is =
+      subst (λ n. BreaksBy view decisions name n (Cause.Session fault) marks marks' old next) here
+      (broke_by place report (Cause.Session fault) marks now_marks marks' old now next so_far same
+      (subst (λ n. BreaksBy view decisions name n (Cause.Session fault) now_marks marks' now next) (sym here) is))
+  breaks_there place report (RecoverFault.StillPrepared at) marks now_marks marks' old now next so_far same asked is =
       let there : at + 1 ≡ place + 1 = asked in
       let here : place ≡ at = omega (arith, there) in (
         is.0,
@@ -210,14 +195,14 @@ module _ {S : Type 0} (view : S → SessionView) (decisions : List Decision) (na
             (here_at place report (IsStillPrepared decisions name place) old now next so_far
             (subst (λ n. AtStore view n (IsStillPrepared decisions name n) now next) (sym here) is.1)),
       )
-  breaks_there place report NoMemory marks now_marks marks' old now next so_far same asked is =
+  breaks_there place report RecoverFault.NoMemory marks now_marks marks' old now next so_far same asked is =
       let none : 0 ≡ place + 1 = asked in absurd (omega (arith, none))
-  breaks_there place report (Refused at error) marks now_marks marks' old now next so_far same asked is =
+  breaks_there place report (RecoverFault.Refused at error) marks now_marks marks' old now next so_far same asked is =
       let there : at + 1 ≡ place + 1 = asked in
       let here : place ≡ at = omega (arith, there) in
-      subst (λ n. BreaksBy view decisions name n (CauseRefused error) marks marks' old next) here
-      (broke_by place report (CauseRefused error) marks now_marks marks' old now next so_far same
-      (subst (λ n. BreaksBy view decisions name n (CauseRefused error) now_marks marks' now next) (sym here) is))
+      subst (λ n. BreaksBy view decisions name n (Cause.Refused error) marks marks' old next) here
+      (broke_by place report (Cause.Refused error) marks now_marks marks' old now next so_far same
+      (subst (λ n. BreaksBy view decisions name n (Cause.Refused error) now_marks marks' now next) (sym here) is))
 
   -- if the stores below one are recovered, and the recovery of that one failed, the recovery of all broke off there
   pub breaks_at : (place : ℕ) (report : Report) (fault : RecoverFault)
@@ -241,13 +226,13 @@ module _ {S : Type 0} (view : S → SessionView) (decisions : List Decision) (na
   pub breaks_by : (place : ℕ) (cause : Cause) (marks marks' : List (Option OpenBranch)) (old next : List S)
       → BreaksBy view decisions name place cause marks marks' old next
       → BreaksHere view decisions name (fault_by place cause) marks marks' old next
-  breaks_by place (CauseSession fault) marks marks' old next is = is
-  breaks_by place (CauseRefused error) marks marks' old next is = is
+  breaks_by place (Cause.Session fault) marks marks' old next is = is
+  breaks_by place (Cause.Refused error) marks marks' old next is = is
 
   -- the fault that `fault_by` makes of a cause says that the stores up to this one were spoken to
   pub asked_for : (place : ℕ) (cause : Cause) → asked_by_fault (fault_by place cause) ≡ place + 1
-  asked_for place (CauseSession fault) = refl
-  asked_for place (CauseRefused error) = refl
+  asked_for place (Cause.Session fault) = refl
+  asked_for place (Cause.Refused error) = refl
 
   -- what a recovery of all stores added in each agrees with the decisions
   pub recovers_agree : (report : Report) (old now : List S) → Recovers view decisions name report old now
@@ -270,15 +255,15 @@ module _ {S : Type 0} (view : S → SessionView) (decisions : List Decision) (na
   -- what a recovery that failed added in each store agrees with the decisions
   pub breaks_agree : (fault : RecoverFault) (marks marks' : List (Option OpenBranch)) (old new : List S)
       → BreaksOff view decisions name fault marks marks' old new → EachStore view (Agrees decisions name) old new
-  breaks_agree (Session store fault) marks marks' old new is =
-      ends_agree store (IsBroken decisions name store (CauseSession fault)) old new
-      (λ a b broken. broken_agrees decisions name store (CauseSession fault) a b broken)
+  breaks_agree (RecoverFault.Session store fault) marks marks' old new is =
+      ends_agree store (IsBroken decisions name store (Cause.Session fault)) old new
+      (λ a b broken. broken_agrees decisions name store (Cause.Session fault) a b broken)
       (record {
         below = λ other less. is.below other (omega (arith, less));
-        at = broken_at store (CauseSession fault) marks marks' old new is.here;
+        at = broken_at store (Cause.Session fault) marks marks' old new is.here;
         behind = λ other more. is.behind other (omega (arith, more));
       })
-  breaks_agree (StillPrepared store) marks marks' old new is =
+  breaks_agree (RecoverFault.StillPrepared store) marks marks' old new is =
       ends_agree store (IsStillPrepared decisions name store) old new
       (λ a b still. still_agrees decisions name store a b still)
       (record {
@@ -287,15 +272,15 @@ module _ {S : Type 0} (view : S → SessionView) (decisions : List Decision) (na
         at = is.here.1;
         behind = λ other more. is.behind other (omega (arith, more));
       })
-  breaks_agree NoMemory marks marks' old new is =
+  breaks_agree RecoverFault.NoMemory marks marks' old new is =
       λ store. at_same view store (Agrees decisions name store) (λ a. nothing_agrees decisions name store a) old new
       (is.behind store (omega arith))
-  breaks_agree (Refused store error) marks marks' old new is =
-      ends_agree store (IsBroken decisions name store (CauseRefused error)) old new
-      (λ a b broken. broken_agrees decisions name store (CauseRefused error) a b broken)
+  breaks_agree (RecoverFault.Refused store error) marks marks' old new is =
+      ends_agree store (IsBroken decisions name store (Cause.Refused error)) old new
+      (λ a b broken. broken_agrees decisions name store (Cause.Refused error) a b broken)
       (record {
         below = λ other less. is.below other (omega (arith, less));
-        at = broken_at store (CauseRefused error) marks marks' old new is.here;
+        at = broken_at store (Cause.Refused error) marks marks' old new is.here;
         behind = λ other more. is.behind other (omega (arith, more));
       })
 

@@ -1,27 +1,17 @@
 -- What serving a statement makes of what the sessions of a store know.
-use Rattle.std.proofs.Common.{◌≡◌, inl, inr, ◌≤◌, ◌+◌, ℕ, zero, suc, Bool, true, false, List, [], ◌∷◌, ◌++◌}
-use Rattle.std.proofs.Common.{length, take, refl, ap, sym, ◌∙◌, subst, arith}
-use Rattle.std.proofs.Common.{length-append}
-use Rattle.std.proofs.lemmas.List.{take_all, take-append-le}
-use Rattle.std.specs.Prelude.{Result, Ok, Err, IfOk, OnErr}
+use Rattle.std.proofs.Common.{◌≡◌, inl, inr, ◌≤◌, ◌+◌, ℕ, zero, suc, Bool, true, false, List, [], ◌∷◌, ◌++◌, length}
+use Rattle.std.proofs.Common.{take, refl, ap, sym, ◌∙◌, subst, arith, length-append}
+use Rattle.std.{proofs.lemmas.List.{take_all, take-append-le}, specs.Prelude.{Result, Ok, Err, IfOk, OnErr}}
 use Rattle.xa_words.specs.Entry.{Entry}
 use Rattle.xa_xid.specs.declared.statement.Statement.{Statement}
-use Rattle.xa_server.specs.State.{State}
-use Rattle.xa_server.specs.Replies.{reply_to}
-use Rattle.xa_server.specs.Step.{enters, after}
-use Rattle.decision_log.specs.History.{Begins, entries_of}
-use Rattle.decision_log.specs.Calls.{Looked, IsAdded}
-use Rattle.decision_log.specs.declared.known.Known.{Known}
-use Rattle.decision_log.proofs.Histories.{begins_append, get_last}
-use Rattle.xa_session.specs.Answer.{entry_of, IsAnswered}
-use Rattle.xa_session.specs.Replay.{state_after, state_at}
-use Rattle.xa_session.specs.declared.answer.Answer.{Answer}
-use Rattle.xa_session.specs.declared.fault.Fault.{Fault}
+use Rattle.xa_server.specs.{State.State, Replies.reply_to, Step.{enters, after}}
+use Rattle.decision_log.specs.{History.{Begins, entries_of}, Calls.{Looked, IsAdded}, declared.known.Known.Known}
+use Rattle.decision_log.proofs.Histories.{begins_append, get_last, own_last, own_other}
+use Rattle.xa_session.specs.{Answer.{entry_of, IsAnswered}, Replay.{state_after, state_at}}
+use Rattle.xa_session.specs.declared.{answer.Answer.Answer, fault.Fault.Fault}
 use Rattle.xa_session.proofs.Answering.{IsReply, answered_outside, answered_entered}
 use Rattle.xa_session.proofs.Replaying.{state_after-last, state_at-whole, state_at-begins, state_after-nil, place_below}
-use Rattle.xa_coordinator.specs.Watched.{known_by, HasSeenOwn, AllEntered, Serves}
-use Rattle.xa_coordinator.specs.declared.watch.Watch.{Watch}
-use Rattle.decision_log.proofs.Histories.{own_last, own_other}
+use Rattle.xa_coordinator.specs.{Watched.{known_by, HasSeenOwn, AllEntered, Serves}, declared.watch.Watch.Watch}
 
 -- what a session of an unbounded store knows, of its number, what it has seen, its own entries and its looks: it has
 -- tried once for each entry of its own, and has looked so often since

@@ -1,36 +1,21 @@
 -- What a recovery does with the prepared branches of a store, and what it counts.
 use Rattle.std.proofs.Common.{◌≡◌, ℕ, Bool, true, false, List, [], ◌∷◌, ◌++◌, length, take, sym, subst, inl, inr}
-use Rattle.std.proofs.Common.{Result, Ok, Err, Option, Some, None}
-use Rattle.std.specs.Prelude.{◌⊎◌, All, IfOk, IfErr, slice_get}
+use Rattle.std.{proofs.Common.{Result, Ok, Err, Option, Some, None}, specs.Prelude.{◌⊎◌, All, IfOk, IfErr, slice_get}}
 use Rattle.std.proofs.lemmas.List.Elements.{All-nil, All-cons, All-append}
-use Rattle.xa_xid.specs.declared.xid.Xid.{Xid}
-use Rattle.xa_xid.specs.declared.statement.Statement.{Statement}
+use Rattle.xa_xid.specs.declared.{xid.Xid.Xid, statement.Statement.Statement}
 use Rattle.xa_xid.specs.declared.statement.Statement.TheVariants.{Commit, Rollback, Recover, Disconnect}
 use Rattle.xa_server.specs.declared.xa_error.XaError.TheVariants.{Nota}
 use Rattle.xa_session.specs.View.{SessionView}
-use Rattle.xa_coordinator.specs.declared.fault.Cause.{Cause}
-use Rattle.xa_coordinator.specs.declared.fault.Cause.TheVariants.{Session, Refused as RefusedBy}
-use Rattle.xa_coordinator.specs.declared.branches.OpenBranch.{OpenBranch}
-use Rattle.xa_coordinator.specs.declared.closing.Found.{Found}
-use Rattle.xa_coordinator.specs.declared.closing.Found.TheVariants.{Closed, Missing}
-use Rattle.xa_coordinator.specs.declared.decisions.Decision.{Decision}
-use Rattle.xa_coordinator.specs.declared.report.Tally.{Tally}
-use Rattle.xa_coordinator.specs.Agreement.{AddsEach, AgreesWith, Agrees}
-use Rattle.xa_coordinator.specs.Branch.{branch_xid, IsBranchOf}
-use Rattle.xa_coordinator.specs.Decisions.{is_decided}
-use Rattle.xa_coordinator.specs.Outcomes.{finish_statement}
-use Rattle.xa_coordinator.specs.Parts.{SaysAs, counted}
-use Rattle.xa_coordinator.specs.Stores.{AtStore}
-use Rattle.xa_coordinator.specs.Told.{IsUndone}
-use Rattle.xa_coordinator.specs.Work.{MayBe}
+use Rattle.xa_coordinator.specs.declared.fault.Cause.{Cause, TheVariants.{Session, Refused as RefusedBy}}
+use Rattle.xa_coordinator.specs.declared.{branches.OpenBranch.OpenBranch, closing.Found.Found}
+use Rattle.xa_coordinator.specs.{declared.{decisions.Decision.Decision, report.Tally.Tally}, Decisions.is_decided}
+use Rattle.xa_coordinator.specs.{Agreement.{AddsEach, AgreesWith, Agrees}, Branch.{branch_xid, IsBranchOf}, Work.MayBe}
+use Rattle.xa_coordinator.specs.{Outcomes.finish_statement, Parts.{SaysAs, counted}, Stores.AtStore, Told.IsUndone}
 use Rattle.xa_coordinator.specs.Recovery.{IsDisconnected, ListsPrepared, finish_decided, SettlesOne, foreign, committed}
-use Rattle.xa_coordinator.specs.Recovery.{rolled_back, missing}
-use Rattle.xa_coordinator.specs.Recovery.{Settled, nothing, one_more, IsFinished, IsSettled, IsRecovered, IsUnsettled}
-use Rattle.xa_coordinator.specs.Recovery.{StopsAmong}
-use Rattle.xa_coordinator.specs.Recovery.{IsCutOff, unlisted, unsettled, unlisted_again, IsStillPrepared, BreaksBy}
-use Rattle.xa_coordinator.proofs.Walk.{at_then}
-use Rattle.xa_coordinator.proofs.Agreeing.{nothing_agrees, one_agrees, undone_agrees}
-use Rattle.xa_coordinator.proofs.Telling.{adds_then}
+use Rattle.xa_coordinator.specs.Recovery.{rolled_back, missing, Settled, nothing, one_more, IsFinished, IsSettled}
+use Rattle.xa_coordinator.specs.Recovery.{IsRecovered, IsUnsettled, StopsAmong, IsCutOff, unlisted, unsettled}
+use Rattle.xa_coordinator.{specs.Recovery.{unlisted_again, IsStillPrepared, BreaksBy}, proofs.Walk.at_then}
+use Rattle.xa_coordinator.proofs.{Agreeing.{nothing_agrees, one_agrees, undone_agrees}, Telling.adds_then}
 
 -- a statement of the recovery of a store wasn't carried out for this cause: DISCONNECT, or one behind it
 abbrev pub IsBroken : List Decision → List ℕ → ℕ → Cause → SessionView → SessionView → Type 0
@@ -56,15 +41,15 @@ module _ (decisions : List Decision) (name : List ℕ) (store : ℕ) where
       → (found : Found) (old new : SessionView) →
       SaysAs (finish_statement (finish_decided decided) (branch_xid name number store)) (Ok found) old new
       → SettlesOne decisions name store xid tally old (counted tally decided found) new
-  settles number xid named tally true is Closed old new said =
+  settles number xid named tally true is Found.Closed old new said =
       committed number named is new (subst (λ x. AddsEach (Commit x false ∷ []) old new) (sym named.is) said)
-  settles number xid named tally false is Closed old new said =
+  settles number xid named tally false is Found.Closed old new said =
       rolled_back number named is new (subst (λ x. AddsEach (Rollback x ∷ []) old new) (sym named.is) said)
-  settles number xid named tally true is Missing old new said =
+  settles number xid named tally true is Found.Missing old new said =
       missing number named new
       (subst (λ (b : Bool). IsUndone (finish_statement (finish_decided b) xid) (RefusedBy Nota) old new) (sym is)
       (subst (λ x. IsUndone (Commit x false) (RefusedBy Nota) old new) (sym named.is) said))
-  settles number xid named tally false is Missing old new said =
+  settles number xid named tally false is Found.Missing old new said =
       missing number named new
       (subst (λ (b : Bool). IsUndone (finish_statement (finish_decided b) xid) (RefusedBy Nota) old new) (sym is)
       (subst (λ x. IsUndone (Rollback x) (RefusedBy Nota) old new) (sym named.is) said))

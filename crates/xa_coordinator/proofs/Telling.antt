@@ -1,56 +1,37 @@
 -- What an answered statement adds, and what it leaves open.
 use Rattle.std.proofs.Common.{◌≡◌, ℕ, true, false, List, [], ◌∷◌, ◌++◌, length, arith, take, refl, ap, sym, ◌∙◌, subst}
-use Rattle.std.proofs.Common.{append-nil, append_assoc}
-use Rattle.std.specs.Prelude.{not, ◌&&◌, map}
-use Rattle.std.proofs.lemmas.List.{map-append}
-use Rattle.xa_xid.specs.declared.xid.Xid.{Xid}
-use Rattle.xa_xid.specs.declared.statement.Statement.{Statement}
-use Rattle.xa_xid.specs.declared.statement.Statement.TheVariants.{Start, End, Prepare, Commit, Rollback, Recover}
-use Rattle.xa_xid.specs.declared.statement.Statement.TheVariants.{Unsupported, Get, Put, Del, Disconnect}
-use Rattle.xa_server.specs.State.{State, association_of}
-use Rattle.xa_server.specs.Locks.{LockLaw}
-use Rattle.xa_server.specs.declared.association.Association.TheVariants.{Free}
-use Rattle.xa_server.proofs.Accepted.{accepted_start}
-use Rattle.xa_server.specs.Replies.{reply_to}
-use Rattle.xa_server.specs.Step.{enters, may_enter, is_refused, after}
-use Rattle.xa_server.specs.declared.reply.Reply.TheVariants.{Refused}
-use Rattle.xa_server.specs.declared.xa_error.XaError.{XaError}
-use Rattle.decision_log.specs.History.{entries_of}
-use Rattle.decision_log.specs.declared.known.Known.{Known}
-use Rattle.xa_session.specs.Answer.{entry_of, IsAnswered, IsUnanswered}
-use Rattle.xa_session.specs.Replay.{state_after, state_at}
-use Rattle.xa_session.specs.declared.answer.Answer.{Answer}
+use Rattle.std.{proofs.{Common.{append-nil, append_assoc}, lemmas.List.map-append}, specs.Prelude.{not, ◌&&◌, map}}
+use Rattle.xa_xid.specs.declared.{xid.Xid.Xid, statement.Statement.Statement}
+use Rattle.xa_server.specs.{State.{State, association_of}, Locks.LockLaw, declared.association.Association.Association}
+use Rattle.xa_server.specs.{declared.{reply.Reply.TheVariants.Refused, xa_error.XaError.XaError}, Replies.reply_to}
+use Rattle.xa_server.{specs.Step.{enters, may_enter, is_refused, after}, proofs.Accepted.accepted_start}
+use Rattle.decision_log.specs.{History.entries_of, declared.known.Known.Known}
+use Rattle.xa_session.specs.{Answer.{entry_of, IsAnswered, IsUnanswered}, Replay.{state_after, state_at}}
+use Rattle.xa_session.specs.{declared.answer.Answer.Answer, View.{SessionView, StaysOfLog, Takes}}
 use Rattle.xa_session.proofs.Answering.{accepted_there, refused_unanswered, advances_through, fails_unanswered}
-use Rattle.xa_session.proofs.Answering.{unanswered_itself}
-use Rattle.xa_session.proofs.Views.{stays_itself, stays_through, takes_through}
-use Rattle.xa_session.specs.View.{SessionView, StaysOfLog, Takes}
+use Rattle.xa_session.proofs.{Answering.unanswered_itself, Views.{stays_itself, stays_through, takes_through}}
 use Rattle.xa_session.proofs.OwnAssociations.{started, ended}
 use Rattle.xa_session.proofs.Associations.{law_seen, association_at, association_unanswered, state_entered}
-use Rattle.xa_coordinator.specs.Agreement.{AddsStatements, AddsEach}
-use Rattle.xa_coordinator.specs.Told.{IsDone, IsUndone, HasCause}
-use Rattle.xa_coordinator.specs.Parts.{IsOfBranch, statement_into}
-use Rattle.xa_coordinator.specs.OpenBranches.{association_seen, association_in}
-use Rattle.xa_coordinator.specs.declared.branches.Phase.{Phase}
-use Rattle.xa_coordinator.specs.declared.branches.Phase.TheVariants.{Active, Idle}
-use Rattle.xa_coordinator.specs.declared.fault.Cause.{Cause}
-use Rattle.xa_coordinator.specs.declared.fault.Cause.TheVariants.{Session, Refused as RefusedBy}
+use Rattle.xa_coordinator.specs.{Agreement.{AddsStatements, AddsEach}, Told.{IsDone, IsUndone, HasCause}}
+use Rattle.xa_coordinator.specs.{Parts.{IsOfBranch, statement_into}, OpenBranches.{association_seen, association_in}}
+use Rattle.xa_coordinator.specs.declared.{branches.Phase.{Phase, TheVariants.{Active, Idle}}, fault.Cause.Cause}
 
 -- a statement about a branch enters where it isn't refused
 enters_unrefused : (state : State) (session : ℕ) (statement : Statement) → IsOfBranch statement
     → is_refused (reply_to state session statement) ≡ false
     → enters state session statement ≡ true
 unfolding enters may_enter
-enters_unrefused state session (Start xid) is accepted = ap (λ b. not b && true) accepted
-enters_unrefused state session (End xid) is accepted = ap (λ b. not b && true) accepted
-enters_unrefused state session (Prepare xid) is accepted = ap (λ b. not b && true) accepted
-enters_unrefused state session (Commit xid one_phase) is accepted = ap (λ b. not b && true) accepted
-enters_unrefused state session (Rollback xid) is accepted = ap (λ b. not b && true) accepted
-enters_unrefused state session (Recover convert) is accepted = absurd is
-enters_unrefused state session Unsupported is accepted = absurd is
-enters_unrefused state session (Get key) is accepted = absurd is
-enters_unrefused state session (Put key value) is accepted = absurd is
-enters_unrefused state session (Del key) is accepted = absurd is
-enters_unrefused state session Disconnect is accepted = absurd is
+enters_unrefused state session (Statement.Start xid) is accepted = ap (λ b. not b && true) accepted
+enters_unrefused state session (Statement.End xid) is accepted = ap (λ b. not b && true) accepted
+enters_unrefused state session (Statement.Prepare xid) is accepted = ap (λ b. not b && true) accepted
+enters_unrefused state session (Statement.Commit xid one_phase) is accepted = ap (λ b. not b && true) accepted
+enters_unrefused state session (Statement.Rollback xid) is accepted = ap (λ b. not b && true) accepted
+enters_unrefused state session (Statement.Recover convert) is accepted = absurd is
+enters_unrefused state session Statement.Unsupported is accepted = absurd is
+enters_unrefused state session (Statement.Get key) is accepted = absurd is
+enters_unrefused state session (Statement.Put key value) is accepted = absurd is
+enters_unrefused state session (Statement.Del key) is accepted = absurd is
+enters_unrefused state session Statement.Disconnect is accepted = absurd is
 
 -- a statement about a branch that wasn't refused entered the history at its answer's place
 pub entering_there : (base : State) (statement : Statement) (answer : Answer) (old new : Known) → IsOfBranch statement
@@ -119,30 +100,30 @@ association_done old new phase xid law own_old own_new is =
 pub open_unstarted : (xid : Xid) (phase : Phase) (other : Xid) (old new : SessionView) → LockLaw new.base
     → entries_of old.known.number old.known.seen ≡ old.known.mine
     → entries_of new.known.number new.known.seen ≡ new.known.mine →
-    association_seen old ≡ association_in phase other → IsDone (Start xid) old new → ⊥
+    association_seen old ≡ association_in phase other → IsDone (Statement.Start xid) old new → ⊥
 unfolding reply_to
 open_unstarted xid phase other old new law own_old own_new open_one is =
     let base : State = old.base in
     let there : State = state_at base new.known.seen is.answer.place in
-    let free : association_of there old.known.number ≡ Free =
+    let free : association_of there old.known.number ≡ Association.Free =
     (accepted_start there (association_of there old.known.number) xid
-    (accepted_there base (Start xid) is.answer old.known new.known is.answered is.accepted)).0 in
+    (accepted_there base (Statement.Start xid) is.answer old.known new.known is.answered is.accepted)).0 in
     apart phase
     (sym free
     ∙ association_at base (subst LockLaw is.adds.log.base law)
-    (Start xid) is.answer old.known new.known is.answered own_old own_new
+    (Statement.Start xid) is.answer old.known new.known is.answered own_old own_new
     ∙ open_one)
   where
-    apart : (phase : Phase) → Free ≡ association_in phase other → ⊥
+    apart : (phase : Phase) → Association.Free ≡ association_in phase other → ⊥
     apart Active e = cc
     apart Idle e = cc
 
 -- nothing is added by a statement that is refused, or that a session couldn't answer
 cause_unanswered : (statement : Statement) (cause : Cause) (old new : SessionView) → HasCause statement cause old new
     → IsUnanswered old.known new.known
-cause_unanswered statement (Session fault) old new is =
+cause_unanswered statement (Cause.Session fault) old new is =
     fails_unanswered old.turns old.identity.capacity old.base statement fault old.known new.known is.0
-cause_unanswered statement (RefusedBy error) old new is =
+cause_unanswered statement (Cause.Refused error) old new is =
     refused_unanswered old.base statement (record { place = is.place; reply = Refused error }) old.known new.known
     is.answered refl
 
@@ -166,9 +147,9 @@ is_undone statement cause old new stays why =
 pub refused : (statement : Statement) (answer : Answer) (error : XaError) (old new : SessionView) → StaysOfLog old new
     → IsAnswered old.base statement answer old.known new.known → Takes 1 old.left new.left
     → answer.reply ≡ Refused error
-    → IsUndone statement (RefusedBy error) old new
+    → IsUndone statement (Cause.Refused error) old new
 refused statement answer error old new stays is takes reply =
-    is_undone statement (RefusedBy error) old new stays
+    is_undone statement (Cause.Refused error) old new stays
     (record {
       place = answer.place;
       answered = subst (λ r. IsAnswered old.base statement

@@ -1,10 +1,7 @@
 -- Going from store to store.
 use Rattle.std.proofs.Common.{◌≡◌, ◌≢◌, ◌<◌, ◌≤◌, ◌+◌, ℕ, List, length, get_or, refl, sym, ◌∙◌, subst, inl, inr, Some}
-use Rattle.std.proofs.Common.{arith}
-use Rattle.std.specs.Prelude.{slice_get}
-use Rattle.std.proofs.lemmas.Bool.{cases_order, cases_lt}
-use Rattle.std.proofs.lemmas.Bool.Decides.{eqb_tells}
-use Rattle.std.proofs.lemmas.Option.{slice_get_within, slice_get-get_or}
+use Rattle.std.proofs.{Common.arith, lemmas.Bool.{cases_order, cases_lt, Decides.eqb_tells}}
+use Rattle.std.{proofs.lemmas.Option.{slice_get_within, slice_get-get_or}, specs.Prelude.slice_get}
 use Rattle.xa_session.specs.View.{SessionView}
 use Rattle.xa_coordinator.specs.Stores.{AtStore, EachStore, ChangesAt, EndsAt}
 

@@ -1,28 +1,16 @@
 -- What a row statement makes of a branch that is open and ACTIVE.
 use Rattle.std.proofs.Common.{◌≡◌, ℕ, Bool, true, false, take, refl, ap, sym, ◌∙◌, subst}
-use Rattle.std.specs.Prelude.{not, ◌&&◌}
-use Rattle.xa_xid.specs.declared.xid.Xid.{Xid}
-use Rattle.xa_xid.specs.declared.statement.Statement.{Statement}
-use Rattle.xa_xid.specs.declared.statement.Statement.TheVariants.{Start, End, Prepare, Commit, Rollback, Recover}
-use Rattle.xa_xid.specs.declared.statement.Statement.TheVariants.{Unsupported, Get, Put, Del, Disconnect}
-use Rattle.xa_server.specs.State.{State, association_of}
-use Rattle.xa_server.specs.declared.association.Association.TheVariants.{Active}
-use Rattle.xa_server.specs.Locks.{LockLaw}
-use Rattle.xa_server.specs.Replies.{reply_to}
-use Rattle.xa_server.specs.Step.{enters, may_enter, is_refused, after}
+use Rattle.std.specs.Prelude.{not, ◌&&◌, Result, Ok, Err, IfOk, IfErr}
+use Rattle.xa_xid.specs.declared.{xid.Xid.Xid, statement.Statement.Statement}
+use Rattle.xa_server.specs.{State.{State, association_of}, declared.association.Association.TheVariants.Active}
+use Rattle.xa_server.specs.{Locks.LockLaw, Replies.reply_to, Step.{enters, may_enter, is_refused, after}}
 use Rattle.decision_log.specs.History.{entries_of}
-use Rattle.std.specs.Prelude.{Result, Ok, Err, IfOk, IfErr}
-use Rattle.xa_session.specs.declared.fault.Fault.{Fault}
-use Rattle.xa_session.specs.View.{SessionView, StaysOfLog, TakesBy}
+use Rattle.xa_session.specs.{declared.{fault.Fault.Fault, answer.Answer.Answer}, Replay.{state_after, state_at}}
+use Rattle.xa_session.specs.{View.{SessionView, StaysOfLog, TakesBy}, Answer.{IsAnswered, Fails, IsFinal}}
 use Rattle.xa_session.proofs.OwnAssociations.{read, written, deleted}
 use Rattle.xa_session.proofs.Associations.{law_seen, association_at, state_entered, state_outside}
-use Rattle.xa_coordinator.specs.declared.fault.Cause.TheVariants.{Session}
+use Rattle.xa_coordinator.specs.{declared.fault.Cause.TheVariants.Session, OpenBranches.association_seen, Work.IsRow}
 use Rattle.xa_coordinator.proofs.Telling.{is_undone, association_refused}
-use Rattle.xa_session.specs.Answer.{IsAnswered, Fails, IsFinal}
-use Rattle.xa_session.specs.Replay.{state_after, state_at}
-use Rattle.xa_session.specs.declared.answer.Answer.{Answer}
-use Rattle.xa_coordinator.specs.OpenBranches.{association_seen}
-use Rattle.xa_coordinator.specs.Work.{IsRow}
 
 -- if a test that needs another one to fail holds, that one fails
 unrefused : (refused may : Bool) → (not refused && may) ≡ true → refused ≡ false
@@ -34,26 +22,26 @@ row_entered : (state : State) → LockLaw state → (session : ℕ) (xid : Xid) 
     → association_of state session ≡ Active xid
     → enters state session statement ≡ true → association_of (after state session statement) session ≡ Active xid
 unfolding enters
-row_entered state law session xid (Get key) is association entering =
+row_entered state law session xid (Statement.Get key) is association entering =
     read state law session xid key association
-    (unrefused (is_refused (reply_to state session (Get key)))
-    (may_enter state (association_of state session) (Get key)) entering)
-row_entered state law session xid (Put key value) is association entering =
+    (unrefused (is_refused (reply_to state session (Statement.Get key)))
+    (may_enter state (association_of state session) (Statement.Get key)) entering)
+row_entered state law session xid (Statement.Put key value) is association entering =
     written state law session xid key value association
-    (unrefused (is_refused (reply_to state session (Put key value)))
-    (may_enter state (association_of state session) (Put key value)) entering)
-row_entered state law session xid (Del key) is association entering =
+    (unrefused (is_refused (reply_to state session (Statement.Put key value)))
+    (may_enter state (association_of state session) (Statement.Put key value)) entering)
+row_entered state law session xid (Statement.Del key) is association entering =
     deleted state law session xid key association
-    (unrefused (is_refused (reply_to state session (Del key)))
-    (may_enter state (association_of state session) (Del key)) entering)
-row_entered state law session xid (Start other) is association entering = absurd is
-row_entered state law session xid (End other) is association entering = absurd is
-row_entered state law session xid (Prepare other) is association entering = absurd is
-row_entered state law session xid (Commit other one_phase) is association entering = absurd is
-row_entered state law session xid (Rollback other) is association entering = absurd is
-row_entered state law session xid (Recover convert) is association entering = absurd is
-row_entered state law session xid Unsupported is association entering = absurd is
-row_entered state law session xid Disconnect is association entering = absurd is
+    (unrefused (is_refused (reply_to state session (Statement.Del key)))
+    (may_enter state (association_of state session) (Statement.Del key)) entering)
+row_entered state law session xid (Statement.Start other) is association entering = absurd is
+row_entered state law session xid (Statement.End other) is association entering = absurd is
+row_entered state law session xid (Statement.Prepare other) is association entering = absurd is
+row_entered state law session xid (Statement.Commit other one_phase) is association entering = absurd is
+row_entered state law session xid (Statement.Rollback other) is association entering = absurd is
+row_entered state law session xid (Statement.Recover convert) is association entering = absurd is
+row_entered state law session xid Statement.Unsupported is association entering = absurd is
+row_entered state law session xid Statement.Disconnect is association entering = absurd is
 
 module _ (statement : Statement) (answer : Answer) (xid : Xid) (old new : SessionView) where
   -- if the session had this branch open and ACTIVE after all that it had seen before the call, it has so at the

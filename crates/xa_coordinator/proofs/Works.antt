@@ -1,48 +1,31 @@
 -- What work in a store comes to, from its statements.
 use Rattle.std.proofs.Common.{◌≡◌, inl, inr, ℕ, Bool, true, false, List, [], ◌∷◌, ◌++◌, length, get_or, refl, ap, sym}
-use Rattle.std.proofs.Common.{◌∙◌, subst, append-nil, arith}
-use Rattle.std.specs.Prelude.{slice_get, Option, Some, Result, Ok, Err, All}
-use Rattle.xa_session.specs.View.{SessionView}
-use Rattle.xa_coordinator.specs.declared.branches.OpenBranch.{OpenBranch}
-use Rattle.std.proofs.lemmas.List.Elements.{All-nil, All-cons, All-append}
+use Rattle.std.proofs.{Common.{◌∙◌, subst, append-nil, arith}, lemmas.List.Elements.{All-nil, All-cons, All-append}}
 use Rattle.std.proofs.lemmas.Option.{slice_get_within, slice_get-get_or}
-use Rattle.xa_xid.specs.declared.xid.Xid.{Xid}
-use Rattle.xa_xid.specs.declared.statement.Statement.{Statement}
-use Rattle.xa_xid.specs.declared.statement.Statement.TheVariants.{Start, End, Prepare, Commit, Rollback, Recover}
-use Rattle.xa_xid.specs.declared.statement.Statement.TheVariants.{Unsupported, Get, Put, Del, Disconnect}
-use Rattle.xa_server.specs.declared.association.Association.TheVariants.{Active}
-use Rattle.xa_server.specs.declared.reply.Reply.{Reply}
-use Rattle.xa_server.specs.Step.{enters}
+use Rattle.std.specs.Prelude.{slice_get, Option, Some, Result, Ok, Err, All}
+use Rattle.xa_session.specs.{View.SessionView, Replay.state_at}
+use Rattle.xa_coordinator.specs.declared.{branches.OpenBranch.OpenBranch, fault.{Cause.Cause, WorkFault.WorkFault}}
+use Rattle.xa_coordinator.specs.declared.fault.Cause.TheVariants.{Session as CauseSession, Refused as CauseRefused}
+use Rattle.xa_coordinator.specs.declared.{decisions.Decision.Decision, transaction.Transaction.Transaction}
+use Rattle.xa_coordinator.specs.{Agreement.{AddsStatements, AgreesWith, Agrees}, Branch.branch_xid}
+use Rattle.xa_coordinator.specs.{OpenBranches.{association_seen, association_in, IsWorking}, Outcomes.branch_of}
+use Rattle.xa_coordinator.specs.{Participants.takes_part, Stores.{AtStore, EachStore, ChangesAt}}
+use Rattle.xa_coordinator.specs.{Told.{IsDone, IsUndone}, Work.{IsRow, MayBe, AddsAtMost, AddsWork, MayStart, was_open}}
+use Rattle.xa_coordinator.specs.{Work.{was_started, IsReplied, IsWorked, IsCut, WorksAs}, Parts.WorksWithin}
+use Rattle.xa_coordinator.proofs.{Telling.{adds_then, adds_nothing, open_unstarted}, Agreeing.nothing_agrees}
+use Rattle.xa_coordinator.proofs.Walk.{at_then, at_weaker, at_same, only_at}
+use Rattle.xa_xid.specs.declared.{xid.Xid.Xid, statement.Statement.Statement}
+use Rattle.xa_server.specs.{declared.{association.Association.TheVariants.Active, reply.Reply.Reply}, Step.enters}
 use Rattle.xa_server.specs.Locks.{LockLaw}
 use Rattle.decision_log.specs.History.{entries_of}
-use Rattle.xa_session.specs.Replay.{state_at}
-use Rattle.xa_coordinator.specs.declared.fault.Cause.{Cause}
-use Rattle.xa_coordinator.specs.declared.fault.Cause.TheVariants.{Session as CauseSession, Refused as CauseRefused}
-use Rattle.xa_coordinator.specs.declared.fault.WorkFault.{WorkFault}
-use Rattle.xa_coordinator.specs.declared.fault.WorkFault.TheVariants.{Session, Refused, Lost}
-use Rattle.xa_coordinator.specs.declared.decisions.Decision.{Decision}
-use Rattle.xa_coordinator.specs.declared.transaction.Transaction.{Transaction}
-use Rattle.xa_coordinator.specs.Agreement.{AddsStatements, AgreesWith, Agrees}
-use Rattle.xa_coordinator.specs.Branch.{branch_xid}
-use Rattle.xa_coordinator.specs.OpenBranches.{association_seen, association_in, IsWorking}
-use Rattle.xa_coordinator.specs.Outcomes.{branch_of}
-use Rattle.xa_coordinator.specs.Participants.{takes_part}
-use Rattle.xa_coordinator.specs.Stores.{AtStore, EachStore, ChangesAt}
-use Rattle.xa_coordinator.specs.Told.{IsDone, IsUndone}
-use Rattle.xa_coordinator.specs.Work.{IsRow, MayBe, AddsAtMost, AddsWork, MayStart, was_open, was_started, IsReplied}
-use Rattle.xa_coordinator.specs.Work.{IsWorked, IsCut, WorksAs}
-use Rattle.xa_coordinator.specs.Parts.{WorksWithin}
-use Rattle.xa_coordinator.proofs.Telling.{adds_then, adds_nothing, open_unstarted}
-use Rattle.xa_coordinator.proofs.Agreeing.{nothing_agrees}
-use Rattle.xa_coordinator.proofs.Walk.{at_then, at_weaker, at_same, only_at}
 
 -- ---- at most two statements
 
 -- starting the branch, or finding it open, adds XA START or nothing
-may_start_adds : (xid : Xid) (old mid : SessionView) → MayStart xid old mid → AddsAtMost (Start xid) old mid
+may_start_adds : (xid : Xid) (old mid : SessionView) → MayStart xid old mid → AddsAtMost (Statement.Start xid) old mid
 may_start_adds xid old there (was_open association) = record { statements = []; is = inl refl; adds = adds_nothing old }
 may_start_adds xid old there (was_started mid done) =
-    record { statements = Start xid ∷ []; is = inr refl; adds = done.adds }
+    record { statements = Statement.Start xid ∷ []; is = inr refl; adds = done.adds }
 
 -- an answered row statement adds itself or nothing
 replied_adds : (row : Statement) (reply : Reply) (xid : Xid) (old new : SessionView) → IsReplied row reply xid old new
@@ -72,7 +55,7 @@ replied_adds row reply xid old new is =
         }
 
 -- starting a branch and then giving a row statement add at most XA START and the statement
-both : (xid : Xid) (row : Statement) (old mid new : SessionView) → AddsAtMost (Start xid) old mid
+both : (xid : Xid) (row : Statement) (old mid new : SessionView) → AddsAtMost (Statement.Start xid) old mid
     → AddsAtMost row mid new → AddsWork xid row old new
 both xid row old mid new one two =
     record {
@@ -101,26 +84,26 @@ cut_adds row cause xid old new is =
 
 -- work whose branch couldn't be started added no statement
 unstarted_adds : (row : Statement) (cause : Cause) (xid : Xid) (old new : SessionView)
-    → IsUndone (Start xid) cause old new → AddsWork xid row old new
+    → IsUndone (Statement.Start xid) cause old new → AddsWork xid row old new
 unstarted_adds row cause xid old new is =
-    both xid row old new new (none (Start xid) old new is.adds) (none row new new (adds_nothing new))
+    both xid row old new new (none (Statement.Start xid) old new is.adds) (none row new new (adds_nothing new))
 
 -- ---- agreement
 
 -- a row statement decides nothing, so it agrees with any decisions
 row_agrees : (decisions : List Decision) (name : List ℕ) (store : ℕ) (row : Statement) → IsRow row
     → AgreesWith decisions name store row
-row_agrees decisions name store (Start xid) is = tt
-row_agrees decisions name store (End xid) is = tt
-row_agrees decisions name store (Prepare xid) is = tt
-row_agrees decisions name store (Commit xid one_phase) is = absurd is
-row_agrees decisions name store (Rollback xid) is = absurd is
-row_agrees decisions name store (Recover convert) is = tt
-row_agrees decisions name store Unsupported is = tt
-row_agrees decisions name store (Get key) is = tt
-row_agrees decisions name store (Put key value) is = tt
-row_agrees decisions name store (Del key) is = tt
-row_agrees decisions name store Disconnect is = tt
+row_agrees decisions name store (Statement.Start xid) is = tt
+row_agrees decisions name store (Statement.End xid) is = tt
+row_agrees decisions name store (Statement.Prepare xid) is = tt
+row_agrees decisions name store (Statement.Commit xid one_phase) is = absurd is
+row_agrees decisions name store (Statement.Rollback xid) is = absurd is
+row_agrees decisions name store (Statement.Recover convert) is = tt
+row_agrees decisions name store Statement.Unsupported is = tt
+row_agrees decisions name store (Statement.Get key) is = tt
+row_agrees decisions name store (Statement.Put key value) is = tt
+row_agrees decisions name store (Statement.Del key) is = tt
+row_agrees decisions name store Statement.Disconnect is = tt
 
 -- what holds of a statement holds of each element of a list that has this statement alone or is empty
 maybe_all : (P : Statement → Type 0) (statement : Statement) (list : List Statement) → MayBe statement list
@@ -137,7 +120,7 @@ work_agrees decisions name store xid row is old new work = record {
   adds = work.adds;
   each =
       All-append (AgreesWith decisions name store) work.started work.worked
-      (maybe_all (AgreesWith decisions name store) (Start xid) work.started work.is_start tt)
+      (maybe_all (AgreesWith decisions name store) (Statement.Start xid) work.started work.is_start tt)
       (maybe_all (AgreesWith decisions name store) row work.worked work.is_row
       (row_agrees decisions name store row is));
 }
@@ -174,7 +157,7 @@ module _ {S : Type 0} (view : S → SessionView) where
         replied = is a b is_a is_b;
       },
     )
-    works_open (Err (Session fault)) before after association takes mark is =
+    works_open (Err (WorkFault.Session fault)) before after association takes mark is =
         inl (
           takes,
           mark,
@@ -185,34 +168,35 @@ module _ {S : Type 0} (view : S → SessionView) where
             undone = is a b is_a is_b;
           },
         )
-    works_open (Err (Refused error)) before after association takes mark is = absurd is
-    works_open (Err Lost) before after association takes mark is = absurd is
+    works_open (Err (WorkFault.Refused error)) before after association takes mark is = absurd is
+    works_open (Err WorkFault.Lost) before after association takes mark is = absurd is
 
     -- what became of a row statement in a branch that was started just before is what became of the work
     pub works_started : (result : Result Reply WorkFault) (before mid after : List S) → length mid ≡ length before →
-        AtStore view store (IsDone (Start (branch_of old store))) before mid → takes_part new.participants store ≡ true
+        AtStore view store (IsDone (Statement.Start (branch_of old store))) before mid → takes_part new.participants
+        store ≡ true
         → IsWorking marks' store old.number →
         WorksWithin view (branch_of old store) store row result mid after
         → WorksAs view marks marks' old new store row result before after
     works_started (Ok reply) before mid after count started takes mark is = (
       takes,
       mark,
-      at_then view store (IsDone (Start (branch_of old store))) (IsReplied row reply (branch_of old store))
+      at_then view store (IsDone (Statement.Start (branch_of old store))) (IsReplied row reply (branch_of old store))
           (IsWorked row reply (branch_of old store))
           (λ a m b done replied. record { mid = m; opened = was_started m done; replied = replied }) before mid after
           count started is,
     )
-    works_started (Err (Session fault)) before mid after count started takes mark is =
+    works_started (Err (WorkFault.Session fault)) before mid after count started takes mark is =
         inl (
           takes,
           mark,
-          at_then view store (IsDone (Start (branch_of old store))) (IsUndone row (CauseSession fault))
+          at_then view store (IsDone (Statement.Start (branch_of old store))) (IsUndone row (CauseSession fault))
               (IsCut row (CauseSession fault) (branch_of old store))
               (λ a m b done undone. record { mid = m; opened = was_started m done; undone = undone }) before mid after
               count started is,
         )
-    works_started (Err (Refused error)) before mid after count started takes mark is = absurd is
-    works_started (Err Lost) before mid after count started takes mark is = absurd is
+    works_started (Err (WorkFault.Refused error)) before mid after count started takes mark is = absurd is
+    works_started (Err WorkFault.Lost) before mid after count started takes mark is = absurd is
 
     -- whatever became of the work, it added at most XA START and the row statement
     pub works_add : (result : Result Reply WorkFault) (before after : List S)
@@ -221,20 +205,20 @@ module _ {S : Type 0} (view : S → SessionView) where
     works_add (Ok reply) before after is =
         at_weaker view store (IsWorked row reply (branch_of old store)) (AddsWork (branch_of old store) row)
         (worked_adds row reply (branch_of old store)) before after is.2
-    works_add (Err (Session fault)) before after (inl is) =
+    works_add (Err (WorkFault.Session fault)) before after (inl is) =
         at_weaker view store (IsCut row (CauseSession fault) (branch_of old store)) (AddsWork (branch_of old store) row)
         (cut_adds row (CauseSession fault) (branch_of old store)) before after is.2
-    works_add (Err (Session fault)) before after (inr is) =
-        at_weaker view store (IsUndone (Start (branch_of old store)) (CauseSession fault))
+    works_add (Err (WorkFault.Session fault)) before after (inr is) =
+        at_weaker view store (IsUndone (Statement.Start (branch_of old store)) (CauseSession fault))
         (AddsWork (branch_of old store) row)
         (unstarted_adds row (CauseSession fault) (branch_of old store)) before after is.3
-    works_add (Err (Refused error)) before after is =
-        at_weaker view store (IsUndone (Start (branch_of old store)) (CauseRefused error))
+    works_add (Err (WorkFault.Refused error)) before after is =
+        at_weaker view store (IsUndone (Statement.Start (branch_of old store)) (CauseRefused error))
         (AddsWork (branch_of old store) row)
         (unstarted_adds row (CauseRefused error) (branch_of old store)) before after is.3
-    works_add (Err Lost) before after is =
+    works_add (Err WorkFault.Lost) before after is =
         at_same view store (AddsWork (branch_of old store) row)
-        (λ a. both (branch_of old store) row a a a (none (Start (branch_of old store)) a a (adds_nothing a))
+        (λ a. both (branch_of old store) row a a a (none (Statement.Start (branch_of old store)) a a (adds_nothing a))
         (none row a a (adds_nothing a)))
         before after (ap (λ (list : List S). slice_get list store) is.4)
 
@@ -245,11 +229,11 @@ module _ {S : Type 0} (view : S → SessionView) where
       → WorksWithin view xid store row result before after → AtStore view store (AddsAtMost row) before after
   within_adds store xid row (Ok reply) before after is =
       at_weaker view store (IsReplied row reply xid) (AddsAtMost row) (replied_adds row reply xid) before after is
-  within_adds store xid row (Err (Session fault)) before after is =
+  within_adds store xid row (Err (WorkFault.Session fault)) before after is =
       at_weaker view store (IsUndone row (CauseSession fault)) (AddsAtMost row)
       (λ a b undone. none row a b undone.adds) before after is
-  within_adds store xid row (Err (Refused error)) before after is = absurd is
-  within_adds store xid row (Err Lost) before after is = absurd is
+  within_adds store xid row (Err (WorkFault.Refused error)) before after is = absurd is
+  within_adds store xid row (Err WorkFault.Lost) before after is = absurd is
 
   -- a statement that wasn't carried out added nothing, so at most any row statement
   pub unsaid_adds : (store : ℕ) (row statement : Statement) (cause : Cause) (before after : List S)
@@ -266,7 +250,7 @@ module _ {S : Type 0} (view : S → SessionView) where
       → length mid ≡ length before →
       ((s : S) → slice_get before store ≡ Some s → association_seen (view s)
       ≡ association_in branch.phase (branch_xid name branch.number store)) →
-      AtStore view store (IsDone (Start xid)) before mid → AtStore view store (AddsAtMost row) before after
+      AtStore view store (IsDone (Statement.Start xid)) before mid → AtStore view store (AddsAtMost row) before after
   never_started lawful own store xid branch name row before mid after count is_open started = λ a b is_a is_b.
       let between : S = get_or mid store a in
       let is_between : slice_get mid store ≡ Some between =

@@ -4,13 +4,9 @@
 --     AgreesWith       a statement doesn't go against the decisions
 --     Agrees           a call added only statements that agree with the decisions
 use Rattle.std.specs.Prelude.{◌≡◌, ◌++◌, ℕ, true, false, List, length, map, All}
-use Rattle.xa_xid.specs.declared.statement.Statement.{Statement}
-use Rattle.xa_xid.specs.declared.statement.Statement.TheVariants.{Commit, Rollback}
-use Rattle.xa_session.specs.Answer.{Advances, entry_of}
-use Rattle.xa_session.specs.View.{SessionView, StaysOfLog, Takes}
-use Rattle.xa_coordinator.specs.Branch.{IsBranchOf}
-use Rattle.xa_coordinator.specs.Decisions.{is_decided}
-use Rattle.xa_coordinator.specs.declared.decisions.Decision.{Decision}
+use Rattle.xa_xid.specs.declared.statement.Statement.{Statement, TheVariants.{Commit, Rollback}}
+use Rattle.xa_session.specs.{Answer.{Advances, entry_of}, View.{SessionView, StaysOfLog, Takes}}
+use Rattle.xa_coordinator.specs.{Branch.IsBranchOf, Decisions.is_decided, declared.decisions.Decision.Decision}
 
 -- the session is of its log, has seen no less than before, and added these statements, in this order
 pub record AddsStatements (statements : List Statement) (old new : SessionView) : Type 0 where

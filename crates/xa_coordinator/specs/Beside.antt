@@ -5,9 +5,7 @@
 --     IsAnsweredSo     the same, and the session stays of its log
 use Rattle.std.specs.Prelude.{◌≡◌, true, Result, Ok, Err}
 use Rattle.xa_xid.specs.declared.statement.Statement.{Statement}
-use Rattle.xa_session.specs.Answer.{IsAnswered, Fails}
-use Rattle.xa_session.specs.View.{SessionView, StaysOfLog}
-use Rattle.xa_session.specs.declared.answer.Answer.{Answer}
+use Rattle.xa_session.specs.{Answer.{IsAnswered, Fails}, View.{SessionView, StaysOfLog}, declared.answer.Answer.Answer}
 use Rattle.xa_session.specs.declared.fault.Fault.{Fault}
 
 -- a session that got no statement: it is of the same log, knows what it knew, and takes as many more statements; if

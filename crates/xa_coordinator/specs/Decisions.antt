@@ -12,11 +12,8 @@
 --     IsNoList         why a list can't be taken as decisions
 use Rattle.std.specs.Prelude.{ℕ, ◌≡◌, ◌<◌, ◌≤◌, Bool, true, false, Option, Some, None, if◌then◌else◌, ◌==◌, ◌-◌, List}
 use Rattle.std.specs.Prelude.{length, slice_get, slice_set}
-use Rattle.xa_coordinator.specs.Limits.{most_numbers}
-use Rattle.xa_coordinator.specs.declared.fault.DecisionsFault.{DecisionsFault}
-use Rattle.xa_coordinator.specs.declared.fault.DecisionsFault.TheVariants.{TooMany, Overtaken, NoMemory}
-use Rattle.xa_coordinator.specs.declared.decisions.Decision.{Decision}
-use Rattle.xa_coordinator.specs.declared.decisions.Decision.TheVariants.{Undecided, Decided, Closed}
+use Rattle.xa_coordinator.specs.{Limits.most_numbers, declared.fault.DecisionsFault.DecisionsFault}
+use Rattle.xa_coordinator.specs.declared.decisions.Decision.{Decision, TheVariants.{Undecided, Decided, Closed}}
 
 -- the state of the number; numbers are given from 1 on (own rule)
 unfoldable pub decision_of : List Decision → ℕ → Option Decision
@@ -71,6 +68,6 @@ pub record IsFirstOvertaken (decisions : List Decision) (number : ℕ) : Type 0 
 -- why the list isn't taken: it has more than `most_numbers`; or its first overtaken number is this one; or memory is
 -- missing, which is wanted only for a list that can be decisions
 abbrev pub IsNoList : List Decision → DecisionsFault → Type 0
-IsNoList decisions TooMany = most_numbers < length decisions
-IsNoList decisions (Overtaken number) = IsFirstOvertaken decisions number
-IsNoList decisions NoMemory = CanStand decisions
+IsNoList decisions DecisionsFault.TooMany = most_numbers < length decisions
+IsNoList decisions (DecisionsFault.Overtaken number) = IsFirstOvertaken decisions number
+IsNoList decisions DecisionsFault.NoMemory = CanStand decisions

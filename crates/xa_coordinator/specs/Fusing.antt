@@ -4,11 +4,8 @@
 --     may_starve          whether memory may have been refused, or no more statements are taken
 --     limited             the session within as contracts see it, with the limit
 use Rattle.std.specs.Prelude.{◌≡◌, ◌≢◌, ◌+◌, ◌||◌, ℕ, zero, suc, Bool, true, false, Option, Some, None, Result, Err}
-use Rattle.xa_session.specs.View.{SessionView}
+use Rattle.xa_session.specs.{View.SessionView, declared.{answer.Answer.Answer, fault.Fault.Fault}}
 use Rattle.xa_xid.specs.declared.statement.Statement.{Statement}
-use Rattle.xa_session.specs.declared.answer.Answer.{Answer}
-use Rattle.xa_session.specs.declared.fault.Fault.{Fault}
-use Rattle.xa_session.specs.declared.fault.Fault.TheVariants.{NoMemory}
 use Rattle.xa_coordinator.specs.declared.fused.Fused.{Fused}
 
 -- if a call is left, the session within gave the answer, and one call less is left; else the answer is NoMemory, and
@@ -17,7 +14,7 @@ pub record AnswersAsWithin {S : Type 0} (gives : S → Statement → Result Answ
     (statement : Statement)
     (result : Result Answer Fault) (new : Fused S) : Type 0 where
   pub passed : old.left ≢ 0 → (new.left + 1 ≡ old.left) × gives old.inner statement result new.inner
-  pub spent : old.left ≡ 0 → (result ≡ Err NoMemory) × (new.left ≡ 0) × (new.inner ≡ old.inner)
+  pub spent : old.left ≡ 0 → (result ≡ Err Fault.NoMemory) × (new.left ≡ 0) × (new.inner ≡ old.inner)
 
 -- no more statements are taken
 abbrev pub is_spent : Option ℕ → Bool

@@ -6,19 +6,13 @@
 --     alone_at         a session that holds no other, of a base and of what it knows
 --     other_alone      the other client's session by itself
 --     other-steady     using the store's own session leaves the other client's by itself as it was
-use Rattle.std.specs.Prelude.{◌≡◌, false, true, None, List, [], ◌∷◌, map}
-use Rattle.std.proofs.Common.{ap, ◌∙◌}
+use Rattle.std.{specs.Prelude.{◌≡◌, false, true, None, List, [], ◌∷◌, map}, proofs.Common.{ap, ◌∙◌}}
 use Rattle.xa_words.specs.Entry.{Entry}
 use Rattle.xa_xid.specs.declared.statement.Statement.{Statement}
-use Rattle.decision_log.specs.Known.{LogIdentity}
-use Rattle.decision_log.specs.declared.known.Known.{Known}
+use Rattle.decision_log.specs.{Known.LogIdentity, declared.known.Known.Known}
 use Rattle.xa_server.specs.State.{State}
-use Rattle.xa_session.specs.Answer.{IsAnswered}
-use Rattle.xa_session.specs.View.{SessionView, StaysOfLog}
-use Rattle.xa_session.specs.declared.answer.Answer.{Answer}
-use Rattle.xa_coordinator.specs.Beside.{HoldsAsBefore}
-use Rattle.xa_coordinator.specs.Watched.{known_by}
-use Rattle.xa_coordinator.specs.declared.store.LastingStore.{LastingStore}
+use Rattle.xa_session.specs.{Answer.IsAnswered, View.{SessionView, StaysOfLog}, declared.answer.Answer.Answer}
+use Rattle.xa_coordinator.specs.{Beside.HoldsAsBefore, Watched.known_by, declared.store.LastingStore.LastingStore}
 
 -- all entries of the store since it began
 abbrev pub history_of : LastingStore → List Entry

@@ -11,17 +11,10 @@
 --     KeepsOpen        in the stores that a call didn't speak to, what is open is as before
 use Rattle.std.specs.Prelude.{◌≡◌, ◌≤◌, ◌==◌, ◌&&◌, ◌⊎◌, ℕ, Bool, true, false, List, Option, Some, slice_get}
 use Rattle.xa_xid.specs.declared.xid.Xid.{Xid}
-use Rattle.xa_server.specs.State.{association_of}
-use Rattle.xa_server.specs.declared.association.Association.{Association}
-use Rattle.xa_server.specs.declared.association.Association.TheVariants.{Active as AssociationActive}
-use Rattle.xa_server.specs.declared.association.Association.TheVariants.{Idle as AssociationIdle}
-use Rattle.xa_session.specs.Replay.{state_after}
-use Rattle.xa_session.specs.View.{SessionView}
-use Rattle.xa_coordinator.specs.Branch.{branch_xid}
-use Rattle.xa_coordinator.specs.Participants.{takes_part}
-use Rattle.xa_coordinator.specs.declared.participants.Participants.{Participants}
-use Rattle.xa_coordinator.specs.declared.branches.OpenBranch.{OpenBranch}
-use Rattle.xa_coordinator.specs.declared.branches.Phase.{Phase}
+use Rattle.xa_server.specs.{State.association_of, declared.association.Association.Association}
+use Rattle.xa_session.specs.{Replay.state_after, View.SessionView}
+use Rattle.xa_coordinator.specs.{Branch.branch_xid, Participants.takes_part, declared.branches.Phase.Phase}
+use Rattle.xa_coordinator.specs.declared.{participants.Participants.Participants, branches.OpenBranch.OpenBranch}
 use Rattle.xa_coordinator.specs.declared.branches.Phase.TheVariants.{Active, Idle}
 
 -- what the session has open after all that it has seen
@@ -30,8 +23,8 @@ association_seen session = association_of (state_after session.base session.know
 
 -- what a session has open if it has this branch open in this phase
 abbrev pub association_in : Phase → Xid → Association
-association_in Active xid = AssociationActive xid
-association_in Idle xid = AssociationIdle xid
+association_in Active xid = Association.Active xid
+association_in Idle xid = Association.Idle xid
 
 -- whatever branch the coordinator has open in a store, the session of that store has it open in the same phase, as far
 -- as the session has seen

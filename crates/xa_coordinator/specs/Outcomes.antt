@@ -17,38 +17,22 @@
 --                                     names
 --     finish_for       how a transaction that was voted on is finished
 use Rattle.std.specs.Prelude.{◌≡◌, ◌<◌, ◌+◌, ℕ, Bool, true, false, nat_eq, List, [], ◌∷◌, length, All, Option, Some}
-use Rattle.std.specs.Prelude.{slice_get}
-use Rattle.std.specs.List.{list_any}
-use Rattle.xa_xid.specs.declared.xid.Xid.{Xid}
-use Rattle.xa_xid.specs.declared.statement.Statement.{Statement}
-use Rattle.xa_xid.specs.declared.statement.Statement.TheVariants.{End, Prepare, Commit, Rollback}
+use Rattle.std.specs.{Prelude.slice_get, List.list_any}
+use Rattle.xa_xid.specs.declared.{xid.Xid.Xid, statement.Statement.Statement}
 use Rattle.xa_session.specs.View.{SessionView}
-use Rattle.xa_coordinator.specs.declared.closing.Closing.{Closing}
-use Rattle.xa_coordinator.specs.declared.closing.Closing.TheVariants.{InTwoPhases, InOnePhase, RollBack}
-use Rattle.xa_coordinator.specs.Agreement.{AddsEach}
-use Rattle.xa_coordinator.specs.declared.transaction.VoteKind.{VoteKind}
-use Rattle.xa_coordinator.specs.Branch.{branch_xid}
-use Rattle.xa_coordinator.specs.Stores.{EachStore, EndsAt}
-use Rattle.xa_coordinator.specs.Participants.{takes_part, TwoTakePart, OnlyTakesPart}
-use Rattle.xa_coordinator.specs.declared.transaction.Transaction.{Transaction}
-use Rattle.xa_coordinator.specs.declared.transaction.VoteKind.TheVariants.{Ready as VoteKindReady}
-use Rattle.xa_coordinator.specs.declared.transaction.VoteKind.TheVariants.{OnePhase as VoteKindOnePhase}
-use Rattle.xa_coordinator.specs.declared.transaction.VoteKind.TheVariants.{No as VoteKindNo}
-use Rattle.xa_coordinator.specs.declared.ending.Ending.{Ending}
-use Rattle.xa_coordinator.specs.declared.ending.Ending.TheVariants.{Committed, RolledBack, Hazard, Unfinished}
-use Rattle.xa_coordinator.specs.declared.vote.Vote.{Vote}
-use Rattle.xa_coordinator.specs.declared.vote.Vote.TheVariants.{Ready, OnePhase, No, Nothing}
-use Rattle.xa_coordinator.specs.declared.participants.Participants.{Participants}
+use Rattle.xa_coordinator.specs.declared.closing.Closing.{Closing, TheVariants.{InTwoPhases, InOnePhase, RollBack}}
+use Rattle.xa_coordinator.specs.{declared.transaction.{VoteKind.VoteKind, Transaction.Transaction}, Branch.branch_xid}
+use Rattle.xa_coordinator.specs.declared.{ending.Ending.Ending, vote.Vote.Vote, participants.Participants.Participants}
+use Rattle.xa_coordinator.specs.{declared.branches.{OpenBranch.OpenBranch, Phase.TheVariants.Idle}, Agreement.AddsEach}
+use Rattle.xa_coordinator.specs.{Stores.{EachStore, EndsAt}, Participants.{takes_part, TwoTakePart, OnlyTakesPart}}
 use Rattle.xa_coordinator.specs.OpenBranches.{has_working_branch, IsAsBeforeOrEnded}
-use Rattle.xa_coordinator.specs.declared.branches.OpenBranch.{OpenBranch}
-use Rattle.xa_coordinator.specs.declared.branches.Phase.TheVariants.{Idle}
 use Rattle.xa_coordinator.specs.Told.{IsStopped, IsMissing, IsUnfinished}
 
 -- the statement that finishes a branch
 abbrev pub finish_statement : Closing → Xid → Statement
-finish_statement InTwoPhases xid = Commit xid false
-finish_statement InOnePhase xid = Commit xid true
-finish_statement RollBack xid = Rollback xid
+finish_statement InTwoPhases xid = Statement.Commit xid false
+finish_statement InOnePhase xid = Statement.Commit xid true
+finish_statement RollBack xid = Statement.Rollback xid
 
 -- XA END comes before a rollback of a branch that takes work
 abbrev pub ends_first : Closing → (working : Bool) → Bool
@@ -58,7 +42,7 @@ ends_first closing working = false
 -- the branch was finished: the statement was added, after XA END if that comes before it
 abbrev pub IsClosed : (ends : Bool) → Statement → Xid → SessionView → SessionView → Type 0
 IsClosed false statement xid old new = AddsEach (statement ∷ []) old new
-IsClosed true statement xid old new = AddsEach (End xid ∷ statement ∷ []) old new
+IsClosed true statement xid old new = AddsEach (Statement.End xid ∷ statement ∷ []) old new
 
 -- whether the store is in the list
 unfoldable pub lists_store : List ℕ → ℕ → Bool
@@ -74,12 +58,12 @@ Settles ends statement xid true true old new = IsMissing ends statement xid old 
 -- a participant's branch was ended and prepared; another store's session is as it was
 abbrev pub IsVoted : Xid → (takes_part : Bool) → SessionView → SessionView → Type 0
 IsVoted xid false old new = new ≡ old
-IsVoted xid true old new = AddsEach (End xid ∷ Prepare xid ∷ []) old new
+IsVoted xid true old new = AddsEach (Statement.End xid ∷ Statement.Prepare xid ∷ []) old new
 
 -- a participant's branch was ended; another store's session is as it was
 abbrev pub IsEnded : Xid → (takes_part : Bool) → SessionView → SessionView → Type 0
 IsEnded xid false old new = new ≡ old
-IsEnded xid true old new = AddsEach (End xid ∷ []) old new
+IsEnded xid true old new = AddsEach (Statement.End xid ∷ []) old new
 
 -- the numbers of stores ascend: each is less than all after it
 abbrev pub Ascends : List ℕ → Type 0
@@ -120,14 +104,14 @@ SettlesIn branches transaction closing store listed =
 -- above it got no statement
 abbrev pub EndsAs : {S : Type 0} → (S → SessionView) → List (Option OpenBranch) → Transaction → Closing → Ending
     → List S → List S → Type 0
-EndsAs view branches transaction closing Committed old new =
+EndsAs view branches transaction closing Ending.Committed old new =
     (commits closing ≡ true) × EachStore view (λ store. SettlesIn branches transaction closing store false) old new
-EndsAs view branches transaction closing RolledBack old new =
+EndsAs view branches transaction closing Ending.RolledBack old new =
     (commits closing ≡ false) × EachStore view (λ store. SettlesIn branches transaction closing store false) old new
-EndsAs view branches transaction closing (Hazard stores) old new =
+EndsAs view branches transaction closing (Ending.Hazard stores) old new =
     IsHazard transaction.participants stores.items
     × EachStore view (λ store. SettlesIn branches transaction closing store (lists_store stores.items store)) old new
-EndsAs view branches transaction closing (Unfinished store cause) old new =
+EndsAs view branches transaction closing (Ending.Unfinished store cause) old new =
     (takes_part transaction.participants store ≡ true)
     × EndsAt view
     (λ other before after. (listed : Bool) × SettlesIn branches transaction closing other listed before after)
@@ -138,13 +122,13 @@ EndsAs view branches transaction closing (Unfinished store cause) old new =
 
 -- the stores below this number were spoken to, if they take part; all stores are below 16
 abbrev pub asked_by_ending : Ending → ℕ
-asked_by_ending (Unfinished store cause) = store + 1
+asked_by_ending (Ending.Unfinished store cause) = store + 1
 asked_by_ending ending = 16
 
 -- the stores below this number were spoken to, if they take part; all stores are below 16
 abbrev pub asked_by_vote : Vote → ℕ
-asked_by_vote (No prepared store cause) = store + 1
-asked_by_vote Nothing = 0
+asked_by_vote (Vote.No prepared store cause) = store + 1
+asked_by_vote Vote.Nothing = 0
 asked_by_vote vote = 16
 
 -- what a vote says: after Ready at least two stores take part, and each of their branches was ended and prepared; after
@@ -152,41 +136,41 @@ asked_by_vote vote = 16
 -- out, the branches below it were ended and prepared, and the stores above it got no statement; after Nothing no store
 -- takes part, and no session changes
 abbrev pub VotesAs : {S : Type 0} → (S → SessionView) → Transaction → Vote → List S → List S → Type 0
-VotesAs view transaction (Ready prepared) old new =
-    (prepared ≡ record { transaction = transaction; vote_kind = VoteKindReady })
+VotesAs view transaction (Vote.Ready prepared) old new =
+    (prepared ≡ record { transaction = transaction; vote_kind = VoteKind.Ready })
     × TwoTakePart transaction.participants
     × EachStore view (λ store. IsVoted (branch_of transaction store)
     (takes_part transaction.participants store)) old new
-VotesAs view transaction (OnePhase prepared) old new =
-    (prepared ≡ record { transaction = transaction; vote_kind = VoteKindOnePhase })
+VotesAs view transaction (Vote.OnePhase prepared) old new =
+    (prepared ≡ record { transaction = transaction; vote_kind = VoteKind.OnePhase })
     × ((store : ℕ) × OnlyTakesPart transaction.participants store)
     × EachStore view (λ store. IsEnded (branch_of transaction store)
     (takes_part transaction.participants store)) old new
-VotesAs view transaction (No prepared store cause) old new =
-    (prepared ≡ record { transaction = transaction; vote_kind = VoteKindNo })
+VotesAs view transaction (Vote.No prepared store cause) old new =
+    (prepared ≡ record { transaction = transaction; vote_kind = VoteKind.No })
     × (takes_part transaction.participants store ≡ true)
     × EndsAt view (λ other. IsVoted (branch_of transaction other) (takes_part transaction.participants other))
-    store (IsStopped true (Prepare (branch_of transaction store)) (branch_of transaction store) cause) old new
-VotesAs view transaction Nothing old new =
+    store (IsStopped true (Statement.Prepare (branch_of transaction store)) (branch_of transaction store) cause) old new
+VotesAs view transaction Vote.Nothing old new =
     ((store : ℕ) → takes_part transaction.participants store ≡ false) × (new ≡ old)
 
 -- after OnePhase the only participant's branch is IDLE; in the store that a No names, what is open is as
 -- before or IDLE
 abbrev pub KeepsMark : Transaction → Vote → List (Option OpenBranch) → List (Option OpenBranch) → Type 0
-KeepsMark transaction (OnePhase prepared) old new =
+KeepsMark transaction (Vote.OnePhase prepared) old new =
     (store : ℕ) → takes_part transaction.participants store ≡ true
     → slice_get new store ≡ Some (Some (record { number = transaction.number; phase = Idle }))
-KeepsMark transaction (No prepared store cause) old new = IsAsBeforeOrEnded store transaction.number old new
+KeepsMark transaction (Vote.No prepared store cause) old new = IsAsBeforeOrEnded store transaction.number old new
 KeepsMark transaction vote old new = Unit {0}
 
 -- in the store that an Unfinished names, what is open is as before, or the branch has ended its work
 abbrev pub KeepsUnfinished : (number : ℕ) → Ending → List (Option OpenBranch) → List (Option OpenBranch) → Type 0
-KeepsUnfinished number (Unfinished store cause) old new = IsAsBeforeOrEnded store number old new
+KeepsUnfinished number (Ending.Unfinished store cause) old new = IsAsBeforeOrEnded store number old new
 KeepsUnfinished number ending old new = Unit {0}
 
 -- how a transaction that was voted on is finished: in two phases if it is decided; else in one phase if its vote was
 -- OnePhase; else by rolling back (presumed abort)
 abbrev pub finish_for : Bool → VoteKind → Closing
 finish_for true vote_kind = InTwoPhases
-finish_for false VoteKindOnePhase = InOnePhase
+finish_for false VoteKind.OnePhase = InOnePhase
 finish_for false vote_kind = RollBack

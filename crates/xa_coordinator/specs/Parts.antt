@@ -16,44 +16,25 @@
 --     added_by, added_at      how many entries a session has added;  the session of a store
 use Rattle.std.specs.Prelude.{◌≡◌, ◌≢◌, ◌+◌, ◌⊎◌, ℕ, Bool, true, false, List, [], ◌∷◌, ◌++◌, length, slice_get, Option}
 use Rattle.std.specs.Prelude.{Some, None, Result, Ok, Err}
-use Rattle.xa_coordinator.specs.Agreement.{AddsEach}
-use Rattle.xa_coordinator.specs.Branch.{branch_xid}
-use Rattle.xa_coordinator.specs.Outcomes.{IsClosed, IsVoted, branch_of}
-use Rattle.xa_coordinator.specs.Participants.{OnlyTakesPart, TwoTakePart, takes_part}
-use Rattle.xa_coordinator.specs.Stores.{AtStore, EachStore, EndsAt}
-use Rattle.xa_coordinator.specs.Told.{IsDone, IsMissing, IsStopped, IsUndone, IsUnfinished}
-use Rattle.xa_coordinator.specs.Work.{IsReplied}
-use Rattle.xa_coordinator.specs.declared.branches.OpenBranch.{OpenBranch}
-use Rattle.xa_coordinator.specs.declared.branches.Phase.{Phase}
-use Rattle.xa_coordinator.specs.declared.branches.Phase.TheVariants.{Active, Idle}
-use Rattle.xa_coordinator.specs.declared.closing.Found.{Found}
-use Rattle.xa_coordinator.specs.declared.closing.Found.TheVariants.{Closed, Missing}
-use Rattle.xa_coordinator.specs.declared.fault.Cause.{Cause}
-use Rattle.xa_coordinator.specs.declared.fault.Cause.TheVariants.{Refused as CauseRefused, Session as CauseSession}
-use Rattle.xa_coordinator.specs.declared.fault.RecoverFault.{RecoverFault}
-use Rattle.xa_coordinator.specs.declared.fault.RecoverFault.TheVariants.{Refused as RecoverRefused}
-use Rattle.xa_coordinator.specs.declared.fault.RecoverFault.TheVariants.{Session as RecoverSession}
-use Rattle.xa_coordinator.specs.declared.fault.WorkFault.{WorkFault}
-use Rattle.xa_coordinator.specs.declared.fault.WorkFault.TheVariants.{Lost, Refused, Session}
-use Rattle.xa_coordinator.specs.declared.participants.Participants.{Participants}
-use Rattle.xa_coordinator.specs.declared.participants.Participation.{Participation}
-use Rattle.xa_coordinator.specs.declared.participants.Participation.TheVariants.{Nobody, Several, Single}
-use Rattle.xa_coordinator.specs.declared.report.Tally.{Tally}
+use Rattle.xa_coordinator.specs.{Agreement.AddsEach, Branch.branch_xid, Outcomes.{IsClosed, IsVoted, branch_of}}
+use Rattle.xa_coordinator.specs.{Participants.{OnlyTakesPart, TwoTakePart, takes_part}, declared.branches.Phase.Phase}
+use Rattle.xa_coordinator.specs.{Stores.{AtStore, EachStore, EndsAt}, declared.branches.OpenBranch.OpenBranch}
+use Rattle.xa_coordinator.specs.{Told.{IsDone, IsMissing, IsStopped, IsUndone, IsUnfinished}, Work.IsReplied}
+use Rattle.xa_coordinator.specs.declared.{closing.Found.{Found, TheVariants.{Closed, Missing}}, fault.Cause.Cause}
+use Rattle.xa_coordinator.specs.declared.{fault.{RecoverFault.RecoverFault, WorkFault.WorkFault}, report.Tally.Tally}
+use Rattle.xa_coordinator.specs.declared.participants.{Participants.Participants, Participation.Participation}
 use Rattle.xa_coordinator.specs.declared.transaction.Transaction.{Transaction}
-use Rattle.xa_server.specs.declared.reply.Reply.{Reply}
-use Rattle.xa_server.specs.declared.xa_error.XaError.TheVariants.{Nota}
+use Rattle.xa_server.specs.declared.{reply.Reply.Reply, xa_error.XaError.TheVariants.Nota}
 use Rattle.xa_session.specs.View.{SessionView}
-use Rattle.xa_xid.specs.declared.statement.Statement.{Statement}
-use Rattle.xa_xid.specs.declared.statement.Statement.TheVariants.{Commit, End, Prepare, Rollback, Start}
-use Rattle.xa_xid.specs.declared.xid.Xid.{Xid}
+use Rattle.xa_xid.specs.declared.{statement.Statement.Statement, xid.Xid.Xid}
 
 -- the statement is about a branch: XA START, XA END, XA PREPARE, XA COMMIT or XA ROLLBACK
 abbrev pub IsOfBranch : Statement → Type 0
-IsOfBranch (Start xid) = Unit {0}
-IsOfBranch (End xid) = Unit {0}
-IsOfBranch (Prepare xid) = Unit {0}
-IsOfBranch (Commit xid one_phase) = Unit {0}
-IsOfBranch (Rollback xid) = Unit {0}
+IsOfBranch (Statement.Start xid) = Unit {0}
+IsOfBranch (Statement.End xid) = Unit {0}
+IsOfBranch (Statement.Prepare xid) = Unit {0}
+IsOfBranch (Statement.Commit xid one_phase) = Unit {0}
+IsOfBranch (Statement.Rollback xid) = Unit {0}
 IsOfBranch statement = ⊥
 
 -- after Ok the statement was carried out; after Err it wasn't, for this cause
@@ -63,8 +44,8 @@ IsToldAs statement (Err cause) old new = IsUndone statement cause old new
 
 -- the statement that brings a branch into this phase
 abbrev pub statement_into : Phase → Xid → Statement
-statement_into Active xid = Start xid
-statement_into Idle xid = End xid
+statement_into Phase.Active xid = Statement.Start xid
+statement_into Phase.Idle xid = Statement.End xid
 
 -- what the coordinator may note as open after the statement: that nothing is, whatever the statement was; or a branch,
 -- but only after the XA START or XA END that brings it into its phase
@@ -77,8 +58,8 @@ LeavesOpen name store statement (Some branch) =
 -- XAER_NOTA; after Err it wasn't carried out, for this cause, which isn't XAER_NOTA
 abbrev pub SaysAs : Statement → Result Found Cause → SessionView → SessionView → Type 0
 SaysAs statement (Ok Closed) old new = AddsEach (statement ∷ []) old new
-SaysAs statement (Ok Missing) old new = IsUndone statement (CauseRefused Nota) old new
-SaysAs statement (Err cause) old new = (cause ≢ CauseRefused Nota) × IsUndone statement cause old new
+SaysAs statement (Ok Missing) old new = IsUndone statement (Cause.Refused Nota) old new
+SaysAs statement (Err cause) old new = (cause ≢ Cause.Refused Nota) × IsUndone statement cause old new
 
 -- what finishing a branch did. If XA END comes before the finishing statement (`ends`), it was added first, after
 -- Closed and Missing. Closed: the finishing statement was added. Missing: that was answered XAER_NOTA. Err: the branch
@@ -90,8 +71,8 @@ ClosesAs ends statement xid (Err cause) old new = IsUnfinished ends statement xi
 
 -- after Ok XA END and XA PREPARE of the branch were added; after Err one of them wasn't carried out, for this cause
 abbrev pub PreparesAs : Xid → Result (Unit {0}) Cause → SessionView → SessionView → Type 0
-PreparesAs xid (Ok _) old new = AddsEach (End xid ∷ Prepare xid ∷ []) old new
-PreparesAs xid (Err cause) old new = IsStopped true (Prepare xid) xid cause old new
+PreparesAs xid (Ok _) old new = AddsEach (Statement.End xid ∷ Statement.Prepare xid ∷ []) old new
+PreparesAs xid (Err cause) old new = IsStopped true (Statement.Prepare xid) xid cause old new
 
 -- the branch of a store was finished, and the list is as it was; or it wasn't known there, and the store was added to
 -- the list
@@ -110,7 +91,7 @@ PollsAs view transaction (Ok _) old new =
 PollsAs view transaction (Err (store, cause)) old new =
     (takes_part transaction.participants store ≡ true)
     × EndsAt view (λ other. IsVoted (branch_of transaction other) (takes_part transaction.participants other))
-    store (IsStopped true (Prepare (branch_of transaction store)) (branch_of transaction store) cause) old new
+    store (IsStopped true (Statement.Prepare (branch_of transaction store)) (branch_of transaction store) cause) old new
 
 -- the stores below this number were asked, if they take part; all stores are below 16
 abbrev pub asked_by_poll : Result (Unit {0}) (ℕ × Cause) → ℕ
@@ -119,19 +100,19 @@ asked_by_poll (Err (store, cause)) = store + 1
 
 -- how many stores take part: none, one, or more
 abbrev pub IsParticipation : Participants → Participation → Type 0
-IsParticipation participants Nobody = (store : ℕ) → takes_part participants store ≡ false
-IsParticipation participants (Single store) = OnlyTakesPart participants store
-IsParticipation participants Several = TwoTakePart participants
+IsParticipation participants Participation.Nobody = (store : ℕ) → takes_part participants store ≡ false
+IsParticipation participants (Participation.Single store) = OnlyTakesPart participants store
+IsParticipation participants Participation.Several = TwoTakePart participants
 
 -- what became of a row statement in a branch that is ACTIVE: it was answered there, or not, for the session's fault; no
 -- other fault comes
 abbrev pub WorksWithin : {S : Type 0} → (S → SessionView) → Xid → ℕ → Statement → Result Reply WorkFault → List S
     → List S → Type 0
 WorksWithin view xid store row (Ok reply) before after = AtStore view store (IsReplied row reply xid) before after
-WorksWithin view xid store row (Err (Session fault)) before after =
-    AtStore view store (IsUndone row (CauseSession fault)) before after
-WorksWithin view xid store row (Err (Refused error)) before after = ⊥
-WorksWithin view xid store row (Err Lost) before after = ⊥
+WorksWithin view xid store row (Err (WorkFault.Session fault)) before after =
+    AtStore view store (IsUndone row (Cause.Session fault)) before after
+WorksWithin view xid store row (Err (WorkFault.Refused error)) before after = ⊥
+WorksWithin view xid store row (Err WorkFault.Lost) before after = ⊥
 
 -- how many branches a recovery counted: committed, rolled back and missing ones
 abbrev pub total : Tally → ℕ
@@ -145,8 +126,8 @@ counted tally decided Missing = record tally { missing = tally.missing + 1 }
 
 -- the fault of a recovery in which this store didn't carry a statement out, for this cause
 abbrev pub fault_by : ℕ → Cause → RecoverFault
-fault_by store (CauseSession fault) = RecoverSession store fault
-fault_by store (CauseRefused error) = RecoverRefused store error
+fault_by store (Cause.Session fault) = RecoverFault.Session store fault
+fault_by store (Cause.Refused error) = RecoverFault.Refused store error
 
 -- how many entries a session has added; none if there is no session
 abbrev pub added_by : {S : Type 0} → (S → SessionView) → Option S → ℕ

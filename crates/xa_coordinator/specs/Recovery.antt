@@ -16,41 +16,22 @@
 --     BreaksOff        the recovery failed
 --     asked_by_fault   the stores below this number were spoken to
 use Rattle.std.specs.Prelude.{◌≡◌, ◌≢◌, ◌<◌, ◌≤◌, ◌+◌, ◌^◌, ◌⊎◌, ℕ, Bool, true, false, List, [], ◌∷◌, ◌++◌, length}
-use Rattle.std.specs.Prelude.{take, map, slice_get, Option, Some, None}
-use Rattle.std.specs.List.{sum_by}
-use Rattle.xa_xid.specs.declared.xid.Xid.{Xid}
-use Rattle.xa_xid.specs.declared.statement.Statement.{Statement}
-use Rattle.xa_xid.specs.declared.statement.Statement.TheVariants.{Commit, Rollback, Recover, Disconnect}
-use Rattle.xa_server.specs.State.{is_prepared, prepared_xids}
-use Rattle.xa_server.specs.declared.association.Association.TheVariants.{Free}
+use Rattle.std.specs.{Prelude.{take, map, slice_get, Option, Some, None}, List.sum_by}
+use Rattle.xa_xid.specs.declared.{xid.Xid.Xid, statement.Statement.Statement}
+use Rattle.xa_server.specs.{State.{is_prepared, prepared_xids}, declared.association.Association.TheVariants.Free}
 use Rattle.xa_server.specs.declared.xa_error.XaError.TheVariants.{Nota}
-use Rattle.xa_session.specs.Replay.{state_after}
-use Rattle.xa_session.specs.View.{SessionView, Takes}
-use Rattle.xa_session.specs.declared.fault.Fault.{Fault}
-use Rattle.xa_coordinator.specs.declared.fault.Cause.{Cause}
-use Rattle.xa_coordinator.specs.declared.fault.Cause.TheVariants.{Session as CauseSession, Refused as CauseRefused}
-use Rattle.xa_coordinator.specs.declared.closing.Closing.{Closing}
-use Rattle.xa_coordinator.specs.declared.closing.Closing.TheVariants.{InTwoPhases, RollBack}
-use Rattle.xa_coordinator.specs.declared.decisions.Decision.{Decision}
-use Rattle.xa_coordinator.specs.declared.report.Tally.{Tally}
-use Rattle.xa_coordinator.specs.declared.report.Report.{Report}
-use Rattle.xa_coordinator.specs.declared.fault.RecoverFault.{RecoverFault}
-use Rattle.xa_coordinator.specs.declared.fault.RecoverFault.TheVariants.{Session, StillPrepared, NoMemory, Refused}
-use Rattle.xa_coordinator.specs.Agreement.{AddsStatements, AddsEach}
-use Rattle.xa_coordinator.specs.Branch.{branch_xid, IsBranchOf}
-use Rattle.xa_coordinator.specs.Decisions.{is_decided}
-use Rattle.xa_coordinator.specs.OpenBranches.{association_seen}
-use Rattle.xa_coordinator.specs.declared.branches.OpenBranch.{OpenBranch}
-use Rattle.xa_coordinator.specs.Outcomes.{finish_statement}
-use Rattle.xa_coordinator.specs.Stores.{AtStore, EachStore}
-use Rattle.xa_coordinator.specs.Told.{IsUndone}
-use Rattle.xa_coordinator.specs.Work.{MayBe}
+use Rattle.xa_session.specs.{Replay.state_after, View.{SessionView, Takes}, declared.fault.Fault.Fault}
+use Rattle.xa_coordinator.specs.declared.{fault.{Cause.Cause, RecoverFault.RecoverFault}, closing.Closing.Closing}
+use Rattle.xa_coordinator.specs.declared.{decisions.Decision.Decision, report.{Tally.Tally, Report.Report}}
+use Rattle.xa_coordinator.specs.{declared.branches.OpenBranch.OpenBranch, Agreement.{AddsStatements, AddsEach}}
+use Rattle.xa_coordinator.specs.{Branch.{branch_xid, IsBranchOf}, Decisions.is_decided, OpenBranches.association_seen}
+use Rattle.xa_coordinator.specs.{Outcomes.finish_statement, Stores.{AtStore, EachStore}, Told.IsUndone, Work.MayBe}
 
 -- the session was given DISCONNECT, and has no branch open then; it added that statement at most, which is logged if it
 -- ends a branch
 pub record IsDisconnected (old new : SessionView) : Type 0 where
   pub statements : List Statement
-  pub is : MayBe Disconnect statements
+  pub is : MayBe Statement.Disconnect statements
   pub adds : AddsStatements statements old new
   pub free : association_seen new ≡ Free
   pub takes : Takes 1 old.left new.left
@@ -70,8 +51,8 @@ IsNamed name store xid = (number : ℕ) × IsBranchOf name number store xid
 
 -- a decided branch is committed, another one is rolled back (presumed abort)
 abbrev pub finish_decided : Bool → Closing
-finish_decided true = InTwoPhases
-finish_decided false = RollBack
+finish_decided true = Closing.InTwoPhases
+finish_decided false = Closing.RollBack
 
 -- what became of a listed branch, and the tally after it: one that isn't of this coordinator's naming gets no
 -- statement; another one is committed or rolled back as the decisions say, or was answered XAER_NOTA
@@ -79,14 +60,14 @@ pub data SettlesOne (decisions : List Decision) (name : List ℕ) (store : ℕ) 
     (old : SessionView) : Tally → SessionView → Type 0 where
   foreign : (IsNamed name store xid → ⊥) → SettlesOne decisions name store xid tally old tally old
   committed : (number : ℕ) → IsBranchOf name number store xid → is_decided decisions number ≡ true → (new : SessionView)
-      → AddsEach (Commit xid false ∷ []) old new →
+      → AddsEach (Statement.Commit xid false ∷ []) old new →
       SettlesOne decisions name store xid tally old (record tally { committed = tally.committed + 1 }) new
   rolled_back : (number : ℕ) → IsBranchOf name number store xid → is_decided decisions number ≡ false
       → (new : SessionView)
-      → AddsEach (Rollback xid ∷ []) old new →
+      → AddsEach (Statement.Rollback xid ∷ []) old new →
       SettlesOne decisions name store xid tally old (record tally { rolled_back = tally.rolled_back + 1 }) new
   missing : (number : ℕ) → IsBranchOf name number store xid → (new : SessionView)
-      → IsUndone (finish_statement (finish_decided (is_decided decisions number)) xid) (CauseRefused Nota) old new →
+      → IsUndone (finish_statement (finish_decided (is_decided decisions number)) xid) (Cause.Refused Nota) old new →
       SettlesOne decisions name store xid tally old (record tally { missing = tally.missing + 1 }) new
 
 -- what became of the branches of a list, one after another, and the tally of all of them
@@ -140,7 +121,7 @@ pub record IsUnsettled (decisions : List Decision) (name : List ℕ) (store : �
   pub number : ℕ
   pub named : IsBranchOf name number store xid
   pub undone : IsUndone (finish_statement (finish_decided (is_decided decisions number)) xid) cause old new
-  pub known : cause ≢ CauseRefused Nota
+  pub known : cause ≢ Cause.Refused Nota
 
 -- the branches of a list before one of them were settled, and that one wasn't finished, for this cause
 pub record StopsAmong (decisions : List Decision) (name : List ℕ) (store : ℕ) (xids : List Xid) (cause : Cause)
@@ -158,16 +139,16 @@ pub record StopsAmong (decisions : List Decision) (name : List ℕ) (store : ℕ
 pub data IsCutOff (decisions : List Decision) (name : List ℕ) (store : ℕ) (old : SessionView) : Cause → SessionView
     → Type 0 where
   unlisted : (freed : SessionView) → IsDisconnected old freed → (fault : Fault) (new : SessionView)
-      → IsUndone (Recover false) (CauseSession fault) freed new
-      → IsCutOff decisions name store old (CauseSession fault) new
+      → IsUndone (Statement.Recover false) (Cause.Session fault) freed new
+      → IsCutOff decisions name store old (Cause.Session fault) new
   unsettled : (freed : SessionView) → IsDisconnected old freed → (listing : SessionView) (xids : List Xid) (place : ℕ)
       → ListsPrepared xids place freed listing
       → (cause : Cause) (new : SessionView) → StopsAmong decisions name store xids cause listing new
       → IsCutOff decisions name store old cause new
   unlisted_again : (tally : Tally) (finished : SessionView) → IsSettled decisions name store tally old finished
       → (fault : Fault) (new : SessionView)
-      → IsUndone (Recover false) (CauseSession fault) finished new
-      → IsCutOff decisions name store old (CauseSession fault) new
+      → IsUndone (Statement.Recover false) (Cause.Session fault) finished new
+      → IsCutOff decisions name store old (Cause.Session fault) new
 
 -- the prepared branches were settled, and the last list has one of this coordinator's naming
 pub record IsStillPrepared (decisions : List Decision) (name : List ℕ) (store : ℕ)
@@ -202,34 +183,34 @@ pub record Recovers {S : Type 0} (view : S → SessionView) (decisions : List De
 -- has open there what it had; or a later one, and it has nothing open there
 abbrev pub BreaksBy : {S : Type 0} → (S → SessionView) → List Decision → List ℕ → ℕ → Cause
     → (marks marks' : List (Option OpenBranch)) → List S → List S → Type 0
-BreaksBy view decisions name store (CauseSession fault) marks marks' old new =
+BreaksBy view decisions name store (Cause.Session fault) marks marks' old new =
     ((slice_get marks' store ≡ slice_get marks store) × AtStore view store
-    (IsUndone Disconnect (CauseSession fault)) old new)
+    (IsUndone Statement.Disconnect (Cause.Session fault)) old new)
     ⊎ ((slice_get marks' store ≡ Some None) × AtStore view store
-    (λ before after. IsCutOff decisions name store before (CauseSession fault) after) old new)
-BreaksBy view decisions name store (CauseRefused error) marks marks' old new =
+    (λ before after. IsCutOff decisions name store before (Cause.Session fault) after) old new)
+BreaksBy view decisions name store (Cause.Refused error) marks marks' old new =
     (slice_get marks' store ≡ Some None) × AtStore view store
-    (λ before after. IsCutOff decisions name store before (CauseRefused error) after) old new
+    (λ before after. IsCutOff decisions name store before (Cause.Refused error) after) old new
 
 -- the recovery of the store that the fault names failed as it says, and this is what the coordinator has open there; at
 -- NoMemory nothing was done, and what is open is as before
 abbrev pub BreaksHere : {S : Type 0} → (S → SessionView) → List Decision → List ℕ → RecoverFault
     → (marks marks' : List (Option OpenBranch)) → List S → List S
     → Type 0
-BreaksHere view decisions name (Session store fault) marks marks' old new =
-    BreaksBy view decisions name store (CauseSession fault) marks marks' old new
-BreaksHere view decisions name (StillPrepared store) marks marks' old new =
+BreaksHere view decisions name (RecoverFault.Session store fault) marks marks' old new =
+    BreaksBy view decisions name store (Cause.Session fault) marks marks' old new
+BreaksHere view decisions name (RecoverFault.StillPrepared store) marks marks' old new =
     (slice_get marks' store ≡ Some None) × AtStore view store (IsStillPrepared decisions name store) old new
-BreaksHere view decisions name NoMemory marks marks' old new = (marks' ≡ marks) × (new ≡ old)
-BreaksHere view decisions name (Refused store error) marks marks' old new =
-    BreaksBy view decisions name store (CauseRefused error) marks marks' old new
+BreaksHere view decisions name RecoverFault.NoMemory marks marks' old new = (marks' ≡ marks) × (new ≡ old)
+BreaksHere view decisions name (RecoverFault.Refused store error) marks marks' old new =
+    BreaksBy view decisions name store (Cause.Refused error) marks marks' old new
 
 -- the stores below this number were spoken to
 abbrev pub asked_by_fault : RecoverFault → ℕ
-asked_by_fault (Session store fault) = store + 1
-asked_by_fault (StillPrepared store) = store + 1
-asked_by_fault NoMemory = 0
-asked_by_fault (Refused store error) = store + 1
+asked_by_fault (RecoverFault.Session store fault) = store + 1
+asked_by_fault (RecoverFault.StillPrepared store) = store + 1
+asked_by_fault RecoverFault.NoMemory = 0
+asked_by_fault (RecoverFault.Refused store error) = store + 1
 
 -- the recovery failed: the stores below the one that the fault names are recovered, and those above it got no
 -- statement; at NoMemory no store got one

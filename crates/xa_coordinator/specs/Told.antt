@@ -7,18 +7,11 @@
 --     IsMissing        the branch wasn't known
 --     IsUnfinished     it wasn't, for another cause than that the branch wasn't known, or XA END before it wasn't
 use Rattle.std.specs.Prelude.{◌≡◌, ◌≢◌, ◌⊎◌, ℕ, Bool, true, false, [], ◌∷◌}
-use Rattle.xa_xid.specs.declared.xid.Xid.{Xid}
-use Rattle.xa_xid.specs.declared.statement.Statement.{Statement}
-use Rattle.xa_xid.specs.declared.statement.Statement.TheVariants.{End}
-use Rattle.xa_server.specs.declared.reply.Reply.TheVariants.{Refused}
-use Rattle.xa_server.specs.declared.xa_error.XaError.{XaError}
-use Rattle.xa_server.specs.declared.xa_error.XaError.TheVariants.{Nota}
-use Rattle.xa_server.specs.Step.{is_refused}
-use Rattle.xa_session.specs.Answer.{IsAnswered, Fails, IsFinal}
-use Rattle.xa_session.specs.declared.answer.Answer.{Answer}
+use Rattle.xa_xid.specs.declared.{xid.Xid.Xid, statement.Statement.{Statement, TheVariants.End}}
+use Rattle.xa_server.specs.{declared.{reply.Reply.TheVariants.Refused, xa_error.XaError.XaError}, Step.is_refused}
+use Rattle.xa_session.specs.{Answer.{IsAnswered, Fails, IsFinal}, declared.answer.Answer.Answer}
 use Rattle.xa_session.specs.View.{SessionView, Takes, TakesUnanswered}
-use Rattle.xa_coordinator.specs.declared.fault.Cause.{Cause}
-use Rattle.xa_coordinator.specs.declared.fault.Cause.TheVariants.{Session, Refused as RefusedBy}
+use Rattle.xa_coordinator.specs.declared.fault.Cause.{Cause, TheVariants.{Session, Refused as RefusedBy}}
 use Rattle.xa_coordinator.specs.Agreement.{AddsStatements}
 
 -- the statement was carried out, and is what the session added
@@ -63,13 +56,13 @@ IsStopped true statement xid cause old new =
 
 -- the statement was answered XAER_NOTA; if XA END of the branch comes before it (`ends`), that was carried out
 abbrev pub IsMissing : (ends : Bool) → Statement → Xid → SessionView → SessionView → Type 0
-IsMissing false statement xid old new = IsUndone statement (RefusedBy Nota) old new
-IsMissing true statement xid old new = IsUndoneBehind statement xid (RefusedBy Nota) old new
+IsMissing false statement xid old new = IsUndone statement (RefusedBy XaError.Nota) old new
+IsMissing true statement xid old new = IsUndoneBehind statement xid (RefusedBy XaError.Nota) old new
 
 -- the branch isn't finished, for this cause. Without XA END (`ends` is false): the statement wasn't carried out, for
 -- another cause than XAER_NOTA. With XA END of the branch before it: that wasn't carried out, or it was, and the
 -- statement wasn't, for another cause than XAER_NOTA
 abbrev pub IsUnfinished : (ends : Bool) → Statement → Xid → Cause → SessionView → SessionView → Type 0
-IsUnfinished false statement xid cause old new = (cause ≢ RefusedBy Nota) × IsUndone statement cause old new
+IsUnfinished false statement xid cause old new = (cause ≢ RefusedBy XaError.Nota) × IsUndone statement cause old new
 IsUnfinished true statement xid cause old new =
-    IsUndone (End xid) cause old new ⊎ ((cause ≢ RefusedBy Nota) × IsUndoneBehind statement xid cause old new)
+    IsUndone (End xid) cause old new ⊎ ((cause ≢ RefusedBy XaError.Nota) × IsUndoneBehind statement xid cause old new)

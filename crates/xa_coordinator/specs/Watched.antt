@@ -6,14 +6,9 @@
 use Rattle.std.specs.Prelude.{◌≡◌, ◌≤◌, ◌+◌, ℕ, true, false, List, [], ◌∷◌, ◌++◌, length, take, slice_get, Some}
 use Rattle.xa_words.specs.Entry.{Entry}
 use Rattle.xa_xid.specs.declared.statement.Statement.{Statement}
-use Rattle.xa_server.specs.State.{State}
-use Rattle.xa_server.specs.Replies.{reply_to}
-use Rattle.xa_server.specs.Step.{enters, after}
-use Rattle.decision_log.specs.History.{entries_of}
-use Rattle.decision_log.specs.declared.known.Known.{Known}
-use Rattle.xa_session.specs.Answer.{entry_of}
-use Rattle.xa_session.specs.Replay.{state_at}
-use Rattle.xa_session.specs.declared.answer.Answer.{Answer}
+use Rattle.xa_server.specs.{State.State, Replies.reply_to, Step.{enters, after}}
+use Rattle.decision_log.specs.{History.entries_of, declared.known.Known.Known}
+use Rattle.xa_session.specs.{Answer.entry_of, Replay.state_at, declared.answer.Answer.Answer}
 use Rattle.xa_coordinator.specs.declared.watch.Watch.{Watch}
 
 -- what the session has seen is as much of the history as `watch` says, and all its own entries are in `mine`; it has

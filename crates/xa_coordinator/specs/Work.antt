@@ -10,27 +10,13 @@
 --     KeepsOthers      the transaction is the same but for one store
 --     WorksAs          what work did, by the answer
 use Rattle.std.specs.Prelude.{◌≡◌, ◌≢◌, ◌⊎◌, ℕ, true, false, List, [], ◌∷◌, ◌++◌, Option, Result, Ok, Err}
-use Rattle.xa_xid.specs.declared.xid.Xid.{Xid}
-use Rattle.xa_xid.specs.declared.statement.Statement.{Statement}
-use Rattle.xa_xid.specs.declared.statement.Statement.TheVariants.{Start, Get, Put, Del}
-use Rattle.xa_server.specs.State.{association_of}
-use Rattle.xa_server.specs.declared.association.Association.TheVariants.{Active}
-use Rattle.xa_server.specs.declared.reply.Reply.{Reply}
-use Rattle.xa_session.specs.Answer.{IsAnswered}
-use Rattle.xa_session.specs.Replay.{state_at}
-use Rattle.xa_session.specs.View.{SessionView, StaysOfLog, Takes}
-use Rattle.xa_coordinator.specs.declared.fault.Cause.{Cause}
-use Rattle.xa_coordinator.specs.declared.fault.Cause.TheVariants.{Session as CauseSession, Refused as CauseRefused}
-use Rattle.xa_coordinator.specs.declared.fault.WorkFault.{WorkFault}
-use Rattle.xa_coordinator.specs.declared.fault.WorkFault.TheVariants.{Session, Refused, Lost}
-use Rattle.xa_coordinator.specs.declared.transaction.Transaction.{Transaction}
-use Rattle.xa_coordinator.specs.Agreement.{AddsStatements}
+use Rattle.xa_xid.specs.declared.{xid.Xid.Xid, statement.Statement.{Statement, TheVariants.{Start, Get, Put, Del}}}
+use Rattle.xa_server.specs.{State.association_of, declared.{association.Association.Association, reply.Reply.Reply}}
+use Rattle.xa_session.specs.{Answer.IsAnswered, Replay.state_at, View.{SessionView, StaysOfLog, Takes}}
+use Rattle.xa_coordinator.specs.declared.{fault.{Cause.Cause, WorkFault.WorkFault}, transaction.Transaction.Transaction}
+use Rattle.xa_coordinator.specs.{declared.branches.OpenBranch.OpenBranch, Agreement.AddsStatements, Outcomes.branch_of}
 use Rattle.xa_coordinator.specs.OpenBranches.{association_seen, HasOpen, has_working_branch, IsWorking}
-use Rattle.xa_coordinator.specs.declared.branches.OpenBranch.{OpenBranch}
-use Rattle.xa_coordinator.specs.Outcomes.{branch_of}
-use Rattle.xa_coordinator.specs.Participants.{takes_part}
-use Rattle.xa_coordinator.specs.Stores.{AtStore}
-use Rattle.xa_coordinator.specs.Told.{IsDone, IsUndone}
+use Rattle.xa_coordinator.specs.{Participants.takes_part, Stores.AtStore, Told.{IsDone, IsUndone}}
 
 -- the statement is GET, PUT or DEL
 abbrev pub IsRow : Statement → Type 0
@@ -59,7 +45,7 @@ pub record AddsWork (xid : Xid) (row : Statement) (old new : SessionView) : Type
 
 -- the session had the branch open, ACTIVE, or was given XA START and carried it out
 pub data MayStart (xid : Xid) (old : SessionView) : SessionView → Type 0 where
-  was_open : association_seen old ≡ Active xid → MayStart xid old old
+  was_open : association_seen old ≡ Association.Active xid → MayStart xid old old
   was_started : (mid : SessionView) → IsDone (Start xid) old mid → MayStart xid old mid
 
 -- the row statement was answered, at a place not before the end of what had been seen, and the session's branch was
@@ -68,7 +54,7 @@ pub record IsReplied (row : Statement) (reply : Reply) (xid : Xid) (old new : Se
   pub log : StaysOfLog old new
   pub place : ℕ
   pub answered : IsAnswered old.base row (record { place = place; reply = reply }) old.known new.known
-  pub active : association_of (state_at old.base new.known.seen place) old.known.number ≡ Active xid
+  pub active : association_of (state_at old.base new.known.seen place) old.known.number ≡ Association.Active xid
   pub takes : Takes 1 old.left new.left
 
 -- the row statement was answered within the branch, which was open before or was started
@@ -101,14 +87,14 @@ abbrev pub WorksAs : {S : Type 0} → (S → SessionView) → (marks marks' : Li
 WorksAs view marks marks' old new store row (Ok reply) before after =
     (takes_part new.participants store ≡ true) × IsWorking marks' store old.number
     × AtStore view store (IsWorked row reply (branch_of old store)) before after
-WorksAs view marks marks' old new store row (Err (Session fault)) before after =
+WorksAs view marks marks' old new store row (Err (WorkFault.Session fault)) before after =
     ((takes_part new.participants store ≡ true) × IsWorking marks' store old.number
-    × AtStore view store (IsCut row (CauseSession fault) (branch_of old store)) before after)
+    × AtStore view store (IsCut row (Cause.Session fault) (branch_of old store)) before after)
     ⊎ ((new ≡ old) × (marks' ≡ marks) × (has_working_branch marks store old.number ≡ false)
-    × AtStore view store (IsUndone (Start (branch_of old store)) (CauseSession fault)) before after)
-WorksAs view marks marks' old new store row (Err (Refused error)) before after =
+    × AtStore view store (IsUndone (Start (branch_of old store)) (Cause.Session fault)) before after)
+WorksAs view marks marks' old new store row (Err (WorkFault.Refused error)) before after =
     (new ≡ old) × (marks' ≡ marks) × (has_working_branch marks store old.number ≡ false)
-    × AtStore view store (IsUndone (Start (branch_of old store)) (CauseRefused error)) before after
-WorksAs view marks marks' old new store row (Err Lost) before after =
+    × AtStore view store (IsUndone (Start (branch_of old store)) (Cause.Refused error)) before after
+WorksAs view marks marks' old new store row (Err WorkFault.Lost) before after =
     (new ≡ old) × (marks' ≡ marks) × (takes_part old.participants store ≡ true) × (HasOpen marks store old.number → ⊥)
     × (after ≡ before)

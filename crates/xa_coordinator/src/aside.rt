@@ -1,8 +1,7 @@
 //! How many stores a coordinator has, and statements of another client, whose sessions are held together with the
 //! coordinator's.
 ghost use Rattle.std.specs.Prelude.{◌≡◌, ◌<◌, ◌≤◌, map, vec_len};
-ghost use Rattle.xa_coordinator.specs.Beside.{IsLeftAlone, IsAnsweredSo};
-ghost use Rattle.xa_coordinator.specs.Stores.{AtStore, EachStore, ChangesAt};
+ghost use Rattle.xa_coordinator.specs.{Beside.{IsLeftAlone, IsAnsweredSo}, Stores.{AtStore, EachStore, ChangesAt}};
 
 use crate::{Beside, Coordinator, Fused, Speak};
 use std::sync::Wait;

@@ -1,8 +1,7 @@
 //! How a coordinator names the branches of its global transactions.
-ghost use Rattle.std.specs.Prelude.{◌≡◌, ◌≤◌, ◌≢◌, ◌+◌, ℕ, IfSome, IfNone, length, drop};
+ghost use Rattle.std.specs.{Prelude.{◌≡◌, ◌≤◌, ◌≢◌, ◌+◌, ℕ, IfSome, IfNone, length, drop}, Int.{w64, from_be_bytes}};
 ghost use Rattle.arrayvec.specs.ArrayVec.{array_vec_len};
 ghost use Rattle.xa_coordinator.specs.Branch.{branch_xid as xid_of_branch, IsBranchOf};
-ghost use Rattle.std.specs.Int.{w64, from_be_bytes};
 
 use xa_xid::{Bytes, Xid, copy_of};
 

@@ -8,13 +8,11 @@
 ghost use Rattle.std.specs.Prelude.{◌≡◌, ◌<◌, ◌≤◌, ◌+◌, Some, None, Err, true, false, IfErr, OnOk, OnErr, slice_get};
 ghost use Rattle.std.specs.Prelude.{vec_len};
 ghost use Rattle.xa_session.specs.View.{SessionView};
-ghost use Rattle.xa_coordinator.specs.Branch.{branch_xid};
+ghost use Rattle.xa_coordinator.specs.{Branch.branch_xid, Outcomes.{finish_statement, ends_first}};
 ghost use Rattle.xa_coordinator.specs.OpenBranches.{HasOpen, IsAsBeforeOrEnded, has_working_branch as is_working_in};
-ghost use Rattle.xa_coordinator.specs.Outcomes.{finish_statement, ends_first};
 ghost use Rattle.xa_coordinator.specs.Parts.{SaysAs, ClosesAs, PreparesAs, IsToldAs, added_at};
 ghost use Rattle.xa_coordinator.specs.Stores.{AtStore, ChangesAt};
-ghost use Rattle.xa_xid.specs.declared.statement.Statement.{Statement};
-ghost use Rattle.xa_xid.specs.declared.statement.Statement.TheVariants.{Start, End, Prepare, Rollback};
+ghost use Rattle.xa_xid.specs.declared.statement.Statement.{Statement, TheVariants.{Start, End, Prepare, Rollback}};
 
 use crate::closing::{Closing, Found};
 use crate::{Cause, Coordinator, Speak};

@@ -2,8 +2,7 @@
 ghost use Rattle.std.specs.Prelude.{◌≡◌, ◌≤◌, ◌<◌, ◌+◌, ◌++◌, ◌∷◌, [], ℕ, false, Some, None, Err, IfOk, OnOk, OnErr};
 ghost use Rattle.std.specs.Prelude.{length, slice_get, vec_len};
 ghost use Rattle.arrayvec.specs.ArrayVec.{array_vec_len};
-ghost use Rattle.xa_coordinator.specs.Limits.{most_numbers};
-ghost use Rattle.xa_coordinator.specs.OpenBranches.{OpenThere};
+ghost use Rattle.xa_coordinator.specs.{Limits.most_numbers, OpenBranches.OpenThere};
 
 use crate::branches::OpenBranch;
 use crate::participants::Participants;
@@ -29,8 +28,7 @@ pub struct Coordinator<S: Speak> {
 }
 
 impl<S: Speak> Coordinator<S> {
-    ghost use Rattle.xa_coordinator.specs.Participants.{takes_part};
-    ghost use Rattle.xa_coordinator.specs.declared.decisions.Decision.TheVariants.{Undecided};
+    ghost use Rattle.xa_coordinator.specs.{Participants.takes_part, declared.decisions.Decision.TheVariants.Undecided};
 
     /// Makes a coordinator that has nothing open in its stores.
     ///

@@ -2,9 +2,9 @@
 ghost use Rattle.std.specs.Prelude.{ℕ, ◌≡◌, ◌≤◌, ◌<◌, ◌+◌, [], ◌∷◌, ◌++◌, true, false, length, map, OnOk, OnErr, IfOk};
 ghost use Rattle.std.specs.Prelude.{IfErr, IfSome, IfNone};
 ghost use Rattle.xa_coordinator.specs.declared.decisions.Decision.TheVariants.{Undecided as StandsUndecided};
-ghost use Rattle.xa_coordinator.specs.Limits.{most_numbers};
-ghost use Rattle.xa_coordinator.specs.Decisions.{decision_of, is_decided as is_decided_by, may_be_decided};
-ghost use Rattle.xa_coordinator.specs.Decisions.{with_decided, closed_of, CanStand, IsNoList, IsOvertaken};
+ghost use Rattle.xa_coordinator.specs.{Limits.most_numbers, Decisions.{decision_of, is_decided as is_decided_by}};
+ghost use Rattle.xa_coordinator.specs.Decisions.{may_be_decided, with_decided, closed_of, CanStand, IsNoList};
+ghost use Rattle.xa_coordinator.specs.Decisions.{IsOvertaken};
 
 use crate::fault::{BeginFault, DecisionsFault};
 use crate::transaction::{Prepared, VoteKind};
@@ -30,8 +30,7 @@ pub struct Decisions {
 
 impl Model for Decisions {
     ghost use Rattle.std.specs.Prelude.{List, length, ◌≤◌};
-    ghost use Rattle.xa_coordinator.specs.Limits.{most_numbers};
-    ghost use Rattle.xa_coordinator.specs.declared.decisions.Decision.{Decision};
+    ghost use Rattle.xa_coordinator.specs.{Limits.most_numbers, declared.decisions.Decision.Decision};
 
     ghost Value = { List Decision };
 

@@ -3,12 +3,9 @@
 //! Of the contracts' clauses, `says` says what became of the statement, `frame` that no other store's session
 //! changes, and `unsaid` that after an error everything that was open still is.
 ghost use Rattle.std.specs.Prelude.{◌≡◌, false, MatchOption, ◌<◌, ◌≤◌, ◌+◌, Some, OnOk, OnErr, slice_get, vec_len};
-ghost use Rattle.xa_server.specs.Locks.{LockLaw};
-ghost use Rattle.xa_server.specs.Step.{is_refused};
-ghost use Rattle.xa_server.specs.declared.reply.Reply.TheVariants.{Refused};
+ghost use Rattle.xa_server.specs.{Locks.LockLaw, Step.is_refused, declared.reply.Reply.TheVariants.Refused};
 ghost use Rattle.xa_coordinator.specs.Parts.{IsOfBranch, IsToldAs, LeavesOpen, added_at};
-ghost use Rattle.xa_coordinator.specs.Branch.{branch_xid as xid_of_branch};
-ghost use Rattle.xa_coordinator.specs.Stores.{AtStore, ChangesAt};
+ghost use Rattle.xa_coordinator.specs.{Branch.branch_xid as xid_of_branch, Stores.{AtStore, ChangesAt}};
 
 use crate::branch_name::branch_xid;
 use crate::branches::OpenBranch;

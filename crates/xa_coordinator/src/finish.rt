@@ -5,17 +5,13 @@
 //! says that no other store changes and `marks` that no other branch's mark does; `closed` how a branch ends, if the
 //! call succeeds, `stopped` what a failed call leaves, and `unsaid` that the branch is then as before, or ended.
 ghost use Rattle.std.specs.Prelude.{◌≡◌, ◌<◌, List, false, OnOk, OnErr, IfErr, vec_len};
-ghost use Rattle.xa_coordinator.specs.Agreement.{Agrees};
-ghost use Rattle.xa_coordinator.specs.Decisions.{is_decided};
-ghost use Rattle.xa_coordinator.specs.Stores.{AtStore, EachStore, ChangesAt};
-ghost use Rattle.xa_coordinator.specs.Told.{IsUnfinished};
-ghost use Rattle.xa_coordinator.specs.Branch.{branch_xid};
-ghost use Rattle.arrayvec.specs.ArrayVec.{array_vec_len};
+ghost use Rattle.xa_coordinator.specs.{Agreement.Agrees, Decisions.is_decided, Stores.{AtStore, EachStore, ChangesAt}};
+ghost use Rattle.xa_coordinator.specs.{Told.IsUnfinished, Branch.branch_xid};
 ghost use Rattle.xa_coordinator.specs.OpenBranches.{has_working_branch, IsAsBeforeOrEnded, KeepsOpen};
 ghost use Rattle.xa_coordinator.specs.Outcomes.{EndsAs, KeepsUnfinished, finish_statement, ends_first, asked_by_ending};
-ghost use Rattle.xa_coordinator.specs.Outcomes.{finish_for as finish_of_vote};
-ghost use Rattle.xa_coordinator.specs.Parts.{ClosesNext};
+ghost use Rattle.xa_coordinator.specs.{Outcomes.finish_for as finish_of_vote, Parts.ClosesNext};
 ghost use Rattle.xa_coordinator.specs.declared.decisions.Decision.{Decision};
+ghost use Rattle.arrayvec.specs.ArrayVec.{array_vec_len};
 
 use crate::closing::{Closing, Found};
 use crate::transaction::VoteKind;

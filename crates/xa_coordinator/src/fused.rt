@@ -1,8 +1,6 @@
 //! A session that passes on a limited number of calls and then fails.
-ghost use Rattle.std.specs.Prelude.{◌≡◌, ◌+◌, true, false, ◌<◌, Some, map, slice_get, vec_len};
-ghost use Rattle.std.specs.Borrow.{Lends, sem};
-ghost use Rattle.xa_coordinator.specs.Fusing.{AnswersAsWithin, limited};
-ghost use Rattle.xa_coordinator.specs.Stores.{ChangesAt};
+ghost use Rattle.std.specs.{Prelude.{◌≡◌, ◌+◌, true, false, ◌<◌, Some, map, slice_get, vec_len}, Borrow.{Lends, sem}};
+ghost use Rattle.xa_coordinator.specs.{Fusing.{AnswersAsWithin, limited}, Stores.ChangesAt};
 
 use crate::{Coordinator, Speak};
 use std::sync::Wait;

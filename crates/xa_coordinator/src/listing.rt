@@ -4,11 +4,8 @@
 //! has open in its stores, `quiet` that no entry was added, and `few` how many are added at most.
 ghost use Rattle.std.specs.Prelude.{◌≡◌, ◌<◌, ◌≤◌, ◌+◌, Some, None, false, IfOk, IfErr, OnOk, OnErr, slice_get};
 ghost use Rattle.std.specs.Prelude.{vec_len};
-ghost use Rattle.xa_coordinator.specs.OpenBranches.{association_seen};
-ghost use Rattle.xa_coordinator.specs.Parts.{added_at};
-ghost use Rattle.xa_coordinator.specs.Stores.{AtStore, ChangesAt};
-ghost use Rattle.xa_coordinator.specs.Recovery.{IsDisconnected, ListsPrepared};
-ghost use Rattle.xa_coordinator.specs.Told.{IsUndone};
+ghost use Rattle.xa_coordinator.specs.{OpenBranches.association_seen, Parts.added_at, Stores.{AtStore, ChangesAt}};
+ghost use Rattle.xa_coordinator.specs.{Recovery.{IsDisconnected, ListsPrepared}, Told.IsUndone};
 ghost use Rattle.xa_xid.specs.declared.statement.Statement.TheVariants.{Recover as RecoverStatement};
 ghost use Rattle.xa_xid.specs.declared.statement.Statement.TheVariants.{Disconnect as DisconnectStatement};
 

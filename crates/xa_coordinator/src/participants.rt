@@ -22,8 +22,7 @@ pub struct Participants {
 }
 
 impl Participants {
-    ghost use Rattle.xa_coordinator.specs.Participants.{takes_part};
-    ghost use Rattle.xa_coordinator.specs.Parts.{IsParticipation};
+    ghost use Rattle.xa_coordinator.specs.{Participants.takes_part, Parts.IsParticipation};
 
     /// The participants of a transaction without work: no store.
     #[tactic(auto, unfolding(crate::specs::Participants::takes_part))]

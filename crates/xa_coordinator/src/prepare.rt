@@ -4,13 +4,9 @@
 //! stores that weren't spoken to, and `cut` what is open in the only participant's store after `OnePhase`, and in the
 //! store that a `No` names.
 ghost use Rattle.std.specs.Prelude.{◌≡◌, List, IfErr, vec_len};
-ghost use Rattle.xa_coordinator.specs.Agreement.{Agrees};
-ghost use Rattle.xa_coordinator.specs.Stores.{EachStore};
-ghost use Rattle.xa_coordinator.specs.OpenBranches.{IsAsBeforeOrEnded, KeepsOpen};
-ghost use Rattle.xa_coordinator.specs.Outcomes.{VotesAs, KeepsMark, asked_by_vote};
-ghost use Rattle.xa_coordinator.specs.Parts.{PollsAs, asked_by_poll};
-ghost use Rattle.xa_coordinator.specs.Participants.{TwoTakePart, OnlyTakesPart};
-ghost use Rattle.xa_coordinator.specs.declared.decisions.Decision.{Decision};
+ghost use Rattle.xa_coordinator.specs.{Agreement.Agrees, Stores.EachStore, OpenBranches.{IsAsBeforeOrEnded, KeepsOpen}};
+ghost use Rattle.xa_coordinator.specs.{Outcomes.{VotesAs, KeepsMark, asked_by_vote}, Parts.{PollsAs, asked_by_poll}};
+ghost use Rattle.xa_coordinator.specs.{Participants.{TwoTakePart, OnlyTakesPart}, declared.decisions.Decision.Decision};
 
 use crate::participants::Participation;
 use crate::transaction::VoteKind;

@@ -4,17 +4,13 @@
 //! has open in its stores, `free` that it has nothing open, and `few` how many entries are added at most.
 ghost use Rattle.std.specs.Prelude.{◌≡◌, ◌≢◌, ◌<◌, ◌≤◌, ◌+◌, ℕ, List, [], Option, Some, None, IfOk, IfErr, OnOk};
 ghost use Rattle.std.specs.Prelude.{length, slice_get, map, vec_len, vec_capacity};
-ghost use Rattle.xa_coordinator.specs.Agreement.{Agrees};
-ghost use Rattle.xa_coordinator.specs.Decisions.{closed_of, is_decided, decision_of};
-ghost use Rattle.xa_session.specs.View.{SessionView};
+ghost use Rattle.xa_coordinator.specs.{Agreement.Agrees, Decisions.{closed_of, is_decided, decision_of}};
 ghost use Rattle.xa_coordinator.specs.Recovery.{IsDisconnected, IsFinished, IsSettled, IsClear, IsRecovered, IsCutOff};
-ghost use Rattle.xa_coordinator.specs.Recovery.{BreaksBy, BreaksHere, Recovers, BreaksOff};
-ghost use Rattle.xa_coordinator.specs.Recovery.{asked_by_fault};
-ghost use Rattle.xa_coordinator.specs.Parts.{added_at, fault_by, total};
+ghost use Rattle.xa_coordinator.specs.Recovery.{BreaksBy, BreaksHere, Recovers, BreaksOff, asked_by_fault};
+ghost use Rattle.xa_coordinator.specs.{Parts.{added_at, fault_by, total}, declared.report.Tally.Tally as TallyOf};
 ghost use Rattle.xa_coordinator.specs.declared.branches.OpenBranch.{OpenBranch as OpenBranchOf};
-ghost use Rattle.xa_coordinator.specs.declared.report.Tally.{Tally as TallyOf};
-ghost use Rattle.xa_coordinator.specs.Stores.{AtStore, EachStore, ChangesAt};
-ghost use Rattle.xa_coordinator.specs.declared.decisions.Decision.{Decision};
+ghost use Rattle.xa_coordinator.specs.{declared.decisions.Decision.Decision, Stores.{AtStore, EachStore, ChangesAt}};
+ghost use Rattle.xa_session.specs.View.{SessionView};
 
 use crate::report::Tally;
 use crate::{Cause, Coordinator, Decisions, RecoverFault, Report, Speak};

@@ -3,13 +3,10 @@
 //! Of the contracts' clauses, `frame` says that no other store's session changes, `marks` that what the coordinator has
 //! open in other stores stays, `free` that nothing is open in this one, and `few` how many entries are added at most.
 ghost use Rattle.std.specs.Prelude.{◌≡◌, ◌<◌, ◌≤◌, ◌+◌, ◌^◌, ℕ, true, false, IfOk, IfErr, IfSome, IfNone, slice_get};
-ghost use Rattle.std.specs.Prelude.{Some, None, vec_len};
-ghost use Rattle.std.specs.List.{list_any};
+ghost use Rattle.std.specs.{Prelude.{Some, None, vec_len}, List.list_any};
 ghost use Rattle.xa_xid.specs.Xid.{same_xid};
-ghost use Rattle.xa_coordinator.specs.Branch.{branch_xid};
-ghost use Rattle.xa_coordinator.specs.Recovery.{finish_decided as finish_by_decision, SettlesOne, Settled, IsUnsettled};
-ghost use Rattle.xa_coordinator.specs.Recovery.{StopsAmong};
-ghost use Rattle.xa_coordinator.specs.Parts.{added_at, counted, total};
+ghost use Rattle.xa_coordinator.specs.{Branch.branch_xid, Recovery.{finish_decided as finish_by_decision, SettlesOne}};
+ghost use Rattle.xa_coordinator.specs.{Recovery.{Settled, IsUnsettled, StopsAmong}, Parts.{added_at, counted, total}};
 ghost use Rattle.xa_coordinator.specs.Stores.{AtStore, ChangesAt};
 
 use crate::branch_name::number_of_branch;

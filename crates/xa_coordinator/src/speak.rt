@@ -3,10 +3,9 @@ ghost use Rattle.std.specs.Prelude.{◌≡◌, ◌≤◌, ◌<◌, ◌+◌, ⊤,
 ghost use Rattle.decision_log.specs.History.{entries_of};
 ghost use Rattle.xa_server.specs.Locks.{LockLaw};
 ghost use Rattle.xa_session.specs.Answer.{IsAnswered, Fails, IsFinal, WantsMemory};
-ghost use Rattle.xa_session.specs.declared.answer.Answer.{Answer as AnswerOf};
-ghost use Rattle.xa_session.specs.declared.fault.Fault.{Fault as FaultOf};
-ghost use Rattle.xa_xid.specs.declared.statement.Statement.{Statement as StatementOf};
+ghost use Rattle.xa_session.specs.declared.{answer.Answer.Answer as AnswerOf, fault.Fault.Fault as FaultOf};
 ghost use Rattle.xa_session.specs.View.{SessionView, StaysOfLog, TakesBy};
+ghost use Rattle.xa_xid.specs.declared.statement.Statement.{Statement as StatementOf};
 
 use decision_log::DecisionLog;
 use std::sync::Wait;

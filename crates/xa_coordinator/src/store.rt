@@ -1,8 +1,7 @@
 //! An unbounded store.
 ghost use Rattle.std.specs.Prelude.{◌≡◌, Err, IfOk, OnErr, [], map};
 ghost use Rattle.xa_server.specs.Locks.{LockLaw};
-ghost use Rattle.xa_session.specs.Replay.{state_after};
-ghost use Rattle.xa_session.specs.declared.fault.Fault.TheVariants.{NoMemory as WantsMemory};
+ghost use Rattle.xa_session.specs.{Replay.state_after, declared.fault.Fault.TheVariants.NoMemory as WantsMemory};
 ghost use Rattle.xa_coordinator.specs.Watched.{HasSeenOwn, AllEntered};
 
 use crate::Watch;

@@ -4,15 +4,10 @@
 //! changes, `marks` what it then has open in its stores, and `keeps` that the transaction changes for this store
 //! alone.
 ghost use Rattle.std.specs.Prelude.{◌≡◌, ◌≢◌, ◌<◌, ℕ, List, Some, Err, true, false, IfOk, IfErr, slice_get, vec_len};
-ghost use Rattle.xa_coordinator.specs.Agreement.{Agrees};
-ghost use Rattle.xa_coordinator.specs.Branch.{branch_xid};
-ghost use Rattle.xa_coordinator.specs.OpenBranches.{HasOpen, has_working_branch};
-ghost use Rattle.xa_coordinator.specs.Outcomes.{branch_of};
-ghost use Rattle.xa_coordinator.specs.Participants.{takes_part};
-ghost use Rattle.xa_coordinator.specs.Stores.{AtStore, EachStore, ChangesAt};
-ghost use Rattle.xa_coordinator.specs.Told.{IsUndone};
+ghost use Rattle.xa_coordinator.specs.{Agreement.Agrees, Branch.branch_xid, OpenBranches.{HasOpen, has_working_branch}};
+ghost use Rattle.xa_coordinator.specs.{Outcomes.branch_of, Participants.takes_part};
+ghost use Rattle.xa_coordinator.specs.{Stores.{AtStore, EachStore, ChangesAt}, Told.IsUndone, Parts.WorksWithin};
 ghost use Rattle.xa_coordinator.specs.Work.{IsRow, IsReplied, AddsAtMost, AddsWork, KeepsOthers, WorksAs};
-ghost use Rattle.xa_coordinator.specs.Parts.{WorksWithin};
 ghost use Rattle.xa_coordinator.specs.declared.decisions.Decision.{Decision};
 ghost use Rattle.xa_coordinator.specs.declared.branches.Phase.TheVariants.{Active as PhaseActive};
 

@@ -2,8 +2,7 @@
 use Rattle.std.proofs.Common.{ℕ, List, [], ◌∷◌, ◌++◌, map, refl, ap, sym, ◌∙◌, append-nil, append_assoc}
 use Rattle.std.proofs.lemmas.List.{map-append}
 use Rattle.decision_log.proofs.Histories.{begins_itself, begins_through}
-use Rattle.xa_session.specs.Answer.{entry_of}
-use Rattle.xa_session.specs.View.{SessionView}
+use Rattle.xa_session.specs.{Answer.entry_of, View.SessionView}
 use Rattle.xa_coordinator.specs.declared.decisions.Decision.{Decision}
 use Rattle.xa_endless.specs.Course.{Course, stays, calls, joined, AgreesThroughout}
 

@@ -1,15 +1,11 @@
 -- A replica that stands for a prefix: at the beginning, after one entry more, and in longer histories.
-use Rattle.std.proofs.Common.{◌≡◌, ◌+◌, List, Some}
-use Rattle.std.specs.Prelude.{slice_get}
+use Rattle.std.{proofs.Common.{◌≡◌, ◌+◌, List, Some}, specs.Prelude.slice_get}
 use Rattle.xa_words.specs.Entry.{Entry}
-use Rattle.xa_server.specs.State.{no_state}
-use Rattle.xa_server.specs.Step.{after}
+use Rattle.xa_server.specs.{State.no_state, Step.after}
 use Rattle.decision_log.specs.History.{Begins}
-use Rattle.xa_session.specs.Replay.{Stands as StandsFrom}
-use Rattle.xa_session.proofs.Replaying.{stands_first as first_from, stands_next as next_from}
-use Rattle.xa_session.proofs.Replaying.{stands_longer as longer_from}
-use Rattle.xa_endless.specs.Replicas.{Stands, kept_of}
-use Rattle.xa_endless.specs.declared.replica.Replica.{Replica}
+use Rattle.xa_session.{specs.Replay.Stands as StandsFrom, proofs.Replaying.stands_first as first_from}
+use Rattle.xa_session.proofs.Replaying.{stands_next as next_from, stands_longer as longer_from}
+use Rattle.xa_endless.specs.{Replicas.{Stands, kept_of}, declared.replica.Replica.Replica}
 
 -- a replica that stands for a prefix stands for it as xa_session says it, with the empty state as the base
 from : (seen : List Entry) (replica : Replica) → Stands seen replica → StandsFrom no_state seen (kept_of replica)

@@ -11,23 +11,16 @@
 --     Finds            HasAnswered after Ok, HasFailed after Err
 --     Tries            how often an attempt without an answer has tried to append
 --     TriesOnce        an attempt has looked, and has tried to append at most once
-use Rattle.std.specs.Prelude.{◌≡◌, ◌<◌, ◌≤◌, ◌+◌, ℕ, true, ◌⊎◌, length, slice_get, Option, Some, None}
-use Rattle.std.specs.Prelude.{Result, Ok, Err, IfErr}
+use Rattle.std.specs.Prelude.{◌≡◌, ◌<◌, ◌≤◌, ◌+◌, ℕ, true, ◌⊎◌, length, slice_get, Option, Some, None, Result, Ok, Err}
+use Rattle.std.specs.Prelude.{IfErr}
 use Rattle.xa_words.specs.Entry.{Entry}
-use Rattle.decision_log.specs.declared.known.Known.{Known}
-use Rattle.decision_log.specs.Calls.{IsOvertaken}
+use Rattle.decision_log.specs.{declared.known.Known.Known, Calls.IsOvertaken}
 use Rattle.xa_xid.specs.declared.statement.Statement.{Statement}
-use Rattle.xa_server.specs.State.{State, no_state}
-use Rattle.xa_server.specs.Step.{is_recover, may_take_memory}
-use Rattle.xa_session.specs.Answer.{IsAnswered, IsUnanswered, IsKept}
-use Rattle.xa_session.specs.declared.answer.Answer.{Answer}
-use Rattle.chain_log.specs.declared.ring.RingLog.{RingLog}
-use Rattle.chain_log.specs.declared.ring_pass.RingPass.{RingPass}
-use Rattle.chain_log.specs.RingPass.{known_of, least_of}
-use Rattle.xa_endless.specs.Replicas.{kept_of}
-use Rattle.xa_endless.specs.declared.fault.EndlessFault.{EndlessFault}
+use Rattle.xa_server.specs.{State.{State, no_state}, Step.{is_recover, may_take_memory}}
+use Rattle.xa_session.specs.{Answer.{IsAnswered, IsUnanswered, IsKept}, declared.answer.Answer.Answer}
+use Rattle.chain_log.specs.{declared.{ring.RingLog.RingLog, ring_pass.RingPass.RingPass}, RingPass.{known_of, least_of}}
+use Rattle.xa_endless.specs.{Replicas.kept_of, declared.{fault.EndlessFault.EndlessFault, replica.Replica.Replica}}
 use Rattle.xa_endless.specs.declared.fault.EndlessFault.TheVariants.{Overtaken, NoMemory, Behind}
-use Rattle.xa_endless.specs.declared.replica.Replica.{Replica}
 
 -- the statement was answered as `IsAnswered` says, from an empty store on; the replica has replayed at least the
 -- entries before the answer's place, and all that is seen unless carrying the statement out may take memory

@@ -2,14 +2,11 @@
 --     Course           calls, one after another
 --     joined           lists, one after another, as one
 --     AgreesThroughout     what was added in all calls agrees with the decisions
-use Rattle.std.specs.Prelude.{◌≡◌, ℕ, List, [], ◌∷◌, ◌++◌, map, All}
-use Rattle.std.specs.List.{AllZip}
+use Rattle.std.specs.{Prelude.{◌≡◌, ℕ, List, [], ◌∷◌, ◌++◌, map, All}, List.AllZip}
 use Rattle.xa_xid.specs.declared.statement.Statement.{Statement}
 use Rattle.decision_log.specs.History.{Begins}
-use Rattle.xa_session.specs.Answer.{entry_of}
-use Rattle.xa_session.specs.View.{SessionView}
-use Rattle.xa_coordinator.specs.Agreement.{AgreesWith, Agrees}
-use Rattle.xa_coordinator.specs.declared.decisions.Decision.{Decision}
+use Rattle.xa_session.specs.{Answer.entry_of, View.SessionView}
+use Rattle.xa_coordinator.specs.{Agreement.{AgreesWith, Agrees}, declared.decisions.Decision.Decision}
 
 -- calls of the coordinator of this name, one after another, lead from the old session of the store of this number to
 -- the new one; the list has the decisions as they stood at each call

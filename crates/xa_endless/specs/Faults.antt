@@ -1,8 +1,7 @@
 -- The numbers of the faults of a session of an endless store.
 --     number_of_fault       the number of a fault
 use Rattle.std.specs.Prelude.{ℕ}
-use Rattle.xa_endless.specs.declared.fault.EndlessFault.{EndlessFault}
-use Rattle.xa_endless.specs.declared.fault.EndlessFault.TheVariants.{Overtaken, NoMemory, Behind}
+use Rattle.xa_endless.specs.declared.fault.EndlessFault.{EndlessFault, TheVariants.{Overtaken, NoMemory, Behind}}
 
 -- the fault's number in docs/RATTLE.md#faults-of-a-session
 abbrev pub number_of_fault : EndlessFault → ℕ

@@ -1,16 +1,12 @@
 -- Why not all that is seen could be replayed.
 --     IsHalt           no memory for the next entry, or it is lost
-use Rattle.chain_log.specs.RingPass.{known_of}
-use Rattle.chain_log.specs.declared.ring.RingLog.{RingLog}
-use Rattle.chain_log.specs.declared.ring_pass.RingPass.{RingPass}
-use Rattle.xa_endless.specs.Answers.{IsLost, WantsMemory}
-use Rattle.xa_endless.specs.declared.fault.EndlessFault.{EndlessFault}
-use Rattle.xa_endless.specs.declared.fault.EndlessFault.TheVariants.{Overtaken, NoMemory, Behind}
+use Rattle.chain_log.specs.{RingPass.known_of, declared.{ring.RingLog.RingLog, ring_pass.RingPass.RingPass}}
+use Rattle.xa_endless.specs.{Answers.{IsLost, WantsMemory}, declared.fault.EndlessFault.EndlessFault}
 use Rattle.xa_endless.specs.declared.replica.Replica.{Replica}
 
 -- why a replay stops, by its fault. NoMemory: the next entry may take memory. Behind: it may be overwritten. A replay
 -- is never overtaken
 abbrev pub IsHalt : RingLog → EndlessFault → Replica → RingPass → Type 0
-IsHalt log (Overtaken front) replica pass = ⊥
-IsHalt log NoMemory replica pass = WantsMemory replica (known_of pass)
-IsHalt log Behind replica pass = IsLost log.rows replica pass
+IsHalt log (EndlessFault.Overtaken front) replica pass = ⊥
+IsHalt log EndlessFault.NoMemory replica pass = WantsMemory replica (known_of pass)
+IsHalt log EndlessFault.Behind replica pass = IsLost log.rows replica pass

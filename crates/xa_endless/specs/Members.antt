@@ -6,9 +6,7 @@
 use Rattle.std.specs.Prelude.{◌≡◌, ◌<◌, ◌≤◌}
 use Rattle.decision_log.specs.Calls.{MeetsFirst}
 use Rattle.chain_log.specs.RingPass.{known_of}
-use Rattle.xa_endless.specs.Replicas.{Stands}
-use Rattle.xa_endless.specs.Seen.{HasOnlySeen}
-use Rattle.xa_endless.specs.declared.member.Member.{Member}
+use Rattle.xa_endless.specs.{Replicas.Stands, Seen.HasOnlySeen, declared.member.Member.Member}
 use Rattle.xa_endless.specs.declared.replica.Replica.{Replica}
 
 -- more may be seen, and nothing was tried; the replica has replayed no less, and as much of the history is handed out

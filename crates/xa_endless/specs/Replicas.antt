@@ -7,8 +7,7 @@ use Rattle.std.specs.Prelude.{◌≡◌, ◌<◌, ◌≤◌, ◌+◌, List, leng
 use Rattle.xa_words.specs.Entry.{Entry}
 use Rattle.decision_log.specs.declared.known.Known.{Known}
 use Rattle.xa_server.specs.State.{no_state}
-use Rattle.xa_session.specs.Replay.{state_at}
-use Rattle.xa_session.specs.declared.replica.Replica.{Replica as KeptReplica}
+use Rattle.xa_session.specs.{Replay.state_at, declared.replica.Replica.Replica as KeptReplica}
 use Rattle.xa_endless.specs.declared.replica.Replica.{Replica}
 
 -- the replica as xa_session's contracts see one: its server, and how many entries it has replayed

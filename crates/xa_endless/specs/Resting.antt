@@ -2,13 +2,10 @@
 --     IsAtRest         the member, with its pass at rest
 --     IsLeft           the checkpoint, with its spare at rest
 use Rattle.std.specs.Prelude.{◌≡◌}
-use Rattle.chain_log.specs.RingPass.{log_of, known_of}
-use Rattle.chain_log.specs.RingSpare.{spare_log_of, spare_known_of}
+use Rattle.chain_log.specs.{RingPass.{log_of, known_of}, RingSpare.{spare_log_of, spare_known_of}}
 use Rattle.chain_log.specs.Resting.{resting_log_of, resting_known_of, resting_spare_log_of, resting_spare_known_of}
-use Rattle.xa_endless.specs.declared.member.Member.{Member}
-use Rattle.xa_endless.specs.declared.checkpoint.Checkpoint.{Checkpoint}
-use Rattle.xa_endless.specs.declared.resting.RestingMember.{RestingMember}
-use Rattle.xa_endless.specs.declared.resting.RestingCheckpoint.{RestingCheckpoint}
+use Rattle.xa_endless.specs.declared.{member.Member.Member, checkpoint.Checkpoint.Checkpoint}
+use Rattle.xa_endless.specs.declared.resting.{RestingMember.RestingMember, RestingCheckpoint.RestingCheckpoint}
 
 -- the resting member is of the same log and knows what the member knows; it has the same replica, and has handed out as
 -- much

@@ -1,8 +1,7 @@
 -- What a pass knows after steps that append nothing.
 --     HasOnlySeen      more may be seen, and nothing was tried
 use Rattle.std.specs.Prelude.{◌≡◌, ◌≤◌}
-use Rattle.decision_log.specs.History.{Begins}
-use Rattle.decision_log.specs.declared.known.Known.{Known}
+use Rattle.decision_log.specs.{History.Begins, declared.known.Known.Known}
 
 -- more may be seen, and nothing was tried or appended
 pub record HasOnlySeen (old new : Known) : Type 0 where

@@ -8,17 +8,10 @@
 use Rattle.std.specs.Prelude.{true, false, [], ◌⊎◌, None, Result, IfOk, IfErr, OnErr}
 use Rattle.xa_xid.specs.declared.statement.Statement.{Statement}
 use Rattle.chain_log.specs.RingPass.{log_of, known_of}
-use Rattle.xa_server.specs.Locks.{LockLaw}
-use Rattle.xa_server.specs.State.{no_state}
-use Rattle.xa_server.proofs.Keeping.{law_no_state}
-use Rattle.xa_session.specs.View.{SessionView}
-use Rattle.xa_session.specs.Tries.{TriesOnce, LooksLast}
-use Rattle.xa_session.specs.declared.answer.Answer.{Answer}
-use Rattle.xa_session.specs.declared.fault.Fault.{Fault}
-use Rattle.xa_session.specs.declared.fault.Fault.TheVariants.{Overtaken, Full, NoMemory, Busy}
-use Rattle.xa_endless.specs.Answers.{IsCaused, HasAnswered}
-use Rattle.xa_endless.specs.Stays.{Stays}
-use Rattle.xa_endless.specs.declared.fault.EndlessFault.TheVariants.{NoMemory as WantsMemory, Behind as IsBehind}
+use Rattle.xa_server.{specs.{Locks.LockLaw, State.no_state}, proofs.Keeping.law_no_state}
+use Rattle.xa_session.specs.{View.SessionView, Tries.{TriesOnce, LooksLast}, declared.answer.Answer.Answer}
+use Rattle.xa_session.specs.declared.fault.Fault.{Fault, TheVariants.{Overtaken, Full, NoMemory, Busy}}
+use Rattle.xa_endless.specs.{Answers.{IsCaused, HasAnswered}, Stays.Stays, declared.fault.EndlessFault.EndlessFault}
 use Rattle.xa_endless.specs.declared.session.EndlessSession.{EndlessSession}
 
 -- the session as contracts see one: its history begins with the store's first entry. It has no turn, no other session
@@ -46,7 +39,7 @@ abbrev pub MayFail : Statement → Fault → EndlessSession → Type 0
 MayFail statement (Overtaken front) session = ⊥
 MayFail statement Full session = ⊥
 MayFail statement NoMemory session =
-    IsCaused session.store.value.log statement WantsMemory session.member.replica session.member.pass
+    IsCaused session.store.value.log statement EndlessFault.NoMemory session.member.replica session.member.pass
 MayFail statement Busy session = ⊥
 
 -- the faults of `attempt`: a single try may be Overtaken; and it is NoMemory as for `execute`, or if entries that the
@@ -55,7 +48,7 @@ abbrev pub MayFailOnce : Statement → Fault → EndlessSession → Type 0
 MayFailOnce statement (Overtaken front) session = Unit {0}
 MayFailOnce statement Full session = ⊥
 MayFailOnce statement NoMemory session = MayFail statement NoMemory session
-    ⊎ IsCaused session.store.value.log statement IsBehind session.member.replica session.member.pass
+    ⊎ IsCaused session.store.value.log statement EndlessFault.Behind session.member.replica session.member.pass
 MayFailOnce statement Busy session = ⊥
 
 -- the session is of its store, and the statement is answered or not for a cause; it has looked, and has tried to append

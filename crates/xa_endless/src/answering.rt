@@ -1,10 +1,8 @@
 //! How a session answers a statement, and catches up.
 ghost use Rattle.std.specs.Prelude.{◌≡◌, ◌≤◌, length, IfOk, IfErr, OnErr};
 ghost use Rattle.chain_log.specs.RingPass.{identity_of, log_of, known_of};
-ghost use Rattle.xa_session.specs.Answer.{IsUnanswered};
-ghost use Rattle.xa_session.specs.Tries.{LooksLast};
-ghost use Rattle.xa_endless.specs.Answers.{Finds, HasAnswered, HasFailed, TriesOnce};
-ghost use Rattle.xa_endless.specs.Stays.{Stays};
+ghost use Rattle.xa_session.specs.{Answer.IsUnanswered, Tries.LooksLast};
+ghost use Rattle.xa_endless.specs.{Answers.{Finds, HasAnswered, HasFailed, TriesOnce}, Stays.Stays};
 ghost use Rattle.xa_endless.specs.declared.fault.EndlessFault.TheVariants.{NoMemory as IsNoMemory};
 
 use crate::{EndlessFault, EndlessSession, EndlessStore, Member};

@@ -1,12 +1,9 @@
 //! A replica that no session owns.
-ghost use Rattle.std.specs.Prelude.{◌≡◌, ◌<◌, ◌≤◌, false, length, IfSome, IfNone};
-ghost use Rattle.std.specs.Coded.{Coded-set};
+ghost use Rattle.std.specs.{Prelude.{◌≡◌, ◌<◌, ◌≤◌, false, length, IfSome, IfNone}, Coded.Coded-set};
 ghost use Rattle.chain_log.specs.RingPass.{identity_of, log_of, known_of, least_of};
 ghost use Rattle.chain_log.specs.RingSpare.{spare_log_of, spare_known_of};
-ghost use Rattle.xa_endless.specs.Members.{Hears, Keeps, Serves, Tends};
-ghost use Rattle.xa_endless.specs.Replicas.{Stands};
-ghost use Rattle.xa_server.specs.Coding.{coded_state};
-ghost use Rattle.xa_server.specs.State.{no_state};
+ghost use Rattle.xa_endless.specs.{Members.{Hears, Keeps, Serves, Tends}, Replicas.Stands};
+ghost use Rattle.xa_server.specs.{Coding.coded_state, State.no_state};
 ghost use Rattle.xa_session.specs.Replay.{state_at};
 
 use crate::{Member, Replica};

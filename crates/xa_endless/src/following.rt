@@ -1,8 +1,7 @@
 //! Handing out the history, entry by entry.
 ghost use Rattle.std.specs.Prelude.{◌≡◌, ◌<◌, ◌≤◌, ◌+◌, length};
 ghost use Rattle.chain_log.specs.RingPass.{known_of};
-ghost use Rattle.xa_endless.specs.Following.{Hands};
-ghost use Rattle.xa_endless.specs.Seen.{HasOnlySeen};
+ghost use Rattle.xa_endless.specs.{Following.Hands, Seen.HasOnlySeen};
 
 use crate::EndlessSession;
 use xa_words::Entry;

@@ -1,7 +1,6 @@
 //! What a session leaves for others when it has no more statements.
 ghost use Rattle.chain_log.specs.RingPass.{known_of};
-ghost use Rattle.xa_endless.specs.Seen.{HasOnlySeen};
-ghost use Rattle.xa_endless.specs.Stays.{Stays};
+ghost use Rattle.xa_endless.specs.{Seen.HasOnlySeen, Stays.Stays};
 
 use crate::EndlessSession;
 

@@ -1,9 +1,7 @@
 //! What a session keeps between its calls.
-ghost use Rattle.std.specs.Prelude.{◌≡◌, ◌≤◌, length};
-ghost use Rattle.std.specs.Coded.{Coded-set};
+ghost use Rattle.std.specs.{Prelude.{◌≡◌, ◌≤◌, length}, Coded.Coded-set};
 ghost use Rattle.chain_log.specs.RingPass.{known_of};
-ghost use Rattle.xa_server.specs.Coding.{coded_state};
-ghost use Rattle.xa_server.specs.State.{no_state};
+ghost use Rattle.xa_server.specs.{Coding.coded_state, State.no_state};
 ghost use Rattle.xa_session.specs.Replay.{state_at};
 
 use crate::Replica;

@@ -1,9 +1,6 @@
 //! Opening a store.
-ghost use Rattle.std.specs.Prelude.{◌≡◌, ◌≤◌, length, IfOk, IfErr};
-ghost use Rattle.std.specs.List.{All};
-ghost use Rattle.chain_log.specs.RingOpens.{Refuses};
-ghost use Rattle.chain_log.specs.RingPass.{identity_of, log_of};
-ghost use Rattle.chain_log.specs.RingSpare.{spare_log_of};
+ghost use Rattle.std.specs.{Prelude.{◌≡◌, ◌≤◌, length, IfOk, IfErr}, List.All};
+ghost use Rattle.chain_log.specs.{RingOpens.Refuses, RingPass.{identity_of, log_of}, RingSpare.spare_log_of};
 ghost use Rattle.xa_endless.specs.Opens.{Opens, checkpoints_of};
 
 use crate::checkpoint::Checkpoint;

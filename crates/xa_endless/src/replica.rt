@@ -1,8 +1,7 @@
 //! The server of a session or of a checkpoint, in a store that began with no branch and no row.
 ghost use Rattle.std.specs.Prelude.{◌≡◌, ◌<◌, ◌+◌, ◌^◌, false, true, List, slice_get, Some, IfOk, OnOk, OnErr};
 ghost use Rattle.xa_words.specs.Entry.{Entry as EntryValue};
-ghost use Rattle.xa_server.specs.Replies.{reply_to};
-ghost use Rattle.xa_server.specs.Step.{is_refused, may_take_memory};
+ghost use Rattle.xa_server.specs.{Replies.reply_to, Step.{is_refused, may_take_memory}};
 ghost use Rattle.xa_session.specs.Answer.{entry_of};
 ghost use Rattle.xa_endless.specs.Replicas.{Stands, ReplaysOne};
 

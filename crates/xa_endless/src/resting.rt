@@ -1,11 +1,8 @@
 //! What lies in the slots of a store, where threads share it: sessions that nobody has, and checkpoints.
-ghost use Rattle.std.specs.Prelude.{◌≡◌, ◌≤◌, length, IfSome};
-ghost use Rattle.std.specs.Coded.{Coded-set};
-ghost use Rattle.chain_log.specs.RingPass.{identity_of};
-ghost use Rattle.chain_log.specs.Resting.{resting_log_of, resting_known_of, resting_spare_log_of};
-ghost use Rattle.chain_log.specs.Resting.{resting_spare_known_of};
-ghost use Rattle.xa_server.specs.Coding.{coded_state};
-ghost use Rattle.xa_server.specs.State.{no_state};
+ghost use Rattle.std.specs.{Prelude.{◌≡◌, ◌≤◌, length, IfSome}, Coded.Coded-set};
+ghost use Rattle.chain_log.specs.{RingPass.identity_of, Resting.{resting_log_of, resting_known_of}};
+ghost use Rattle.chain_log.specs.Resting.{resting_spare_log_of, resting_spare_known_of};
+ghost use Rattle.xa_server.specs.{Coding.coded_state, State.no_state};
 ghost use Rattle.xa_session.specs.Replay.{state_at};
 
 use crate::Replica;

@@ -1,8 +1,7 @@
 //! A session of an endless store.
 ghost use Rattle.std.specs.Prelude.{◌≡◌, ◌≤◌, ◌+◌, length, IfSome};
 ghost use Rattle.decision_log.specs.Calls.{MeetsFirst, MeetsSecond};
-ghost use Rattle.chain_log.specs.RingPass.{identity_of, log_of, known_of};
-ghost use Rattle.chain_log.specs.Resting.{resting_log_of};
+ghost use Rattle.chain_log.specs.{RingPass.{identity_of, log_of, known_of}, Resting.resting_log_of};
 ghost use Rattle.xa_session.specs.Replay.{state_at};
 ghost use Rattle.xa_server.specs.State.{no_state};
 ghost use Rattle.xa_endless.specs.Resting.{IsAtRest};

@@ -1,8 +1,6 @@
 //! A store whose history has no end.
-ghost use Rattle.std.specs.Prelude.{◌≡◌, ◌<◌, length, IfSome};
-ghost use Rattle.std.specs.List.{All};
-ghost use Rattle.chain_log.specs.RingPass.{identity_of};
-ghost use Rattle.chain_log.specs.RingSpare.{spare_log_of};
+ghost use Rattle.std.specs.{Prelude.{◌≡◌, ◌<◌, length, IfSome}, List.All};
+ghost use Rattle.chain_log.specs.{RingPass.identity_of, RingSpare.spare_log_of};
 
 use crate::checkpoint::Checkpoint;
 use crate::progress::Progress;

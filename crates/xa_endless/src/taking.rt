@@ -1,7 +1,6 @@
 //! Taking a session of a store.
 ghost use Rattle.std.specs.Prelude.{◌≡◌, IfOk, IfErr};
-ghost use Rattle.chain_log.specs.RingPass.{identity_of, known_of};
-ghost use Rattle.chain_log.specs.Resting.{resting_log_of};
+ghost use Rattle.chain_log.specs.{RingPass.{identity_of, known_of}, Resting.resting_log_of};
 ghost use Rattle.xa_endless.specs.Takes.{IsRefused};
 
 use crate::resting::RestingMember;

@@ -1,8 +1,7 @@
 //! How the sessions leave checkpoints near the end of the history, and share the rows of these.
 ghost use Rattle.std.specs.Prelude.{◌≡◌, ◌<◌, length, IfSome};
 ghost use Rattle.chain_log.specs.RingPass.{identity_of, log_of, known_of};
-ghost use Rattle.xa_endless.specs.Members.{Tends};
-ghost use Rattle.xa_endless.specs.Replicas.{Stands};
+ghost use Rattle.xa_endless.specs.{Members.Tends, Replicas.Stands};
 
 use crate::{EndlessStore, Member, Replica};
 use std::sync::Arc;

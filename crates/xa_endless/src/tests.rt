@@ -6,8 +6,7 @@
 //! Sessions are dropped by calls of `drop`: the end of a scope would drop each of their fields by itself, which makes a
 //! proof much larger.
 ghost use Rattle.std.specs.Prelude.{◌≡◌, ◌∷◌, [], IfSome};
-ghost use Rattle.chain_log.specs.Resting.{resting_spare_log_of};
-ghost use Rattle.chain_log.specs.RingPass.{identity_of};
+ghost use Rattle.chain_log.specs.{Resting.resting_spare_log_of, RingPass.identity_of};
 ghost use Rattle.xa_coordinator.specs.Work.{IsRow};
 
 use crate::resting::RestingCheckpoint;

@@ -8,9 +8,7 @@ ghost use Rattle.decision_log.specs.Calls.{Looked, Adds};
 ghost use Rattle.chain_log.specs.RingPass.{identity_of, log_of, known_of};
 ghost use Rattle.xa_server.specs.Step.{enters, may_take_memory};
 ghost use Rattle.xa_session.specs.Answer.{entry_of};
-ghost use Rattle.xa_endless.specs.Answers.{Finds, TriesOnce};
-ghost use Rattle.xa_endless.specs.Halts.{IsHalt};
-ghost use Rattle.xa_endless.specs.Replicas.{Stands, ReplaysOne, CatchesUp};
+ghost use Rattle.xa_endless.specs.{Answers.{Finds, TriesOnce}, Halts.IsHalt, Replicas.{Stands, ReplaysOne, CatchesUp}};
 
 use crate::{EndlessFault, Replica};
 use chain_log::{RingLog, RingPass};

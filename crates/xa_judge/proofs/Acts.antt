@@ -3,21 +3,14 @@
 --     asked_closed, asked_acts     the hints name each open request, once one client has none any more;  after an act
 --     answered_called, answered_gone  an answered client has no open request;  nor is it gone with one
 use Rattle.std.proofs.Common.{◌≡◌, ◌⊎◌, ℕ, Option, Some, None, List, set, refl, ap, sym, ◌∙◌, subst, inl, inr}
-use Rattle.std.specs.Prelude.{slice_get}
-use Rattle.std.proofs.lemmas.Option.{none-some, same_Some}
+use Rattle.std.{proofs.lemmas.{Option.{none-some, same_Some}, List.length-set}, specs.Prelude.slice_get}
 use Rattle.xa_xid.specs.declared.statement.Statement.TheVariants.{Disconnect}
 use Rattle.xa_server.specs.State.{State}
-use Rattle.xa_judge.specs.declared.request.Request.{Request}
-use Rattle.xa_judge.specs.declared.request.Request.TheVariants.{Statement as Given}
-use Rattle.xa_judge.specs.declared.answer.Answer.{Answer}
-use Rattle.xa_judge.specs.declared.client_state.ClientState.{ClientState}
+use Rattle.xa_judge.specs.declared.{request.Request.Request, answer.Answer.Answer, client_state.ClientState.ClientState}
 use Rattle.xa_judge.specs.declared.client_state.ClientState.TheVariants.{Idle, Called, Answered, Gone, Left}
-use Rattle.xa_judge.specs.declared.moves.Act.{Act}
-use Rattle.xa_judge.specs.declared.moves.Act.TheVariants.{Statement as ItsStatement, Disconnect as ItsDisconnect}
+use Rattle.xa_judge.specs.declared.moves.Act.{Act, TheVariants.{Statement as ItsStatement, Disconnect as ItsDisconnect}}
 use Rattle.xa_judge.specs.Explained.{Config, effect_of, carried_out, disconnected, answer_to, next_state}
-use Rattle.xa_judge.specs.Foreseen.{Hint, IsOpenFor, AreAsked}
-use Rattle.std.proofs.lemmas.List.{length-set}
-use Rattle.xa_judge.proofs.Places.{same_number, get_written, get_apart}
+use Rattle.xa_judge.{specs.Foreseen.{Hint, IsOpenFor, AreAsked}, proofs.Places.{same_number, get_written, get_apart}}
 
 -- ---- acts
 
@@ -27,7 +20,7 @@ use Rattle.xa_judge.proofs.Places.{same_number, get_written, get_apart}
 pub record ActsAs (old : Config) (session : ℕ) (act : Act) (new : Config) : Type 0 where
   pub request : Request
   pub client : Answer → ClientState
-  pub asked : IsOpenFor old session request ⊎ (request ≡ Given Disconnect)
+  pub asked : IsOpenFor old session request ⊎ (request ≡ Request.Statement Disconnect)
   pub was : (one : Request) → slice_get old.clients session ≡ Some (Called one) → request ≡ one
   pub there : ClientState
   pub found : slice_get old.clients session ≡ Some there
@@ -108,7 +101,7 @@ acts_as old new session ItsDisconnect leads = by (slice_get old.clients session)
     by (Some (Called request)) at e = absurd (none-some new e)
     by (Some (Answered answer)) at e = absurd (none-some new e)
     by (Some (Gone request)) at e = record {
-      request = Given Disconnect;
+      request = Request.Statement Disconnect;
       client = λ answer. Left;
       asked = inr refl;
       was = λ one there. absurd (not_called one (sym at ∙ there));

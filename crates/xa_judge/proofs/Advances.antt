@@ -6,31 +6,19 @@
 --     widens_call, NoneUnheard   an open call that nobody hears may come before a call;  there is none
 --     advance_call               a call where there is none
 use Rattle.std.proofs.Common.{◌≡◌, ℕ, false, Some, None, List, [], ◌∷◌, ◌++◌, length, slice_get, refl, ap, sym, ◌∙◌}
-use Rattle.std.proofs.Common.{subst, inl, inr, arith}
-use Rattle.std.proofs.lemmas.Option.{none-some}
-use Rattle.std.specs.List.{All, Contains}
+use Rattle.std.{proofs.{Common.{subst, inl, inr, arith}, lemmas.Option.none-some}, specs.List.{All, Contains}}
 use Rattle.xa_server.specs.State.{State}
-use Rattle.xa_judge.specs.declared.client_state.ClientState.TheVariants.{Answered}
-use Rattle.xa_judge.specs.declared.moves.Act.{Act}
-use Rattle.xa_judge.specs.declared.moves.Move.{Move}
-use Rattle.xa_judge.specs.declared.moves.Move.TheVariants.{Event as Seeing, Effect}
-use Rattle.xa_judge.specs.declared.answer.Answer.{Answer}
-use Rattle.xa_judge.specs.declared.event.Event.{Event}
-use Rattle.xa_judge.specs.declared.event.Event.TheVariants.{Call, Return, Lost, Unknown}
-use Rattle.xa_judge.specs.declared.event.Seen.{Seen}
-use Rattle.xa_judge.specs.declared.configuration.Configuration.{Configuration}
-use Rattle.xa_judge.specs.declared.advance.Advance.{Advance}
-use Rattle.xa_judge.specs.declared.advance.Advance.TheVariants.{Known, Impossible, TooMany}
+use Rattle.xa_judge.specs.declared.{client_state.ClientState.TheVariants.Answered, moves.{Act.Act, Move.Move}}
+use Rattle.xa_judge.specs.declared.{moves.Move.TheVariants.{Event as Seeing, Effect}, answer.Answer.Answer}
+use Rattle.xa_judge.specs.declared.event.{Event.{Event, TheVariants.{Call, Return, Lost, Unknown}}, Seen.Seen}
+use Rattle.xa_judge.specs.declared.{configuration.Configuration.Configuration, advance.Advance.Advance}
+use Rattle.xa_judge.specs.{declared.advance.Advance.TheVariants.{Known, Impossible, TooMany}, Verdicts.IsReachedByMoves}
 use Rattle.xa_judge.specs.Explained.{Config, opening_config, effect_of, observed, LeadsThrough, IsSession}
-use Rattle.xa_judge.specs.Verdicts.{IsReachedByMoves}
 use Rattle.xa_judge.specs.Late.{after_settling, has_unheard, IsReachedFrom, IsAnyUnheard, Widens, IsCounted, IsReady}
 use Rattle.xa_judge.specs.Found.{config_of, Has, Reaches, Grows, KeepsReach, IsAnsweredIn, IsSettledIn, IsClosedBelow}
 use Rattle.xa_judge.specs.Advances.{Continues, IsCallOf, IsReturnOf, IsNoReturn, IsSeenFrom, AreAnswers, AreAnswersTo}
-use Rattle.xa_judge.specs.Advances.{IsAdvance}
-use Rattle.xa_judge.proofs.Waits.{First, CanWait, later}
-use Rattle.xa_judge.proofs.Places.{mapped_place}
-use Rattle.xa_judge.proofs.Growth.{all_at, has_still}
-use Rattle.xa_judge.proofs.Settling.{Settled, settles, answers_settle}
+use Rattle.xa_judge.{specs.Advances.IsAdvance, proofs.{Waits.{First, CanWait, later}, Places.mapped_place}}
+use Rattle.xa_judge.proofs.{Growth.{all_at, has_still}, Settling.{Settled, settles, answers_settle}}
 
 -- if an event is seen first from a configuration of one list, and another list has whatever the event leads to from
 -- there, the later events go on from that other list, to the same end

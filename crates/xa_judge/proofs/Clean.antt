@@ -4,38 +4,21 @@
 --     ended_none      it owns none once a request is accepted that ends or detaches its branch
 --     law_none        in a state without branches the lock law holds
 --     same_test       a number is equal to itself by the test
-use Rattle.std.proofs.Common.{◌≡◌, ◌≢◌, ◌==◌, arith, ℕ, Bool, true, false, Option, Some, None, ap, sym, ◌∙◌}
-use Rattle.std.proofs.Common.{inl, inr}
-use Rattle.std.specs.Prelude.{is_some, cond}
+use Rattle.std.proofs.Common.{◌≡◌, ◌≢◌, ◌==◌, arith, ℕ, Bool, true, false, Option, Some, None, ap, sym, ◌∙◌, inl, inr}
+use Rattle.std.{proofs.lemmas.Bool.{false≢true, Decides.nat_tests}, specs.Prelude.{is_some, cond}}
 use Rattle.std.specs.Option.{option_map, option_map_or, option_and_then}
-use Rattle.std.specs.FinMap as map
-use Rattle.std.proofs.lemmas.Bool.Decides.{nat_tests}
-use Rattle.std.proofs.lemmas.Bool.{false≢true}
 use mathlib.Core.Bool.{true≢false}
-use Rattle.xa_xid.specs.declared.xid.Xid.{Xid}
-use Rattle.xa_xid.specs.Xid.{same_xid}
+use Rattle.xa_xid.specs.{declared.{xid.Xid.Xid, statement.Statement.Statement}, Xid.same_xid}
 use Rattle.xa_xid.proofs.Orders.{xids_total, exact_xids}
-use Rattle.xa_xid.specs.declared.statement.Statement.{Statement}
-use Rattle.xa_xid.specs.declared.statement.Statement.TheVariants.{Start, End, Prepare, Commit, Rollback, Recover}
-use Rattle.xa_xid.specs.declared.statement.Statement.TheVariants.{Unsupported, Get, Put, Del, Disconnect}
-use Rattle.xa_server.specs.declared.association.Association.{Association}
-use Rattle.xa_server.specs.declared.association.Association.TheVariants.{Free, Active, Idle}
-use Rattle.xa_server.specs.declared.reply.Reply.TheVariants.{Ok as Accepted}
-use Rattle.xa_server.specs.State.{Branch, State, owns, association_of}
-use Rattle.xa_server.specs.Locks.{LockLaw, is_exclusive}
-use Rattle.xa_server.specs.Replies.{table, reply_to}
-use Rattle.xa_server.specs.Step.{is_refused}
-use Rattle.xa_server.proofs.Maps.{same_itself}
-use Rattle.xa_server.proofs.Keeping.{is_free, owner_associated}
-use Rattle.xa_server.proofs.Accepted.{own_is}
+use Rattle.xa_server.specs.declared.association.Association.{Association, TheVariants.{Free, Active, Idle}}
+use Rattle.xa_server.specs.{declared.reply.Reply.TheVariants.Ok as Accepted, Replies.{table, reply_to}}
+use Rattle.xa_server.specs.{State.{Branch, State, owns, association_of}, Locks.{LockLaw, is_exclusive}, Step.is_refused}
+use Rattle.xa_server.proofs.{Maps.same_itself, Keeping.{is_free, owner_associated}, Accepted.own_is}
 use Rattle.xa_server.proofs.Changes.{detached, branch_after, effect-branch, outcome}
-use Rattle.xa_server.proofs.Others.{is_owned, IsOwn, IsStarted, own_association}
-use Rattle.xa_server.proofs.Others.{accepted_prepare_own, owned_before}
-use Rattle.xa_judge.specs.declared.request.Request.{Request}
-use Rattle.xa_judge.specs.declared.request.Request.TheVariants.{Statement as Given, Unread}
-use Rattle.xa_judge.specs.declared.answer.Answer.TheVariants.{Reply as Replied}
-use Rattle.xa_judge.specs.Explained.{answer_to, next_state}
-use Rattle.xa_judge.specs.Keys.{is_ending, HasNoBranch}
+use Rattle.xa_server.proofs.Others.{is_owned, IsOwn, IsStarted, own_association, accepted_prepare_own, owned_before}
+use Rattle.xa_judge.specs.declared.{request.Request.Request, answer.Answer.TheVariants.Reply as Replied}
+use Rattle.xa_judge.specs.{Explained.{answer_to, next_state}, Keys.{is_ending, HasNoBranch}}
+use Rattle.std.specs.FinMap as map
 
 -- the session owns no branch
 abbrev pub OwnsNone : State → ℕ → Type 0
@@ -47,8 +30,8 @@ OwnsNone state session = (xid : Xid) → owns state session xid ≡ true → ⊥
 pub others_none : (state : State) (session other : ℕ) (request : Request) → session ≢ other → OwnsNone state other
     → OwnsNone (next_state state session request) other
 unfolding is_owned
-others_none state session other Unread apart none = none
-others_none state session other (Given statement) apart none = elim (outcome state session statement) [
+others_none state session other Request.Unread apart none = none
+others_none state session other (Request.Statement statement) apart none = elim (outcome state session statement) [
   | inl refused ↦ λ xid e. none xid (sym (ap (λ s. owns s other xid) refused.1) ∙ e)
   | inr done ↦ λ xid e. elim (owned_before session other (association_of state session) statement xid
       (map.get state.branches xid)
@@ -83,7 +66,7 @@ only_that session at xid new found same not e =
 -- a session that has something open owns the branch of its XA COMMIT, unless that is refused
 committed_own : (state : State) (session : ℕ) (association : Association) (xid at : Xid) (one_phase : Bool)
     → IsOwn state session association → is_free association ≡ false
-    → is_refused (table state association (Commit xid one_phase)) ≡ false → owns state session xid ≡ true
+    → is_refused (table state association (Statement.Commit xid one_phase)) ≡ false → owns state session xid ≡ true
 unfolding table is_free
 committed_own state session Free xid at one_phase own held e = absurd (true≢false held)
 committed_own state session (Active associated) xid at false own held e = absurd (true≢false e)
@@ -95,7 +78,7 @@ committed_own state session (Idle associated) xid at true own held e =
 -- a session that has something open owns the branch of its XA ROLLBACK, unless that is refused
 rolled_own : (state : State) (session : ℕ) (association : Association) (xid at : Xid)
     → IsOwn state session association → is_free association ≡ false
-    → is_refused (table state association (Rollback xid)) ≡ false → owns state session xid ≡ true
+    → is_refused (table state association (Statement.Rollback xid)) ≡ false → owns state session xid ≡ true
 unfolding table is_free
 rolled_own state session Free xid at own held e = absurd (true≢false held)
 rolled_own state session (Active associated) xid at own held e = absurd (true≢false e)
@@ -105,7 +88,7 @@ rolled_own state session (Idle associated) xid at own held e =
 -- a session that disconnects doesn't own the branch any more that it owned
 left_own : (state : State) (session : ℕ) (association : Association) (at : Xid) (found : Option Branch) → LockLaw state
     → IsOwn state session association → is_free association ≡ false → owns state session at ≡ true
-    → is_owned session (branch_after session association Disconnect at found) ≡ true → ⊥
+    → is_owned session (branch_after session association Statement.Disconnect at found) ≡ true → ⊥
 unfolding branch_after is_free
 left_own state session Free at found law own held before e = absurd (true≢false held)
 left_own state session (Active associated) at found law own held before e =
@@ -118,52 +101,52 @@ left_own state session (Idle associated) at found law own held before e =
 -- if a statement that ends or detaches its session's branch (`is_ending`) isn't refused, no branch that the session
 -- owned is the session's afterwards
 ended_at : (state : State) (session : ℕ) (statement : Statement) (at : Xid) → LockLaw state
-    → is_ending (Given statement) ≡ true
+    → is_ending (Request.Statement statement) ≡ true
     → is_refused (table state (association_of state session) statement) ≡ false
     → owns state session at ≡ true
     → is_owned session (branch_after session (association_of state session) statement at (map.get state.branches at))
     ≡ true → ⊥
 unfolding branch_after
-ended_at state session (Prepare xid) at law ends accepted before e =
+ended_at state session (Statement.Prepare xid) at law ends accepted before e =
     let found = map.get state.branches at in
     let own = accepted_prepare_own state session (association_of state session) xid (own_association state session)
     accepted in
     only_that session at xid (option_map detached found) found (law.one_branch session at xid before own)
     (detached_unowned session found) e
-ended_at state session (Commit xid one_phase) at law ends accepted before e =
+ended_at state session (Statement.Commit xid one_phase) at law ends accepted before e =
     let own = committed_own state session (association_of state session) xid at one_phase
     (own_association state session) (owner_associated state session at law before) accepted in
     only_that session at xid None (map.get state.branches at) (law.one_branch session at xid before own)
     (gone_unowned session) e
-ended_at state session (Rollback xid) at law ends accepted before e =
+ended_at state session (Statement.Rollback xid) at law ends accepted before e =
     let own = rolled_own state session (association_of state session) xid at (own_association state session)
     (owner_associated state session at law before) accepted in
     only_that session at xid None (map.get state.branches at) (law.one_branch session at xid before own)
     (gone_unowned session) e
-ended_at state session Disconnect at law ends accepted before e =
+ended_at state session Statement.Disconnect at law ends accepted before e =
     left_own state session (association_of state session) at (map.get state.branches at) law
     (own_association state session) (owner_associated state session at law before) before e
-ended_at state session (Start xid) at law ends accepted before e = absurd (true≢false (sym ends))
-ended_at state session (End xid) at law ends accepted before e = absurd (true≢false (sym ends))
-ended_at state session (Recover convert) at law ends accepted before e = absurd (true≢false (sym ends))
-ended_at state session Unsupported at law ends accepted before e = absurd (true≢false (sym ends))
-ended_at state session (Get key) at law ends accepted before e = absurd (true≢false (sym ends))
-ended_at state session (Put key value) at law ends accepted before e = absurd (true≢false (sym ends))
-ended_at state session (Del key) at law ends accepted before e = absurd (true≢false (sym ends))
+ended_at state session (Statement.Start xid) at law ends accepted before e = absurd (true≢false (sym ends))
+ended_at state session (Statement.End xid) at law ends accepted before e = absurd (true≢false (sym ends))
+ended_at state session (Statement.Recover convert) at law ends accepted before e = absurd (true≢false (sym ends))
+ended_at state session Statement.Unsupported at law ends accepted before e = absurd (true≢false (sym ends))
+ended_at state session (Statement.Get key) at law ends accepted before e = absurd (true≢false (sym ends))
+ended_at state session (Statement.Put key value) at law ends accepted before e = absurd (true≢false (sym ends))
+ended_at state session (Statement.Del key) at law ends accepted before e = absurd (true≢false (sym ends))
 
 -- a statement that ends or detaches its session's branch (`is_ending`) starts none
-start_ends : (session : ℕ) (statement : Statement) (at : Xid) → is_ending (Given statement) ≡ true
+start_ends : (session : ℕ) (statement : Statement) (at : Xid) → is_ending (Request.Statement statement) ≡ true
     → IsStarted session session statement at → ⊥
 start_ends session statement at ends started =
-    true≢false (sym (ap (λ s. is_ending (Given s)) (sym started.0) ∙ ends))
+    true≢false (sym (ap (λ s. is_ending (Request.Statement s)) (sym started.0) ∙ ends))
 
 -- once a request that ends or detaches its session's branch (`is_ending`) is accepted, the session owns no branch
 pub ended_none : (state : State) (session : ℕ) (request : Request) → LockLaw state → is_ending request ≡ true
     → answer_to state session request ≡ Replied Accepted
     → OwnsNone (next_state state session request) session
 unfolding is_owned
-ended_none state session Unread law ends accepted = absurd (true≢false (sym ends))
-ended_none state session (Given statement) law ends accepted = elim (outcome state session statement) [
+ended_none state session Request.Unread law ends accepted = absurd (true≢false (sym ends))
+ended_none state session (Request.Statement statement) law ends accepted = elim (outcome state session statement) [
   | inl refused ↦ absurd (true≢false (sym refused.0 ∙ ap is_refused (replied accepted)))
   | inr done ↦ λ xid e.
       let later : is_owned session (branch_after session (association_of state session) statement xid

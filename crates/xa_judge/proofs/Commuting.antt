@@ -16,52 +16,33 @@
 --     listed_same, away_key        the lists of PREPARED branches are the same;  keys differ in either order
 --     Commutes, step_commutes      a step and a statement that is clear of it come to the same in any order
 use Rattle.std.proofs.Common.{◌≡◌, ◌≢◌, ◌⊎◌, ℕ, Bool, true, false, cond, not, ◌&&◌, ◌||◌, [], ◌∷◌, Option, Some, None}
-use Rattle.std.proofs.Common.{List, refl, ap, sym}
-use Rattle.std.proofs.Common.{◌∙◌, subst, inl, inr}
-use Rattle.std.specs.Prelude.{is_some, ◌==◌}
-use Rattle.std.specs.List.{list_any}
+use Rattle.std.proofs.{Common.{List, refl, ap, sym, ◌∙◌, subst, inl, inr}, lemmas.Bool.{false≢true, eqb-true}}
+use Rattle.std.{proofs.lemmas.Option.{none-some, same_Some}, specs.Prelude.{is_some, ◌==◌}}
+use Rattle.std.specs.List.{list_any, AllByRecursion, Sorted.IsStrictlySortedBy}
 use Rattle.std.specs.Option.{option_map, option_and_then, option_map_or, unwrap_or}
-use Rattle.std.specs.FinMap as map
 use Rattle.std.specs.FinMap.{contains_key-keys, get-insert, get-remove, get-entries, get-empty, same_map}
-use Rattle.std.specs.Ordering.{eq_by_cmp, ordering_reverse}
-use Rattle.std.specs.declared.cmp.Ordering.TheVariants.{Less, Greater}
-use Rattle.std.specs.List.{AllByRecursion}
-use Rattle.std.specs.List.Sorted.{IsStrictlySortedBy}
-use Rattle.std.proofs.lemmas.Bool.{false≢true, eqb-true}
-use Rattle.std.proofs.lemmas.Option.{none-some, same_Some}
-use Rattle.xa_xid.specs.declared.xid.Xid.{Xid}
-use Rattle.xa_xid.specs.Xid.{Text, same_xid, xid_cmp, bytes_cmp}
+use Rattle.std.specs.{Ordering.{eq_by_cmp, ordering_reverse}, declared.cmp.Ordering.TheVariants.{Less, Greater}}
+use Rattle.xa_xid.specs.declared.{xid.Xid.Xid, statement.Statement.{Statement, TheVariants.{Start, End, Prepare}}}
+use Rattle.xa_xid.specs.declared.statement.Statement.TheVariants.{Commit, Rollback, Recover, Unsupported, Get, Put, Del}
+use Rattle.xa_xid.specs.{declared.statement.Statement.TheVariants.Disconnect, Xid.{Text, same_xid, xid_cmp, bytes_cmp}}
 use Rattle.xa_xid.proofs.Orders.{xids_total, exact_xids, bytes_total, exact_texts}
-use Rattle.xa_xid.specs.declared.statement.Statement.{Statement}
-use Rattle.xa_xid.specs.declared.statement.Statement.TheVariants.{Start, End, Prepare, Commit, Rollback, Recover}
-use Rattle.xa_xid.specs.declared.statement.Statement.TheVariants.{Unsupported, Get, Put, Del, Disconnect}
-use Rattle.xa_server.specs.declared.association.Association.{Association}
-use Rattle.xa_server.specs.declared.association.Association.TheVariants.{Free, Active, Idle}
-use Rattle.xa_server.specs.declared.reply.Reply.TheVariants.{Ok as Accepted, Value, Recovered, Refused}
-use Rattle.xa_server.specs.declared.xa_error.XaError.TheVariants.{Nota, Rmfail, Dupid, RowLocked}
-use Rattle.xa_server.specs.declared.xa_error.BranchState.TheVariants.{Prepared as StatePrepared}
-use Rattle.xa_server.specs.State.{Write, LockMode, Shared, Exclusive, Branch, State, association_of, owns, owner_at}
-use Rattle.xa_server.specs.State.{is_known, is_prepared, is_prepared_phase}
-use Rattle.xa_server.specs.State.{prepared_xids, committed_value, value_within, write_at, IsOpen}
-use Rattle.xa_server.specs.Replies.{table, reply_to, ok_if, refused_if}
-use Rattle.xa_server.specs.Locks.{LockLaw, lock_at, holds, holds_exclusively, is_exclusive, is_another}
-use Rattle.xa_server.specs.Locks.{is_held_against}
-use Rattle.xa_server.specs.Locks.{is_locked_against}
-use Rattle.xa_server.specs.Step.{after, effect, is_refused, with_branch, with_changed, without_branch, with_writes}
-use Rattle.xa_server.specs.Step.{committed}
-use Rattle.xa_server.specs.Step.{started_by, with_lock, with_own_write}
+use Rattle.xa_server.specs.declared.association.Association.{Association, TheVariants.{Free, Active, Idle}}
+use Rattle.xa_server.specs.declared.{reply.Reply.Reply, xa_error.XaError.TheVariants.{Nota, Rmfail, Dupid, RowLocked}}
+use Rattle.xa_server.specs.{declared.xa_error.BranchState.TheVariants.Prepared as StatePrepared, State.Write}
+use Rattle.xa_server.specs.State.{LockMode, Shared, Exclusive, Branch, State, association_of, owns, owner_at, is_known}
+use Rattle.xa_server.specs.State.{is_prepared, is_prepared_phase, prepared_xids, committed_value, value_within}
+use Rattle.xa_server.specs.{State.{write_at, IsOpen}, Replies.{table, reply_to, ok_if, refused_if}, Locks.LockLaw}
+use Rattle.xa_server.specs.Locks.{lock_at, holds, holds_exclusively, is_exclusive, is_another, is_held_against}
+use Rattle.xa_server.specs.{Locks.is_locked_against, Step.{after, effect, is_refused, with_branch, with_changed}}
+use Rattle.xa_server.specs.Step.{without_branch, with_writes, committed, started_by, with_lock, with_own_write}
+use Rattle.xa_server.{specs.Laws.LeavesSession, proofs.Maps.{same_or_apart, same_itself, get_inserted_apart}}
+use Rattle.xa_server.proofs.{Holders.{any_witness, any_some, same_truth, both, itself}, Changes.{idle, detached}}
+use Rattle.xa_server.proofs.Changes.{branch_after, effect-branch, outcome, refused_leaves, accepted_done}
+use Rattle.xa_server.proofs.{Ending.get-with_writes, Steps.same_state, Accepted.open_association}
+use Rattle.xa_server.proofs.{Listing.{prepared_ascend, prepared_exactly}, Others.{IsOwn, own_association, others_left}}
 use Rattle.xa_judge.specs.Clear.{named_by, key_of, Avoids, IsBeside, IsEnding, IsUnlisted, IsAmong, HasRow, MayEnd}
 use Rattle.xa_judge.specs.Clear.{IsOwnStep, IsClearOf, starts, ends, prepares, works, finishes}
-use Rattle.xa_server.proofs.Maps.{same_or_apart, same_itself, get_inserted_apart}
-use Rattle.xa_server.proofs.Holders.{any_witness, any_some, same_truth, both, itself}
-use Rattle.xa_server.proofs.Changes.{idle, detached, branch_after, effect-branch, outcome, refused_leaves}
-use Rattle.xa_server.proofs.Changes.{accepted_done}
-use Rattle.xa_server.proofs.Ending.{get-with_writes}
-use Rattle.xa_server.proofs.Steps.{same_state}
-use Rattle.xa_server.proofs.Accepted.{open_association}
-use Rattle.xa_server.proofs.Listing.{prepared_ascend, prepared_exactly}
-use Rattle.xa_server.proofs.Others.{IsOwn, own_association, others_left}
-use Rattle.xa_server.specs.Laws.{LeavesSession}
+use Rattle.std.specs.FinMap as map
 
 -- where a test fails, what was there stays
 apart_same : {A : Type 0} (b : Bool) (new old : A) → b ≡ false → cond b new old ≡ old
@@ -200,7 +181,7 @@ table_same : (old new : State) (session : ℕ) (statement : Statement) → IsAsk
     → (a : Association) → association_of old session ≡ a → table new a statement ≡ table old a statement
 unfolding table
 table_same old new session (Start xid) asked Free is =
-    ap (λ b. refused_if b Dupid Accepted) (known_same old new xid (asked.named xid refl))
+    ap (λ b. refused_if b Dupid Reply.Ok) (known_same old new xid (asked.named xid refl))
 table_same old new session (Start xid) asked (Active own) is = refl
 table_same old new session (Start xid) asked (Idle own) is = refl
 table_same old new session (End xid) asked Free is = refl
@@ -212,7 +193,7 @@ table_same old new session (Prepare xid) asked (Idle own) is = refl
 table_same old new session (Commit xid false) asked Free is =
     ap (λ b. ok_if b Nota) (prepared_same old new xid (asked.named xid refl))
 table_same old new session (Commit xid true) asked Free is =
-    ap (λ b. refused_if (not b) Nota (Refused (Rmfail StatePrepared)))
+    ap (λ b. refused_if (not b) Nota (Reply.Refused (Rmfail StatePrepared)))
     (prepared_same old new xid (asked.named xid refl))
 table_same old new session (Commit xid false) asked (Active own) is = refl
 table_same old new session (Commit xid true) asked (Active own) is = refl
@@ -222,26 +203,26 @@ table_same old new session (Rollback xid) asked Free is =
     ap (λ b. ok_if b Nota) (prepared_same old new xid (asked.named xid refl))
 table_same old new session (Rollback xid) asked (Active own) is = refl
 table_same old new session (Rollback xid) asked (Idle own) is = refl
-table_same old new session (Recover convert) asked a is = ap Recovered (asked.listed convert refl)
+table_same old new session (Recover convert) asked a is = ap Reply.Recovered (asked.listed convert refl)
 table_same old new session Unsupported asked a is = refl
-table_same old new session (Get key) asked Free is = ap Value (asked.value key refl)
+table_same old new session (Get key) asked Free is = ap Reply.Value (asked.value key refl)
 table_same old new session (Get key) asked (Active own) is =
-    ap (λ b. refused_if b RowLocked (Value (value_within new own key)))
+    ap (λ b. refused_if b RowLocked (Reply.Value (value_within new own key)))
     (locked_alike old new (Active own) key (asked.held key refl))
-    ∙ ap (λ v. refused_if (is_locked_against old (Active own) key) RowLocked (Value v))
+    ∙ ap (λ v. refused_if (is_locked_against old (Active own) key) RowLocked (Reply.Value v))
     (ap (λ (found : Option Branch). unwrap_or (option_and_then (λ (b : Branch). map.get b.writes key) found)
     (committed_value new key)) (asked.own own is)
     ∙ ap (unwrap_or (write_at old own key)) (asked.value key refl))
 table_same old new session (Get key) asked (Idle own) is = refl
 table_same old new session (Put key value) asked Free is =
-    ap (λ b. refused_if b RowLocked Accepted) (held_alike old new Free key (asked.held key refl))
+    ap (λ b. refused_if b RowLocked Reply.Ok) (held_alike old new Free key (asked.held key refl))
 table_same old new session (Put key value) asked (Active own) is =
-    ap (λ b. refused_if b RowLocked Accepted) (held_alike old new (Active own) key (asked.held key refl))
+    ap (λ b. refused_if b RowLocked Reply.Ok) (held_alike old new (Active own) key (asked.held key refl))
 table_same old new session (Put key value) asked (Idle own) is = refl
 table_same old new session (Del key) asked Free is =
-    ap (λ b. refused_if b RowLocked Accepted) (held_alike old new Free key (asked.held key refl))
+    ap (λ b. refused_if b RowLocked Reply.Ok) (held_alike old new Free key (asked.held key refl))
 table_same old new session (Del key) asked (Active own) is =
-    ap (λ b. refused_if b RowLocked Accepted) (held_alike old new (Active own) key (asked.held key refl))
+    ap (λ b. refused_if b RowLocked Reply.Ok) (held_alike old new (Active own) key (asked.held key refl))
 table_same old new session (Del key) asked (Idle own) is = refl
 table_same old new session Disconnect asked a is = refl
 
@@ -491,7 +472,7 @@ unfolding reply_to table
 is_about state session statement xid rows (starts is free new) =
     subst (λ s. IsAbout state session s xid) (sym is) (record {
       accepted = ap (λ a. is_refused (table state a (Start xid))) free
-          ∙ ap (λ (o : Option Branch). is_refused (refused_if (is_some o) Dupid Accepted)) new;
+          ∙ ap (λ (o : Option Branch). is_refused (refused_if (is_some o) Dupid Reply.Ok)) new;
       avoids = λ other apart. apart;
       beside = λ other apart. subst (λ a. IsBeside a other) (sym free) tt;
     })
@@ -513,20 +494,20 @@ is_about state session statement xid rows (works key is has among) =
     by_row (λ s. IsAbout state session s xid) statement key is
     (record {
       accepted = ap (λ a. is_refused (table state a (Get key))) has.0
-          ∙ ap (λ b. is_refused (refused_if b RowLocked (Value (value_within state xid key))))
+          ∙ ap (λ b. is_refused (refused_if b RowLocked (Reply.Value (value_within state xid key))))
           (unlocked state (Active xid) key has.1);
       avoids = λ other apart. tt;
       beside = λ other apart. subst (λ a. IsBeside a other) (sym has.0) apart;
     })
     (λ value. record {
       accepted = ap (λ a. is_refused (table state a (Put key value))) has.0
-          ∙ ap (λ b. is_refused (refused_if b RowLocked Accepted)) has.1;
+          ∙ ap (λ b. is_refused (refused_if b RowLocked Reply.Ok)) has.1;
       avoids = λ other apart. tt;
       beside = λ other apart. subst (λ a. IsBeside a other) (sym has.0) apart;
     })
     (record {
       accepted = ap (λ a. is_refused (table state a (Del key))) has.0
-          ∙ ap (λ b. is_refused (refused_if b RowLocked Accepted)) has.1;
+          ∙ ap (λ b. is_refused (refused_if b RowLocked Reply.Ok)) has.1;
       avoids = λ other apart. tt;
       beside = λ other apart. subst (λ a. IsBeside a other) (sym has.0) apart;
     })
@@ -971,7 +952,7 @@ step_prepared state session statement xid rows step unlisted =
     idling own = ap (λ p. option_map_or is_prepared_phase p false)
         (subst (IsOpen state) own (open_association state session))
 
-    never : (b : Bool) → is_refused (refused_if (not b) Nota (Refused (Rmfail StatePrepared))) ≡ false → ⊥
+    never : (b : Bool) → is_refused (refused_if (not b) Nota (Reply.Refused (Rmfail StatePrepared))) ≡ false → ⊥
     never true e = false≢true (sym e)
     never false e = false≢true (sym e)
 

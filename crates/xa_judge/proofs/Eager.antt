@@ -8,51 +8,25 @@
 --     goes_stepped, goes_same, goes_past   orders go on from a list after steps;  after none;  over two lists
 --     StepsBoth, steps_more, steps_end     a loop in which each of a list takes its step
 use Rattle.std.proofs.Common.{◌≡◌, ◌≢◌, ◌⊎◌, ◌==◌, ℕ, true, false, cond, Option, Some, None, List, [], ◌∷◌, set, refl}
-use Rattle.std.proofs.Common.{ap, sym, ◌∙◌}
-use Rattle.std.proofs.Common.{subst, inl, inr}
-use Rattle.std.specs.Prelude.{slice_get}
-use Rattle.std.proofs.lemmas.Bool.{false≢true}
-use Rattle.std.proofs.lemmas.Bool.Decides.{nat_tests}
-use Rattle.std.proofs.lemmas.Option.{none-some, same_Some, cond_some}
-use Rattle.xa_xid.specs.declared.xid.Xid.{Xid}
-use Rattle.xa_xid.specs.declared.statement.Statement.{Statement}
-use Rattle.xa_xid.specs.declared.statement.Statement.TheVariants.{Disconnect}
-use Rattle.xa_server.specs.State.{State}
-use Rattle.xa_server.specs.Locks.{LockLaw}
-use Rattle.xa_judge.specs.declared.request.Request.{Request}
-use Rattle.xa_judge.specs.declared.request.Request.TheVariants.{Statement as Given, Unread}
-use Rattle.xa_judge.specs.declared.answer.Answer.{Answer}
-use Rattle.xa_judge.specs.declared.answer.Answer.TheVariants.{Reply as Replied}
-use Rattle.xa_judge.specs.declared.client_state.ClientState.{ClientState}
+use Rattle.std.proofs.{Common.{ap, sym, ◌∙◌, subst, inl, inr, ◌++◌, arith}, lemmas.Bool.{false≢true, Decides.nat_tests}}
+use Rattle.std.{proofs.lemmas.Option.{none-some, same_Some, cond_some}, specs.Prelude.slice_get}
+use Rattle.xa_xid.specs.declared.{xid.Xid.Xid, statement.Statement.{Statement, TheVariants.Disconnect}}
+use Rattle.xa_server.specs.{State.State, Locks.LockLaw}
+use Rattle.xa_judge.specs.declared.request.Request.{Request, TheVariants.{Statement as Given, Unread}}
+use Rattle.xa_judge.specs.declared.{answer.Answer.Answer, client_state.ClientState.ClientState, event.Seen.Seen}
 use Rattle.xa_judge.specs.declared.client_state.ClientState.TheVariants.{Idle, Called, Answered, Gone, Left}
-use Rattle.xa_judge.specs.declared.event.Seen.{Seen}
-use Rattle.xa_judge.specs.declared.event.Event.{Event}
-use Rattle.xa_judge.specs.declared.event.Event.TheVariants.{Call, Return, Lost, Unknown}
-use Rattle.xa_judge.specs.declared.moves.Act.{Act}
-use Rattle.xa_judge.specs.declared.moves.Act.TheVariants.{Statement as ItsStatement, Disconnect as ItsDisconnect}
-use Rattle.xa_judge.specs.declared.moves.Move.{Move}
-use Rattle.xa_judge.specs.declared.moves.Move.TheVariants.{Event as Seeing, Effect}
-use Rattle.xa_judge.specs.Explained.{Config, with_client, effect_of, carried_out, disconnected, observed, called}
-use Rattle.xa_judge.specs.Explained.{returned}
+use Rattle.xa_judge.specs.declared.{event.Event.{Event, TheVariants.{Call, Return, Lost, Unknown}}, moves.Act.Act}
+use Rattle.xa_judge.specs.{declared.{moves.Move.Move, configuration.Configuration.Configuration}, Explained.Config}
+use Rattle.xa_judge.specs.Explained.{with_client, effect_of, carried_out, disconnected, observed, called, returned}
 use Rattle.xa_judge.specs.Explained.{lost, answered_unknown, answer_to, next_state, shows_answer, LeadsThrough}
-use Rattle.xa_judge.proofs.Places.{same_number, get_written, get_apart, set_apart}
-use Rattle.xa_judge.proofs.Clean.{same_test}
-use Rattle.xa_judge.proofs.Waits.{acted}
 use Rattle.xa_judge.specs.Keys.{session_of}
-use Rattle.xa_judge.proofs.ForeseenSteps.{act_keeps, both_act}
-use Rattle.xa_judge.proofs.ForeseenEvents.{saw}
-use Rattle.xa_judge.specs.Foreseen.{Hint, fact_of, seen_in, IsOpenFor, IsAlikeAt, AreAlike}
-use Rattle.xa_judge.proofs.Acts.{ActsAs, acts_as}
+use Rattle.xa_judge.specs.Foreseen.{Hint, fact_of, seen_in, IsOpenFor, IsAlikeAt, AreAlike, GoesOn, GoesOnLike, IsLike}
 use Rattle.xa_judge.specs.Clear.{IsOwnStep, IsClearOf, IsClearRequest, IsHeldBack, IsAside, unrelated, held, returns_in}
-use Rattle.xa_judge.specs.Clear.{AreOpenAside, AreCallsAside, AreNotedAside, IsSteppedFor}
-use Rattle.xa_judge.proofs.Commuting.{step_commutes}
-use Rattle.xa_judge.specs.declared.configuration.Configuration.{Configuration}
-use Rattle.xa_judge.specs.Found.{config_of, Has, AddsUnlessThere}
-use Rattle.xa_judge.specs.Foreseen.{GoesOn, GoesOnLike, IsLike}
-use Rattle.xa_judge.proofs.Loops.{has_last}
-use Rattle.xa_judge.proofs.Growth.{has_added}
+use Rattle.xa_judge.{specs.Clear.{AreOpenAside, AreCallsAside, AreNotedAside, IsSteppedFor}, proofs.ForeseenEvents.saw}
+use Rattle.xa_judge.{specs.Found.{config_of, Has, AddsUnlessThere}, proofs.ForeseenSteps.{act_keeps, both_act}}
+use Rattle.xa_judge.proofs.{Places.{same_number, get_written, get_apart, set_apart}, Clean.same_test, Waits.acted}
+use Rattle.xa_judge.proofs.{Acts.{ActsAs, acts_as}, Commuting.step_commutes, Loops.has_last, Growth.has_added}
 use Rattle.xa_judge.proofs.ForeseenGrowth.{still_has, adds_one}
-use Rattle.std.proofs.Common.{◌++◌, arith}
 
 -- ---- two requests
 
@@ -73,7 +47,7 @@ requests_commute : (state : State) (session other : ℕ) (one : Statement) (two 
     → RequestsCommute state session other one two xid rows
 requests_commute state session other one (Given two) xid rows law apart step clear =
     let c = step_commutes state session other one two xid rows law apart step clear in
-    record { first = ap Replied c.first; second = ap Replied c.second; same = c.same; still = c.still }
+    record { first = ap Answer.Reply c.first; second = ap Answer.Reply c.second; same = c.same; still = c.still }
 requests_commute state session other one Unread xid rows law apart step clear =
     record { first = refl; second = refl; same = refl; still = step }
 
@@ -95,8 +69,8 @@ pub exchanged : (run mid next : Config) (session other : ℕ) (act : Act) (one :
     → LockLaw run.state → session ≢ other → slice_get run.clients session ≡ Some (Called (Given one))
     → IsOwnStep run.state session one xid rows
     → ((request : Request) → IsOpenFor run other request → IsClearRequest one request xid rows)
-    → effect_of run other act ≡ Some mid → effect_of mid session ItsStatement ≡ Some next
-    → (first : Config) × (effect_of run session ItsStatement ≡ Some first) × (effect_of first other act ≡ Some next)
+    → effect_of run other act ≡ Some mid → effect_of mid session Act.Statement ≡ Some next
+    → (first : Config) × (effect_of run session Act.Statement ≡ Some first) × (effect_of first other act ≡ Some next)
 unfolding effect_of carried_out
 exchanged run mid next session other act one xid rows law apart at step clear leads then = (
   made run,
@@ -114,7 +88,7 @@ exchanged run mid next session other act one xid rows law apart at step clear le
     }
 
     step_at : (config : Config) → slice_get config.clients session ≡ Some (Called (Given one))
-        → effect_of config session ItsStatement ≡ Some (made config)
+        → effect_of config session Act.Statement ≡ Some (made config)
     step_at config here = ap (λ o. carried_out o config session) here
 
     theirs : ActsAs run other act mid
@@ -413,7 +387,7 @@ shown_there : (run end : Config) (session : ℕ) (seen : Seen) (c : ClientState)
     → returns_in session more ≡ Some seen → slice_get run.clients session ≡ Some c → LeadsThrough run more moves end
     → IsShownIn seen c
 unfolding returns_in effect_of carried_out disconnected observed returned called lost answered_unknown
-shown_there run end session seen c more (Effect other act ∷ moves) is at runs =
+shown_there run end session seen c more (Move.Effect other act ∷ moves) is at runs =
     elim (same_number session other) [
       | inr apart ↦
           let theirs = acts_as run runs.0 other act runs.2 in
@@ -429,29 +403,29 @@ shown_there run end session seen c more (Effect other act ∷ moves) is at runs 
         → (was : ClientState) → slice_get run.clients session ≡ Some was → (a : Act)
         → effect_of run session a ≡ Some runs.0 → IsShownIn seen was
     own later (Called request) there a leads = tt
-    own later Idle there ItsStatement leads =
+    own later Idle there Act.Statement leads =
         absurd (none-some runs.0 (sym (ap (λ o. carried_out o run session) there) ∙ leads))
-    own later Idle there ItsDisconnect leads =
+    own later Idle there Act.Disconnect leads =
         absurd (none-some runs.0 (sym (ap (λ o. disconnected o run session) there) ∙ leads))
-    own later (Answered answer) there ItsStatement leads =
+    own later (Answered answer) there Act.Statement leads =
         absurd (none-some runs.0 (sym (ap (λ o. carried_out o run session) there) ∙ leads))
-    own later (Answered answer) there ItsDisconnect leads =
+    own later (Answered answer) there Act.Disconnect leads =
         absurd (none-some runs.0 (sym (ap (λ o. disconnected o run session) there) ∙ leads))
-    own later (Gone None) there ItsStatement leads =
+    own later (Gone None) there Act.Statement leads =
         absurd (none-some runs.0 (sym (ap (λ o. carried_out o run session) there) ∙ leads))
-    own later (Gone (Some request)) there ItsStatement leads =
+    own later (Gone (Some request)) there Act.Statement leads =
         later (Gone None) (ap (λ (d : Config). slice_get d.clients session)
         (sym (same_Some _ runs.0 (sym (ap (λ o. carried_out o run session) there) ∙ leads)))
         ∙ get_written run.clients session (Gone (Some request)) (Gone None) there)
-    own later (Gone request) there ItsDisconnect leads =
+    own later (Gone request) there Act.Disconnect leads =
         later Left (ap (λ (d : Config). slice_get d.clients session)
         (sym (same_Some _ runs.0 (sym (ap (λ o. disconnected o run session) there) ∙ leads)))
         ∙ get_written run.clients session (Gone request) Left there)
-    own later Left there ItsStatement leads =
+    own later Left there Act.Statement leads =
         absurd (none-some runs.0 (sym (ap (λ o. carried_out o run session) there) ∙ leads))
-    own later Left there ItsDisconnect leads =
+    own later Left there Act.Disconnect leads =
         absurd (none-some runs.0 (sym (ap (λ o. disconnected o run session) there) ∙ leads))
-shown_there run end session seen c (event ∷ more) (Seeing ∷ moves) is at runs =
+shown_there run end session seen c (event ∷ more) (Move.Event ∷ moves) is at runs =
     elim (same_number (session_of event) session) [
       | inr apart ↦
           let s = saw run runs.0 event runs.1 in
@@ -479,7 +453,7 @@ shown_there run end session seen c (event ∷ more) (Seeing ∷ moves) is at run
         subst (λ x. IsShownIn x c) (same_Some shown seen returns)
         (by c at shown (ap (λ o. returned o run session shown) (sym at)
         ∙ subst (λ n. returned (slice_get run.clients n) run n shown ≡ Some runs.0) e sees))
-shown_there run end session seen c [] (Seeing ∷ moves) is at runs = absurd runs
+shown_there run end session seen c [] (Move.Event ∷ moves) is at runs = absurd runs
 shown_there run end session seen c [] [] is at runs = absurd (none-some seen is)
 shown_there run end session seen c (event ∷ more) [] is at runs = absurd runs
 
@@ -492,10 +466,10 @@ pub goes_first : (run end : Config) (session : ℕ) (one : Statement) (xid : Xid
     → LockLaw run.state → slice_get run.clients session ≡ Some (Called (Given one))
     → IsOwnStep run.state session one xid rows → AreOpenAside run session one xid rows more
     → AreCallsAside session one xid rows more → LeadsThrough run more moves end
-    → (first : Config) × (all : List Move) × (last : Config) × (effect_of run session ItsStatement ≡ Some first)
+    → (first : Config) × (all : List Move) × (last : Config) × (effect_of run session Act.Statement ≡ Some first)
     × LeadsThrough first more all last × IsLike end last
 unfolding effect_of carried_out disconnected observed returned
-goes_first run end session one xid rows more (Effect other act ∷ moves) law at step aside calls runs =
+goes_first run end session one xid rows more (Move.Effect other act ∷ moves) law at step aside calls runs =
     elim (same_number session other) [
       | inl e ↦ own act (subst (λ n. effect_of run n act ≡ Some runs.0) (sym e) runs.2)
       | inr apart ↦
@@ -516,7 +490,7 @@ goes_first run end session one xid rows more (Effect other act ∷ moves) law at
           let swapped = exchanged run runs.0 rest.0 session other act one xid rows law apart at step
           (λ request opened. clear request opened) runs.2 rest.3 in (
             swapped.0,
-            Effect other act ∷ rest.1,
+            Move.Effect other act ∷ rest.1,
             rest.2,
             swapped.1,
             (rest.0, runs.1, swapped.2, rest.4),
@@ -530,9 +504,9 @@ goes_first run end session one xid rows more (Effect other act ∷ moves) law at
     held_back apart theirs request (inl called) seen shown back = answered act runs.2
       where
         answered : (a : Act) → effect_of run other a ≡ Some runs.0 → ⊥
-        answered ItsDisconnect leads =
+        answered Act.Disconnect leads =
             none-some runs.0 (sym (ap (λ o. disconnected o run other) called) ∙ leads)
-        answered ItsStatement leads =
+        answered Act.Statement leads =
             let made = same_Some _ runs.0 (sym (ap (λ o. carried_out o run other) called) ∙ leads) in
             let told = shown_there runs.0 end other seen (Answered (answer_to run.state other request)) more moves
             shown (ap (λ (c : Config). slice_get c.clients other) (sym made)
@@ -540,7 +514,7 @@ goes_first run end session one xid rows more (Effect other act ∷ moves) law at
             runs.3 in
             false≢true (sym (back run.state session other apart law step) ∙ told)
     held_back apart theirs request (inr gone) seen shown back =
-        shown_there run end other seen (Gone (Some request)) more (Effect other act ∷ moves) shown gone runs
+        shown_there run end other seen (Gone (Some request)) more (Move.Effect other act ∷ moves) shown gone runs
 
     is_clear : session ≢ other → ActsAs run other act runs.0 → (request : Request) → IsOpenFor run other request
         → IsClearRequest one request xid rows
@@ -557,11 +531,11 @@ goes_first run end session one xid rows more (Effect other act ∷ moves) law at
         (leaving_clear one xid rows)
 
     own : (a : Act) → effect_of run session a ≡ Some runs.0
-        → (first : Config) × (all : List Move) × (last : Config) × (effect_of run session ItsStatement ≡ Some first)
+        → (first : Config) × (all : List Move) × (last : Config) × (effect_of run session Act.Statement ≡ Some first)
         × LeadsThrough first more all last × IsLike end last
-    own ItsStatement leads = (runs.0, moves, end, leads, runs.3, (λ at answer e. e))
-    own ItsDisconnect leads = absurd (none-some runs.0 (sym (ap (λ o. disconnected o run session) at) ∙ leads))
-goes_first run end session one xid rows (event ∷ more) (Seeing ∷ moves) law at step aside calls runs =
+    own Act.Statement leads = (runs.0, moves, end, leads, runs.3, (λ at answer e. e))
+    own Act.Disconnect leads = absurd (none-some runs.0 (sym (ap (λ o. disconnected o run session) at) ∙ leads))
+goes_first run end session one xid rows (event ∷ more) (Move.Event ∷ moves) law at step aside calls runs =
     elim (apart_from event calls runs.1) [
       | inl none ↦ absurd none
       | inr parts ↦
@@ -573,8 +547,8 @@ goes_first run end session one xid rows (event ∷ more) (Seeing ∷ moves) law 
           let rest = goes_first runs.0 end session one xid rows more moves (subst LockLaw (sym state_is) law) at_mid
           (subst (λ t. IsOwnStep t session one xid rows) (sym state_is) step)
           (event_aside run runs.0 session one xid rows event more aside runs.1 parts.1) parts.2 runs.2 in
-          let swapped = seen_later run runs.0 rest.0 session ItsStatement event parts.0 runs.1 rest.3 in
-          (swapped.0, Seeing ∷ rest.1, rest.2, swapped.1, (rest.0, swapped.2, rest.4), rest.5)
+          let swapped = seen_later run runs.0 rest.0 session Act.Statement event parts.0 runs.1 rest.3 in
+          (swapped.0, Move.Event ∷ rest.1, rest.2, swapped.1, (rest.0, swapped.2, rest.4), rest.5)
     ]
   where
     apart_from : (this : Event) → AreCallsAside session one xid rows (this ∷ more) → observed run this ≡ Some runs.0
@@ -606,7 +580,7 @@ goes_first run end session one xid rows (event ∷ more) (Seeing ∷ moves) law 
       where
         no : (request : Request) → Unknown other ≡ Call other request → ⊥
         no request e = cc
-goes_first run end session one xid rows [] (Seeing ∷ moves) law at step aside calls runs = absurd runs
+goes_first run end session one xid rows [] (Move.Event ∷ moves) law at step aside calls runs = absurd runs
 goes_first run end session one xid rows [] [] law at step aside calls runs =
     (made, [], made, ap (λ o. carried_out o run session) at, refl, like)
   where
@@ -641,13 +615,13 @@ pub steps_first : (hints : List Hint) (kept new : Config) (session : ℕ) (one :
     (rows : List (List ℕ)) (more : List Event) → slice_get kept.clients session ≡ Some (Called (Given one))
     → (fact_of hints session).never ≡ false → IsOwnStep kept.state session one xid rows
     → AreNotedAside hints session one xid rows more → AreCallsAside session one xid rows more
-    → effect_of kept session ItsStatement ≡ Some new → IsSteppedFor hints more kept new
+    → effect_of kept session Act.Statement ≡ Some new → IsSteppedFor hints more kept new
 steps_first hints kept new session one xid rows more at heard step aside calls leads = λ run end moves alike runs.
     let same = as_far run alike (alike.clients session) in
     let found = goes_first run end session one xid rows more moves alike.law (same ∙ at)
     (subst (λ s. IsOwnStep s session one xid rows) alike.state step)
     (λ other request apart opened. aside other request apart (alike.asked.calls other request opened)) calls runs in
-    let both = both_act hints run kept found.0 session ItsStatement alike found.3 same in (
+    let both = both_act hints run kept found.0 session Act.Statement alike found.3 same in (
       found.0,
       found.1,
       found.2,

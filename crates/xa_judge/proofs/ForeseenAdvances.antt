@@ -5,40 +5,23 @@
 --     noted_goes_on                a place is noted at which a call ends, where none was
 --     goes_first, goes_last        before all events;  after all events
 --     goes_shortened               common first moves are taken out
-use Rattle.std.proofs.Common.{◌≡◌, ℕ, false, Option, Some, None, List, [], ◌∷◌, ◌++◌, set, length, take}
-use Rattle.std.proofs.Common.{refl, ap, subst, sym, ◌∙◌, inl, inr, arith, append-nil}
-use Rattle.std.specs.Prelude.{slice_get}
-use Rattle.std.specs.List.{Contains}
-use Rattle.std.specs.Prelude.{IfSome}
-use Rattle.std.specs.Option.{unwrap_or, option_map}
-use Rattle.std.proofs.lemmas.Bool.{false≢true}
-use Rattle.std.proofs.lemmas.Option.{none-some, slice_get-map}
-use Rattle.std.proofs.lemmas.List.{take_all, length-set}
-use Rattle.xa_server.specs.State.{State}
-use Rattle.xa_server.specs.Locks.{LockLaw}
-use Rattle.xa_judge.specs.declared.answer.Answer.{Answer}
-use Rattle.xa_judge.specs.declared.client_state.ClientState.TheVariants.{Answered}
-use Rattle.xa_judge.specs.declared.moves.Move.{Move}
-use Rattle.xa_judge.specs.declared.configuration.Configuration.{Configuration}
-use Rattle.xa_judge.specs.declared.event.Event.{Event}
-use Rattle.xa_judge.specs.declared.event.Event.TheVariants.{Call, Return, Lost, Unknown}
-use Rattle.xa_judge.specs.Explained.{Config, opening_config, LeadsThrough}
-use Rattle.xa_judge.specs.Late.{has_unheard}
-use Rattle.xa_judge.specs.declared.frontier.Frontier.{Frontier}
-use Rattle.xa_judge.specs.declared.open_call.OpenCall.{OpenCall}
-use Rattle.xa_judge.specs.Verdicts.{IsAnswerAfter}
-use Rattle.xa_judge.specs.Found.{config_of, Has, IsOpening, IsShortened, IsAnsweredIn}
-use Rattle.xa_judge.proofs.Places.{place_mapped, same_number, get_written, get_apart}
-use Rattle.xa_judge.proofs.ForeseenSteps.{alike_first}
-use Rattle.xa_judge.specs.Advances.{IsCallOf}
+use Rattle.std.proofs.Common.{◌≡◌, ℕ, false, Option, Some, None, List, [], ◌∷◌, ◌++◌, set, length, take, refl, ap}
+use Rattle.std.proofs.{Common.{subst, sym, ◌∙◌, inl, inr, arith, append-nil}, lemmas.Bool.false≢true}
+use Rattle.std.proofs.lemmas.{Option.{none-some, slice_get-map}, List.{take_all, length-set}}
+use Rattle.std.specs.{Prelude.{slice_get, IfSome}, List.Contains, Option.{unwrap_or, option_map}}
+use Rattle.xa_server.specs.{State.State, Locks.LockLaw}
+use Rattle.xa_judge.specs.declared.{answer.Answer.Answer, client_state.ClientState.TheVariants.Answered}
+use Rattle.xa_judge.specs.declared.{moves.Move.Move, configuration.Configuration.Configuration, event.Event.Event}
+use Rattle.xa_judge.specs.declared.{event.Event.TheVariants.{Call, Return, Lost, Unknown}, frontier.Frontier.Frontier}
+use Rattle.xa_judge.specs.{declared.open_call.OpenCall.OpenCall, Explained.{Config, opening_config, LeadsThrough}}
+use Rattle.xa_judge.specs.{Late.has_unheard, Verdicts.IsAnswerAfter}
+use Rattle.xa_judge.specs.{Found.{config_of, Has, IsOpening, IsShortened, IsAnsweredIn}, Advances.IsCallOf}
 use Rattle.xa_judge.specs.Foreseen.{NotesCall, Hint, no_hint, fact_of, hint_of, hints_of, hint_in, FitsHints, GoesOn}
 use Rattle.xa_judge.specs.Foreseen.{GoesOnLike, HasSeenFor, AreClosedFor, ExtendsBy, IsAlikeAt, IsDead, seen_by}
-use Rattle.xa_judge.specs.Foreseen.{never_by, asked_by}
-use Rattle.xa_judge.specs.Foreseen.{IsAdvanceFor, IsClosedFor, NeedsNone, AreAlike, returning_in}
-use Rattle.xa_judge.proofs.Waits.{CanWait}
-use Rattle.xa_judge.specs.Keys.{session_of}
+use Rattle.xa_judge.specs.Foreseen.{never_by, asked_by, IsAdvanceFor, IsClosedFor, NeedsNone, AreAlike, returning_in}
+use Rattle.xa_judge.{specs.Keys.session_of, proofs.Places.{place_mapped, same_number, get_written, get_apart}}
+use Rattle.xa_judge.proofs.{ForeseenSteps.alike_first, Waits.CanWait, ForeseenReturns.{goes_returned, ends_answered}}
 use Rattle.xa_judge.proofs.ForeseenLists.{goes_closed, goes_called, left_past, unheard_alike, hints_set}
-use Rattle.xa_judge.proofs.ForeseenReturns.{goes_returned, ends_answered}
 use Rattle.xa_judge.proofs.ForeseenGrowth.{still_has, closed_all}
 
 -- past an event from a list that acts have closed for it (`AreClosedFor`): orders go on from the new list, which has

@@ -4,32 +4,17 @@
 --     idle_shut                an idle client has nothing open
 --     alike_sees               an event that an order sees, what is kept of it sees
 --     dead_acts, dead_sees     an order that can't go on past a return still can't after an act;  after an event
-use Rattle.std.proofs.Common.{◌≡◌, ◌≢◌, ℕ, true, false, cond, Option, Some, None, List, set, refl, ap, sym, ◌∙◌}
-use Rattle.std.proofs.Common.{subst, inl, inr}
-use Rattle.std.specs.Prelude.{slice_get}
-use Rattle.std.specs.Option.{unwrap_or}
-use Rattle.std.proofs.lemmas.Option.{none-some, same_Some, cond_some}
-use Rattle.std.proofs.lemmas.Bool.{false≢true}
-use Rattle.xa_judge.specs.declared.client_state.ClientState.{ClientState}
-use Rattle.xa_judge.specs.declared.request.Request.{Request}
-use Rattle.xa_judge.specs.Explained.{lost}
+use Rattle.std.proofs.Common.{◌≡◌, ◌≢◌, ℕ, true, false, cond, Option, Some, None, List, set, refl, ap, sym, ◌∙◌, subst}
+use Rattle.std.proofs.{Common.{inl, inr, ◌<◌, ◌⊎◌}, lemmas.Option.{none-some, same_Some, cond_some, slice_get_within}}
+use Rattle.std.{proofs.lemmas.{Bool.false≢true, List.length-set}, specs.{Prelude.slice_get, Option.unwrap_or}}
+use Rattle.xa_judge.specs.declared.{client_state.ClientState.ClientState, request.Request.Request, event.Seen.Seen}
 use Rattle.xa_judge.specs.declared.client_state.ClientState.TheVariants.{Idle, Called, Answered, Gone, Left}
-use Rattle.xa_judge.specs.declared.event.Seen.{Seen}
-use Rattle.xa_judge.specs.declared.event.Event.{Event}
-use Rattle.xa_judge.specs.declared.event.Event.TheVariants.{Call, Return, Lost, Unknown}
-use Rattle.xa_judge.specs.declared.moves.Act.{Act}
-use Rattle.xa_judge.specs.Explained.{Config, with_client, effect_of, observed, called, returned, answered_unknown}
-use Rattle.xa_judge.specs.Explained.{shows_answer}
-use Rattle.xa_judge.specs.Late.{answered_so}
-use Rattle.xa_judge.specs.Foreseen.{AreAsked, NotesCall, Hint, no_hint, fact_of, hint_of, IsAheadAt, IsBehindAt}
-use Rattle.xa_judge.specs.Foreseen.{IsAlikeAt, AreAlike}
-use Rattle.xa_judge.specs.Foreseen.{IsDead, FitsHints}
-use Rattle.std.proofs.Common.{◌<◌, ◌⊎◌}
-use Rattle.std.proofs.lemmas.List.{length-set}
-use Rattle.std.proofs.lemmas.Option.{slice_get_within}
-use Rattle.xa_judge.proofs.Places.{same_number, get_written, get_apart, get_within}
+use Rattle.xa_judge.specs.declared.{event.Event.{Event, TheVariants.{Call, Return, Lost, Unknown}}, moves.Act.Act}
+use Rattle.xa_judge.specs.Explained.{lost, Config, with_client, effect_of, observed, called, returned, answered_unknown}
+use Rattle.xa_judge.specs.{Explained.shows_answer, Late.answered_so, Foreseen.{AreAsked, NotesCall, Hint, no_hint}}
+use Rattle.xa_judge.specs.Foreseen.{fact_of, hint_of, IsAheadAt, IsBehindAt, IsAlikeAt, AreAlike, IsDead, FitsHints}
+use Rattle.xa_judge.{specs.Keys.session_of, proofs.Places.{same_number, get_written, get_apart, get_within}}
 use Rattle.xa_judge.proofs.Waits.{acted, Saw, saw_call, saw_return, saw_lost}
-use Rattle.xa_judge.specs.Keys.{session_of}
 
 -- an unknown answer that is seen changes its session's client alone (`Saw`); `o` is that client before
 saw_unknown : (o : Option ClientState) (old new : Config) (session : ℕ) → slice_get old.clients session ≡ o

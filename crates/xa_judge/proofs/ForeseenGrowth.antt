@@ -6,25 +6,13 @@
 --     seen_added, unseen                                  what an event leads to is added;  or it can't be seen
 --     SeesBothFor, sees_more, sees_end                    a loop in which each of a list sees an event
 use Rattle.std.proofs.Common.{◌≡◌, ◌⊎◌, ℕ, false, Option, Some, None, List, [], ◌∷◌, ◌++◌, ap, sym, ◌∙◌, subst, inl}
-use Rattle.std.proofs.Common.{inr}
-use Rattle.std.proofs.Common.{◌+◌, ◌<◌, length, arith, append_assoc, append-nil}
-use Rattle.std.proofs.lemmas.Bool.{cases_lt}
-use Rattle.std.specs.Prelude.{slice_get}
-use Rattle.std.specs.Option.{option_map}
-use Rattle.std.proofs.lemmas.Option.{none-some, same_Some}
-use Rattle.xa_judge.specs.declared.configuration.Configuration.{Configuration}
-use Rattle.xa_judge.specs.declared.moves.Act.{Act}
-use Rattle.xa_judge.specs.declared.moves.Act.TheVariants.{Statement, Disconnect}
-use Rattle.xa_judge.specs.Explained.{Config, effect_of, observed, IsSession}
-use Rattle.xa_judge.specs.declared.event.Event.{Event}
-use Rattle.xa_judge.specs.Found.{config_of, Has, AddsUnlessThere}
-use Rattle.xa_judge.specs.Late.{is_over}
-use Rattle.xa_judge.specs.Foreseen.{Hint, ReplacesFor, ExtendsBy, HasNextFor, IsAllowed, IsExpandedFor, AreClosedFor}
-use Rattle.xa_judge.specs.Foreseen.{IsClosedFor}
-use Rattle.xa_judge.specs.Foreseen.{HasSeenFor}
-use Rattle.xa_judge.proofs.Loops.{has_last}
-use Rattle.xa_judge.proofs.Places.{get_front, get_within, mapped_place}
-use Rattle.xa_judge.proofs.Growth.{has_more, has_added}
+use Rattle.std.proofs.{Common.{inr, ◌+◌, ◌<◌, length, arith, append_assoc, append-nil}, lemmas.Bool.cases_lt}
+use Rattle.std.{proofs.lemmas.Option.{none-some, same_Some}, specs.{Prelude.slice_get, Option.option_map}}
+use Rattle.xa_judge.specs.declared.{configuration.Configuration.Configuration, moves.Act.Act, event.Event.Event}
+use Rattle.xa_judge.specs.{Explained.{Config, effect_of, observed, IsSession}, Found.{config_of, Has, AddsUnlessThere}}
+use Rattle.xa_judge.specs.{Late.is_over, Foreseen.{Hint, ReplacesFor, ExtendsBy, HasNextFor, IsAllowed, IsExpandedFor}}
+use Rattle.xa_judge.{specs.Foreseen.{AreClosedFor, IsClosedFor, HasSeenFor}, proofs.Loops.has_last}
+use Rattle.xa_judge.proofs.{Places.{get_front, get_within, mapped_place}, Growth.{has_more, has_added}}
 
 -- a list extends itself
 pub extends_none : (list : List Configuration) → ExtendsBy list list
@@ -75,15 +63,15 @@ next_added hints old list place here next added found session act at is some rep
 pub both_added : (hints : List Hint) (old mid new : List Configuration) (place session : ℕ)
     → ExtendsBy old mid → ExtendsBy mid new
     → ((one : Configuration) (next : Config) → slice_get old place ≡ Some one
-    → effect_of (config_of one) session Statement ≡ Some next
+    → effect_of (config_of one) session Act.Statement ≡ Some next
     → (other : Config) × Has mid other × ReplacesFor hints next other)
     → ((one : Configuration) (next : Config) → slice_get mid place ≡ Some one
-    → effect_of (config_of one) session Disconnect ≡ Some next
+    → effect_of (config_of one) session Act.Disconnect ≡ Some next
     → (other : Config) × Has new other × ReplacesFor hints next other)
     → (one : Configuration) → slice_get old place ≡ Some one → HasNextFor hints (config_of one) session new
-both_added hints old mid new place session first then has after one at Statement next leads allowed =
+both_added hints old mid new place session first then has after one at Act.Statement next leads allowed =
     let other = has one next at leads in (other.0, still_has mid new other.0 then other.1, other.2)
-both_added hints old mid new place session first then has after one at Disconnect next leads allowed =
+both_added hints old mid new place session first then has after one at Act.Disconnect next leads allowed =
     after one next (still_at old mid place one first at) leads
 
 -- a list that has what sessions below a number lead to from a configuration (`IsExpandedFor`) has what those up to it

@@ -5,29 +5,16 @@
 --     goes_called                         past an event for which acts can wait, from any list
 --     answer_kept                         the client of a session, if nothing is known of how its call ends
 --     hints_set, unknown_at, noted_at     what is known of open calls, by their places
-use Rattle.std.proofs.Common.{◌≡◌, ℕ, false, Option, Some, None, List, [], ◌∷◌, set, map, zero, suc, refl, ap}
-use Rattle.std.proofs.Common.{sym, ◌∙◌, inl}
-use Rattle.std.proofs.Common.{inr}
-use Rattle.std.specs.Option.{option_map, unwrap_or}
-use Rattle.std.specs.Prelude.{slice_get}
-use Rattle.std.proofs.lemmas.Bool.{false≢true}
-use Rattle.std.proofs.lemmas.Option.{none-some, slice_get-map}
-use Rattle.xa_judge.specs.declared.client_state.ClientState.{ClientState}
-use Rattle.xa_judge.specs.declared.event.Event.{Event}
-use Rattle.xa_judge.specs.declared.moves.Move.{Move}
-use Rattle.xa_judge.specs.declared.moves.Move.TheVariants.{Event as Seeing, Effect}
-use Rattle.xa_judge.specs.Explained.{Config, LeadsThrough, observed}
-use Rattle.xa_judge.specs.Late.{has_unheard, unheard_so}
-use Rattle.xa_judge.specs.declared.open_call.OpenCall.{OpenCall}
-use Rattle.xa_judge.specs.declared.request.Request.{Request}
-use Rattle.xa_judge.specs.Foreseen.{NotesCall, Hint, no_hint, fact_of, hint_of, IsAlikeAt}
-use Rattle.xa_judge.specs.Foreseen.{AreAlike, IsDead, IsFollowed}
-use Rattle.xa_judge.specs.Foreseen.{IsLeft, GoesOn}
-use Rattle.xa_judge.specs.Foreseen.{IsClosedFor, HasSeenFor, FitsHints, hint_in, hints_of}
-use Rattle.xa_judge.proofs.Waits.{later, CanWait}
-use Rattle.xa_judge.specs.Keys.{session_of}
-use Rattle.xa_judge.proofs.ForeseenSteps.{alike_acts}
-use Rattle.xa_judge.proofs.ForeseenEvents.{alike_sees, dead_acts, dead_sees}
+use Rattle.std.proofs.Common.{◌≡◌, ℕ, false, Option, Some, None, List, [], ◌∷◌, set, map, zero, suc, refl, ap, sym, ◌∙◌}
+use Rattle.std.proofs.{Common.{inl, inr}, lemmas.{Bool.false≢true, Option.{none-some, slice_get-map}}}
+use Rattle.std.specs.{Option.{option_map, unwrap_or}, Prelude.slice_get}
+use Rattle.xa_judge.specs.declared.{client_state.ClientState.ClientState, event.Event.Event, moves.Move.Move}
+use Rattle.xa_judge.specs.declared.{moves.Move.TheVariants.{Event as Seeing, Effect}, open_call.OpenCall.OpenCall}
+use Rattle.xa_judge.specs.{declared.request.Request.Request, Explained.{Config, LeadsThrough, observed}}
+use Rattle.xa_judge.specs.{Late.{has_unheard, unheard_so}, Foreseen.{NotesCall, Hint, no_hint, fact_of, hint_of}}
+use Rattle.xa_judge.specs.Foreseen.{IsAlikeAt, AreAlike, IsDead, IsFollowed, IsLeft, GoesOn, IsClosedFor, HasSeenFor}
+use Rattle.xa_judge.{specs.{Foreseen.{FitsHints, hint_in, hints_of}, Keys.session_of}, proofs.Waits.{later, CanWait}}
+use Rattle.xa_judge.proofs.{ForeseenSteps.alike_acts, ForeseenEvents.{alike_sees, dead_acts, dead_sees}}
 
 -- an order that can't go on past a return (`IsDead`) still can't after an event that fits what is known (`IsLeft`)
 pub left_past : (hints : List Hint) (hint : Hint) (event : Event) (run end : Config) (more : List Event)

@@ -3,34 +3,18 @@
 --     goes_returned      past a return, from a list that is closed where the session isn't answered
 --     ends_answered      the answers that a session can have after all events
 use Rattle.std.proofs.Common.{◌≡◌, ◌≢◌, ◌⊎◌, ℕ, Bool, true, false, cond, Option, Some, None, List, [], ◌∷◌, set, refl}
-use Rattle.std.proofs.Common.{ap, sym, ◌∙◌}
-use Rattle.std.proofs.Common.{subst, inl, inr}
-use Rattle.std.specs.Prelude.{slice_get}
-use Rattle.std.proofs.lemmas.Option.{none-some, same_Some, cond_some}
-use Rattle.std.proofs.lemmas.Bool.{false≢true}
-use Rattle.std.proofs.lemmas.List.{set-set}
-use Rattle.xa_server.specs.State.{State}
-use Rattle.xa_server.specs.Locks.{LockLaw}
-use Rattle.xa_judge.specs.declared.request.Request.{Request}
-use Rattle.xa_judge.specs.declared.answer.Answer.{Answer}
-use Rattle.xa_judge.specs.declared.client_state.ClientState.{ClientState}
+use Rattle.std.proofs.{Common.{ap, sym, ◌∙◌, subst, inl, inr}, lemmas.Option.{none-some, same_Some, cond_some}}
+use Rattle.std.{proofs.lemmas.{Bool.false≢true, List.set-set}, specs.Prelude.slice_get}
+use Rattle.xa_server.specs.{State.State, Locks.LockLaw}
+use Rattle.xa_judge.specs.declared.{request.Request.Request, answer.Answer.Answer, client_state.ClientState.ClientState}
 use Rattle.xa_judge.specs.declared.client_state.ClientState.TheVariants.{Idle, Called, Answered, Gone, Left}
-use Rattle.xa_judge.specs.declared.event.Seen.{Seen}
-use Rattle.xa_judge.specs.declared.event.Event.{Event}
-use Rattle.xa_judge.specs.declared.event.Event.TheVariants.{Return}
-use Rattle.xa_judge.specs.declared.moves.Act.{Act}
-use Rattle.xa_judge.specs.declared.moves.Act.TheVariants.{Statement as ItsStatement, Disconnect as ItsDisconnect}
-use Rattle.xa_judge.specs.declared.moves.Move.{Move}
-use Rattle.xa_judge.specs.declared.moves.Move.TheVariants.{Event as Seeing, Effect}
-use Rattle.xa_judge.specs.Explained.{Config, with_client, effect_of, carried_out, disconnected, observed, returned}
-use Rattle.xa_judge.specs.Explained.{answer_to, next_state, shows_answer, LeadsThrough}
-use Rattle.xa_judge.specs.Late.{call_is_answered, answered_so}
+use Rattle.xa_judge.specs.declared.{event.{Seen.Seen, Event.{Event, TheVariants.Return}}, moves.{Act.Act, Move.Move}}
+use Rattle.xa_judge.specs.{declared.moves.Move.TheVariants.{Event as Seeing, Effect}, Explained.{Config, with_client}}
+use Rattle.xa_judge.specs.Explained.{effect_of, carried_out, disconnected, observed, returned, answer_to, next_state}
+use Rattle.xa_judge.specs.{Explained.{shows_answer, LeadsThrough}, Late.{call_is_answered, answered_so}}
 use Rattle.xa_judge.specs.Foreseen.{NotesCall, Hint, fact_of, hint_of, IsQuietFor, IsAheadAt, IsAlikeAt, AreAlike}
-use Rattle.xa_judge.specs.Foreseen.{FitsHints}
-use Rattle.xa_judge.specs.Foreseen.{HasSeenFor, GoesOn}
-use Rattle.xa_judge.specs.Foreseen.{IsClosedFor, IsDead}
-use Rattle.xa_judge.proofs.Places.{same_number, get_written, get_apart, set_apart}
-use Rattle.xa_judge.proofs.Waits.{acted, later, CanWait}
+use Rattle.xa_judge.specs.Foreseen.{FitsHints, HasSeenFor, GoesOn, IsClosedFor, IsDead}
+use Rattle.xa_judge.proofs.{Places.{same_number, get_written, get_apart, set_apart}, Waits.{acted, later, CanWait}}
 use Rattle.xa_judge.proofs.ForeseenSteps.{answered_rests, alike_acts, quiet_keeps, still_quiet_for, act_keeps}
 use Rattle.xa_judge.proofs.ForeseenEvents.{idle_shut, same_client, dead_acts}
 use Rattle.xa_judge.proofs.ForeseenLists.{left_past, seen_from, answer_kept}
@@ -75,14 +59,14 @@ takes_open_call : (run next : Config) (session : ℕ) (act : Act) (request : Req
     → slice_get run.clients session ≡ Some (Called request) → effect_of run session act ≡ Some next
     → TakesOpenCall run next session request
 unfolding effect_of carried_out disconnected
-takes_open_call run next session ItsStatement request at leads =
+takes_open_call run next session Act.Statement request at leads =
     let is = same_Some _ next (sym (ap (λ o. carried_out o run session) at) ∙ leads) in
     record {
       at = ap (λ (c : Config). slice_get c.clients session) (sym is)
           ∙ get_written run.clients session (Called request) (Answered (answer_to run.state session request)) at;
       is = sym is;
     }
-takes_open_call run next session ItsDisconnect request at leads =
+takes_open_call run next session Act.Disconnect request at leads =
     absurd (none-some next (sym (ap (λ o. disconnected o run session) at) ∙ leads))
 
 -- if moves lead past a return, and its call is still open and quiet for it, moves also lead on from where its session

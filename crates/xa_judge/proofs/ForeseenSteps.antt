@@ -8,60 +8,36 @@
 --     told_none                        a session whose XA END is refused since it has no branch
 --     alike_first                      before all events
 use Rattle.std.proofs.Common.{◌≡◌, ◌≢◌, ◌⊎◌, ◌||◌, ℕ, Bool, true, false, Option, Some, None, List, set, refl, ap, sym}
-use Rattle.std.proofs.Common.{◌∙◌, subst}
-use Rattle.std.proofs.Common.{inl, inr}
-use Rattle.std.proofs.Common.{zero, suc, length, replicate}
-use Rattle.std.specs.Prelude.{slice_get}
-use Rattle.std.proofs.lemmas.Option.{none-some, same_Some}
-use Rattle.std.proofs.lemmas.Bool.{false≢true}
-use Rattle.xa_xid.specs.declared.statement.Statement.{Statement}
-use Rattle.xa_xid.specs.declared.statement.Statement.TheVariants.{Get, Recover, Disconnect, End}
-use Rattle.xa_xid.specs.declared.xid.Xid.{Xid}
-use Rattle.xa_xid.specs.Xid.{same_xid}
-use Rattle.xa_server.specs.declared.reply.Reply.{Reply}
-use Rattle.xa_server.specs.declared.reply.Reply.TheVariants.{Ok as Accepted, Value, Recovered, Refused}
-use Rattle.xa_server.specs.declared.association.Association.{Association}
+use Rattle.std.proofs.Common.{◌∙◌, subst, inl, inr, zero, suc, length, replicate}
+use Rattle.std.{proofs.lemmas.{Option.{none-some, same_Some}, Bool.false≢true}, specs.Prelude.slice_get}
+use Rattle.xa_xid.specs.declared.statement.Statement.{Statement, TheVariants.{Get, Recover, Disconnect, End}}
+use Rattle.xa_xid.specs.{declared.xid.Xid.Xid, Xid.same_xid}
+use Rattle.xa_server.specs.declared.reply.Reply.{Reply, TheVariants.{Ok as Accepted, Value, Recovered, Refused}}
+use Rattle.xa_server.specs.declared.{association.Association.Association, xa_error.XaError.TheVariants.{Nota, Rmfail}}
 use Rattle.xa_server.specs.declared.association.Association.TheVariants.{Free, Active, Idle as IdleBranch}
-use Rattle.xa_server.specs.declared.xa_error.XaError.TheVariants.{Nota, Rmfail}
 use Rattle.xa_server.specs.declared.xa_error.BranchState.TheVariants.{NonExisting, Idle as StateIdle}
-use Rattle.xa_server.specs.State.{State, association_of}
-use Rattle.xa_server.specs.Locks.{LockLaw}
-use Rattle.xa_server.specs.Laws.{LeavesSession}
-use Rattle.xa_server.specs.Step.{is_refused}
-use Rattle.xa_server.specs.Replies.{ok_if, table, reply_to}
-use Rattle.xa_server.specs.Step.{after, effect, unless_refused}
-use Rattle.xa_server.proofs.Changes.{refused_leaves}
-use Rattle.xa_server.proofs.Others.{others_left}
-use Rattle.xa_server.proofs.Keeping.{law_after}
-use Rattle.xa_judge.specs.declared.request.Request.{Request}
-use Rattle.xa_judge.specs.declared.request.Request.TheVariants.{Statement as Given, Unread}
-use Rattle.xa_judge.specs.declared.answer.Answer.{Answer}
-use Rattle.xa_judge.specs.declared.answer.Answer.TheVariants.{Reply as Replied}
-use Rattle.xa_judge.specs.declared.client_state.ClientState.{ClientState}
+use Rattle.xa_server.specs.{State.{State, association_of}, Locks.LockLaw, Laws.LeavesSession}
+use Rattle.xa_server.specs.{Step.{is_refused, after, effect, unless_refused}, Replies.{ok_if, table, reply_to}}
+use Rattle.xa_server.proofs.{Changes.refused_leaves, Others.others_left, Keeping.law_after}
+use Rattle.xa_judge.specs.declared.{request.Request.Request, answer.Answer.{Answer, TheVariants.Reply as Replied}}
+use Rattle.xa_judge.specs.declared.{client_state.ClientState.ClientState, event.Seen.Seen, moves.Act.Act}
 use Rattle.xa_judge.specs.declared.client_state.ClientState.TheVariants.{Idle, Called, Answered, Gone, Left}
-use Rattle.xa_judge.specs.declared.event.Seen.{Seen}
-use Rattle.xa_judge.specs.declared.event.Seen.TheVariants.{Ok as SeenOk, Value as SeenValue, Rows as SeenRows}
-use Rattle.xa_judge.specs.declared.event.Seen.TheVariants.{Error as SeenError}
-use Rattle.xa_judge.specs.declared.moves.Act.{Act}
-use Rattle.xa_judge.specs.declared.moves.Act.TheVariants.{Statement as ItsStatement, Disconnect as ItsDisconnect}
 use Rattle.xa_judge.specs.Explained.{Config, opening_config, effect_of, carried_out, disconnected, answer_to}
-use Rattle.xa_judge.specs.Explained.{next_state, shows_answer}
-use Rattle.xa_judge.specs.Foreseen.{Hint, IsOpenFor, fact_of, is_free, is_reading, refuses, is_still, hint_of, IsQuiet}
-use Rattle.xa_judge.specs.Foreseen.{IsQuietFor, IsAheadAt, IsAlikeAt, AreAlike, IsDead, IsAllowed, CanSettle}
-use Rattle.xa_judge.proofs.Places.{same_number, get_written, get_apart}
-use Rattle.xa_judge.proofs.Waits.{acted}
-use Rattle.xa_judge.proofs.Acts.{asked_acts, asked_closed, answered_called, answered_gone}
-use Rattle.xa_judge.proofs.KeyStates.{free_get}
+use Rattle.xa_judge.specs.{Explained.{next_state, shows_answer}, Foreseen.{Hint, IsOpenFor, fact_of, is_free}}
+use Rattle.xa_judge.specs.Foreseen.{is_reading, refuses, is_still, hint_of, IsQuiet, IsQuietFor, IsAheadAt, IsAlikeAt}
+use Rattle.xa_judge.specs.Foreseen.{AreAlike, IsDead, IsAllowed, CanSettle}
+use Rattle.xa_judge.proofs.{Places.{same_number, get_written, get_apart}, Waits.acted}
+use Rattle.xa_judge.proofs.{Acts.{asked_acts, asked_closed, answered_called, answered_gone}, KeyStates.free_get}
 
 -- ---- quiet requests
 
 -- if a return of an error shows the reply to a statement, that reply is a refusal
 error_refuses : (state : State) (session : ℕ) (statement : Statement) (numbers : _)
-    → shows_answer (SeenError numbers) (Replied (reply_to state session statement)) ≡ true
+    → shows_answer (Seen.Error numbers) (Replied (reply_to state session statement)) ≡ true
     → is_refused (reply_to state session statement) ≡ true
 error_refuses state session statement numbers = by (reply_to state session statement)
   where
-    by : (reply : Reply) → shows_answer (SeenError numbers) (Replied reply) ≡ true → is_refused reply ≡ true
+    by : (reply : Reply) → shows_answer (Seen.Error numbers) (Replied reply) ≡ true → is_refused reply ≡ true
     by Accepted shown = absurd (false≢true shown)
     by (Value value) shown = absurd (false≢true shown)
     by (Recovered xids) shown = absurd (false≢true shown)
@@ -89,45 +65,45 @@ free_leaves state session free =
 -- a quiet request leaves the state as it was
 quiet_same : (state : State) (session : ℕ) (request : Request) → IsQuiet state session request
     → next_state state session request ≡ state
-quiet_same state session (Given (Recover convert)) quiet = listing_keeps state session convert
-quiet_same state session (Given (Get key)) quiet = (free_get state session key quiet).1
-quiet_same state session (Given Disconnect) quiet = free_leaves state session quiet
+quiet_same state session (Request.Statement (Recover convert)) quiet = listing_keeps state session convert
+quiet_same state session (Request.Statement (Get key)) quiet = (free_get state session key quiet).1
+quiet_same state session (Request.Statement Disconnect) quiet = free_leaves state session quiet
 quiet_same state session request quiet = absurd quiet
 
 -- a request whose answer is shown by a return of an error leaves the state as it was
 error_keeps : (state : State) (session : ℕ) (request : Request) (numbers : _)
-    → shows_answer (SeenError numbers) (answer_to state session request) ≡ true
+    → shows_answer (Seen.Error numbers) (answer_to state session request) ≡ true
     → next_state state session request ≡ state
-error_keeps state session (Given statement) numbers shown =
+error_keeps state session (Request.Statement statement) numbers shown =
     refused_leaves state session statement (error_refuses state session statement numbers shown)
-error_keeps state session Unread numbers shown = refl
+error_keeps state session Request.Unread numbers shown = refl
 
 -- a request that is quiet for a return leaves the state as it was, if the return shows its answer
 pub quiet_keeps : (state : State) (session : ℕ) (request : Request) (seen : Seen)
     → IsQuietFor state session request seen
     → shows_answer seen (answer_to state session request) ≡ true → next_state state session request ≡ state
-quiet_keeps state session request (SeenError numbers) quiet shown = error_keeps state session request numbers shown
-quiet_keeps state session request SeenOk quiet shown = quiet_same state session request quiet
-quiet_keeps state session request (SeenValue value) quiet shown = quiet_same state session request quiet
-quiet_keeps state session request (SeenRows rows) quiet shown = quiet_same state session request quiet
+quiet_keeps state session request (Seen.Error numbers) quiet shown = error_keeps state session request numbers shown
+quiet_keeps state session request Seen.Ok quiet shown = quiet_same state session request quiet
+quiet_keeps state session request (Seen.Value value) quiet shown = quiet_same state session request quiet
+quiet_keeps state session request (Seen.Rows rows) quiet shown = quiet_same state session request quiet
 
 -- a quiet request is still quiet in a state in which its session has open what it had (`LeavesSession`)
 still_quiet : (old new : State) (session : ℕ) (request : Request) → LeavesSession old new session
     → IsQuiet old session request → IsQuiet new session request
-still_quiet old new session (Given (Recover convert)) leaves quiet = quiet
-still_quiet old new session (Given (Get key)) leaves quiet = leaves.association ∙ quiet
-still_quiet old new session (Given Disconnect) leaves quiet = leaves.association ∙ quiet
+still_quiet old new session (Request.Statement (Recover convert)) leaves quiet = quiet
+still_quiet old new session (Request.Statement (Get key)) leaves quiet = leaves.association ∙ quiet
+still_quiet old new session (Request.Statement Disconnect) leaves quiet = leaves.association ∙ quiet
 still_quiet old new session request leaves quiet = absurd quiet
 
 -- a request that is quiet for a return is still so in a state in which its session has open what it had
 -- (`LeavesSession`)
 pub still_quiet_for : (old new : State) (session : ℕ) (request : Request) (seen : Seen) → LeavesSession old new session
     → IsQuietFor old session request seen → IsQuietFor new session request seen
-still_quiet_for old new session request (SeenError numbers) leaves quiet = quiet
-still_quiet_for old new session request SeenOk leaves quiet = still_quiet old new session request leaves quiet
-still_quiet_for old new session request (SeenValue value) leaves quiet =
+still_quiet_for old new session request (Seen.Error numbers) leaves quiet = quiet
+still_quiet_for old new session request Seen.Ok leaves quiet = still_quiet old new session request leaves quiet
+still_quiet_for old new session request (Seen.Value value) leaves quiet =
     still_quiet old new session request leaves quiet
-still_quiet_for old new session request (SeenRows rows) leaves quiet = still_quiet old new session request leaves quiet
+still_quiet_for old new session request (Seen.Rows rows) leaves quiet = still_quiet old new session request leaves quiet
 
 -- ---- the state after an act
 
@@ -143,17 +119,17 @@ pub record Keeps (old new : State) (session : ℕ) : Type 0 where
 -- a request keeps the lock law, if it held, and leaves what other sessions have open (`Keeps`)
 request_keeps : (state : State) (session : ℕ) (request : Request) → LockLaw state
     → Keeps state (next_state state session request) session
-request_keeps state session (Given statement) law = record {
+request_keeps state session (Request.Statement statement) law = record {
   law = law_after state session statement law;
   others = λ other apart. others_left state law session other statement apart;
 }
-request_keeps state session Unread law = record { law = law; others = λ other apart. leaves_same state other }
+request_keeps state session Request.Unread law = record { law = law; others = λ other apart. leaves_same state other }
 
 -- an act of a session keeps the lock law, if it held, and leaves what other sessions have open (`Keeps`)
 pub act_keeps : (old new : Config) (session : ℕ) (act : Act) → LockLaw old.state → effect_of old session act ≡ Some new
     → Keeps old.state new.state session
 unfolding effect_of carried_out disconnected
-act_keeps old new session ItsStatement law leads = by (slice_get old.clients session) leads
+act_keeps old new session Act.Statement law leads = by (slice_get old.clients session) leads
   where
     by : (c : Option ClientState) → carried_out c old session ≡ Some new → Keeps old.state new.state session
     by None e = absurd (none-some new e)
@@ -167,7 +143,7 @@ act_keeps old new session ItsStatement law leads = by (slice_get old.clients ses
         subst (λ (c : Config). Keeps old.state c.state session) (same_Some _ new e)
         (request_keeps old.state session request law)
     by (Some Left) e = absurd (none-some new e)
-act_keeps old new session ItsDisconnect law leads = by (slice_get old.clients session) leads
+act_keeps old new session Act.Disconnect law leads = by (slice_get old.clients session) leads
   where
     by : (c : Option ClientState) → disconnected c old session ≡ Some new → Keeps old.state new.state session
     by None e = absurd (none-some new e)
@@ -176,7 +152,7 @@ act_keeps old new session ItsDisconnect law leads = by (slice_get old.clients se
     by (Some (Answered answer)) e = absurd (none-some new e)
     by (Some (Gone request)) e =
         subst (λ (c : Config). Keeps old.state c.state session) (same_Some _ new e)
-        (request_keeps old.state session (Given Disconnect) law)
+        (request_keeps old.state session (Request.Statement Disconnect) law)
     by (Some Left) e = absurd (none-some new e)
 
 -- ---- acts
@@ -259,8 +235,8 @@ ahead_act hints run kept next session act are leads ahead = elim ahead.way [
   where
     answered : (a : Act) (answer : Answer) → slice_get run.clients session ≡ Some (Answered answer)
         → effect_of run session a ≡ Some next → ⊥
-    answered ItsStatement answer at e = none-some next (sym (ap (λ o. carried_out o run session) at) ∙ e)
-    answered ItsDisconnect answer at e = none-some next (sym (ap (λ o. disconnected o run session) at) ∙ e)
+    answered Act.Statement answer at e = none-some next (sym (ap (λ o. carried_out o run session) at) ∙ e)
+    answered Act.Disconnect answer at e = none-some next (sym (ap (λ o. disconnected o run session) at) ∙ e)
 
     done : (request : Request) (b : Bool) → slice_get run.clients session ≡ Some (Called request)
         → IsQuietFor run.state session request ahead.seen
@@ -321,10 +297,10 @@ ahead_act hints run kept next session act are leads ahead = elim ahead.way [
     by : (a : Act) (request : Request) → slice_get run.clients session ≡ Some (Called request)
         → IsQuietFor run.state session request ahead.seen → effect_of run session a ≡ Some next
         → AreAlike hints next kept ⊎ IsDead hints next
-    by ItsStatement request at quiet e =
+    by Act.Statement request at quiet e =
         done request (shows_answer ahead.seen (answer_to run.state session request)) at quiet refl
         (same_Some _ next (sym (ap (λ o. carried_out o run session) at) ∙ e))
-    by ItsDisconnect request at quiet e =
+    by Act.Disconnect request at quiet e =
         absurd (none-some next (sym (ap (λ o. disconnected o run session) at) ∙ e))
 
 -- an order in which an act answers a call otherwise than it is known to return can't go on past that return
@@ -334,7 +310,7 @@ dead_act : (hints : List Hint) (run next : Config) (session : ℕ) (act : Act) (
     → shows_answer seen (answer_to run.state session request) ≡ false
     → effect_of run session act ≡ Some next → IsDead hints next
 unfolding effect_of carried_out disconnected
-dead_act hints run next session ItsStatement request seen hinted at hidden leads =
+dead_act hints run next session Act.Statement request seen hinted at hidden leads =
     let is = same_Some _ next (sym (ap (λ o. carried_out o run session) at) ∙ leads) in
     subst (IsDead hints) is (record {
       session = session;
@@ -344,7 +320,7 @@ dead_act hints run next session ItsStatement request seen hinted at hidden leads
       at = get_written run.clients session (Called request) (Answered (answer_to run.state session request)) at;
       hidden = hidden;
     })
-dead_act hints run next session ItsDisconnect request seen hinted at hidden leads =
+dead_act hints run next session Act.Disconnect request seen hinted at hidden leads =
     absurd (none-some next (sym (ap (λ o. disconnected o run session) at) ∙ leads))
 
 -- the session's call in what is kept isn't heard of any more, and would change nothing
@@ -375,18 +351,18 @@ freed (IdleBranch xid) e = absurd (false≢true e)
 -- a request that only reads changes nothing
 reading_keeps : (state : State) (session : ℕ) (request : Request) → is_reading state session request ≡ true
     → next_state state session request ≡ state
-reading_keeps state session (Given (Recover convert)) reads = listing_keeps state session convert
-reading_keeps state session (Given (Get key)) reads =
+reading_keeps state session (Request.Statement (Recover convert)) reads = listing_keeps state session convert
+reading_keeps state session (Request.Statement (Get key)) reads =
     (free_get state session key (freed (association_of state session) reads)).1
-reading_keeps state session (Given Disconnect) reads =
+reading_keeps state session (Request.Statement Disconnect) reads =
     free_leaves state session (freed (association_of state session) reads)
 reading_keeps state session request reads = absurd (false≢true reads)
 
 -- a request that is refused changes nothing
 refusal_keeps : (state : State) (session : ℕ) (request : Request) → refuses (answer_to state session request) ≡ true
     → next_state state session request ≡ state
-refusal_keeps state session (Given statement) refused = refused_leaves state session statement refused
-refusal_keeps state session Unread refused = refl
+refusal_keeps state session (Request.Statement statement) refused = refused_leaves state session statement refused
+refusal_keeps state session Request.Unread refused = refl
 
 -- a request that only reads, or is refused (`is_still`), leaves the state as it was
 still_keeps : (state : State) (session : ℕ) (request : Request) → is_still state session request ≡ true
@@ -404,7 +380,7 @@ waits_act : (hints : List Hint) (run kept next : Config) (session : ℕ) (act : 
     → effect_of run session act ≡ Some next → slice_get run.clients session ≡ slice_get kept.clients session
     → Waits hints kept session → AreAlike hints next kept
 unfolding effect_of carried_out disconnected
-waits_act hints run kept next session ItsStatement are leads same waits =
+waits_act hints run kept next session Act.Statement are leads same waits =
     subst (λ c. AreAlike hints c kept) (ap make (sym keeps) ∙ is) alike
   where
     here : slice_get run.clients session ≡ Some (Called waits.request)
@@ -444,16 +420,16 @@ waits_act hints run kept next session ItsStatement are leads same waits =
             (sym (get_apart run.clients session other (Answered answer) apart)) (are.clients other)
       ];
     }
-waits_act hints run kept next session ItsDisconnect are leads same waits =
+waits_act hints run kept next session Act.Disconnect are leads same waits =
     absurd (none-some next (sym (ap (λ o. disconnected o run session) (same ∙ waits.at)) ∙ leads))
 
 -- a session that has its answer has no act
 pub answered_rests : (run next : Config) (session : ℕ) (act : Act) (answer : Answer)
     → slice_get run.clients session ≡ Some (Answered answer) → effect_of run session act ≡ Some next → ⊥
 unfolding effect_of carried_out disconnected
-answered_rests run next session ItsStatement answer at leads =
+answered_rests run next session Act.Statement answer at leads =
     none-some next (sym (ap (λ o. carried_out o run session) at) ∙ leads)
-answered_rests run next session ItsDisconnect answer at leads =
+answered_rests run next session Act.Disconnect answer at leads =
     none-some next (sym (ap (λ o. disconnected o run session) at) ∙ leads)
 
 -- an act of a session is allowed; or it would give the call another answer than it returns; or the call isn't heard
@@ -604,7 +580,7 @@ pub alike_settles : (hints : List Hint) (run kept : Config) (session : ℕ) (req
     → AreAlike hints run kept → hint_of hints session ≡ Some seen
     → slice_get kept.clients session ≡ Some (Called request) → IsQuietFor kept.state session request seen
     → shows_answer seen (answer_to kept.state session request) ≡ true
-    → effect_of kept session ItsStatement ≡ Some new → AreAlike hints run new
+    → effect_of kept session Act.Statement ≡ Some new → AreAlike hints run new
 unfolding effect_of carried_out
 alike_settles hints run kept session request seen new are hinted at quiet shown leads =
     subst (AreAlike hints run) is (record {
@@ -650,7 +626,7 @@ alike_settles hints run kept session request seen new are hinted at quiet shown 
 
 -- a session whose XA END is refused with the state NON-EXISTING has no branch open
 pub told_none : (state : State) (session : ℕ) (xid : Xid) (answer : Answer)
-    → answer ≡ answer_to state session (Given (End xid))
+    → answer ≡ answer_to state session (Request.Statement (End xid))
     → answer ≡ Replied (Refused (Rmfail NonExisting)) → association_of state session ≡ Free
 unfolding reply_to table
 told_none state session xid answer is told = by (association_of state session) (sym is ∙ told)
@@ -676,7 +652,7 @@ told_none state session xid answer is told = by (association_of state session) (
 -- what is kept of an order is still kept of it once a call takes effect there that can at once (`CanSettle`)
 pub settles_one : (hints : List Hint) (run kept new : Config) (session : ℕ) (seen : Seen)
     → AreAlike hints run kept → hint_of hints session ≡ Some seen → CanSettle kept session seen
-    → effect_of kept session ItsStatement ≡ Some new → AreAlike hints run new
+    → effect_of kept session Act.Statement ≡ Some new → AreAlike hints run new
 settles_one hints run kept new session seen are hinted can leads =
     alike_settles hints run kept session can.request seen new are hinted can.at can.quiet can.shown leads
 

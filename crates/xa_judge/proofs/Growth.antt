@@ -5,20 +5,15 @@
 --     reaches_effect, reaches_event           what an effect leads to is reached;  what an event does
 --     all_added, all_at                       what holds of each of a list
 use Rattle.std.proofs.Common.{◌≡◌, ℕ, Some, List, [], ◌∷◌, ◌++◌, ap, sym, ◌∙◌, subst, inl, inr, append_assoc}
-use Rattle.std.proofs.Common.{append-nil}
-use Rattle.std.specs.Prelude.{slice_get}
+use Rattle.std.proofs.{Common.append-nil, lemmas.Option.{slice_get_within, get_or_from_slice_get}}
+use Rattle.std.{proofs.lemmas.List.Elements.{All-push, Contains-append_left, Contains-push}, specs.Prelude.slice_get}
 use Rattle.std.specs.List.{All, Contains}
-use Rattle.std.proofs.lemmas.Option.{slice_get_within, get_or_from_slice_get}
-use Rattle.std.proofs.lemmas.List.Elements.{All-push, Contains-append_left, Contains-push}
 use Rattle.xa_server.specs.State.{State}
-use Rattle.xa_judge.specs.declared.event.Event.{Event}
-use Rattle.xa_judge.specs.declared.moves.Act.{Act}
-use Rattle.xa_judge.specs.declared.moves.Move.{Move}
+use Rattle.xa_judge.specs.declared.{event.Event.Event, moves.{Act.Act, Move.Move}}
 use Rattle.xa_judge.specs.declared.moves.Move.TheVariants.{Event as Seeing, Effect}
-use Rattle.xa_judge.specs.declared.configuration.Configuration.{Configuration}
+use Rattle.xa_judge.{specs.declared.configuration.Configuration.Configuration, proofs.Places.{map_append, get_front}}
 use Rattle.xa_judge.specs.Explained.{Config, opening_config, effect_of, observed, LeadsThrough, IsSession}
 use Rattle.xa_judge.specs.Found.{config_of, configs, Has, Grows, Reaches, AddsUnlessThere}
-use Rattle.xa_judge.proofs.Places.{map_append, get_front}
 use Rattle.xa_judge.proofs.Waits.{runs_effect, runs_event}
 
 -- what is in a list is in it with more behind it

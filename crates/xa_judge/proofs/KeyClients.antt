@@ -15,39 +15,24 @@
 --     absent_rests, idle_rests     a session that isn't there, or is idle, has no act
 --     same_chosen, same_rest       where an event may stand in one part, the whole has the client of that part
 --     other_turn, IsIdleIf         the turn of an event of the other part;  the client is idle if the turn is Nobody
-use Rattle.std.proofs.Common.{◌≡◌, ◌≢◌, ◌⊎◌, ℕ, Bool, true, false, cond, Option, Some, None, List, set, refl}
-use Rattle.std.proofs.Common.{ap, sym, ◌∙◌, subst, inl, inr}
-use Rattle.std.specs.Prelude.{slice_get}
-use Rattle.std.specs.Option.{option_map, option_map_or, unwrap_or}
-use Rattle.std.proofs.lemmas.Option.{none-some, same_Some, cond_some}
-use Rattle.std.proofs.lemmas.Bool.{false≢true}
+use Rattle.std.proofs.Common.{◌≡◌, ◌≢◌, ◌⊎◌, ℕ, Bool, true, false, cond, Option, Some, None, List, set, refl, ap, sym}
+use Rattle.std.proofs.{Common.{◌∙◌, subst, inl, inr}, lemmas.Option.{none-some, same_Some, cond_some}}
+use Rattle.std.{proofs.lemmas.Bool.false≢true, specs.{Prelude.slice_get, Option.{option_map, option_map_or, unwrap_or}}}
 use Rattle.xa_xid.specs.declared.statement.Statement.TheVariants.{Start, Get, Put, Del, Disconnect as DisconnectGiven}
-use Rattle.xa_server.specs.State.{State}
-use Rattle.xa_server.specs.declared.reply.Reply.TheVariants.{Ok as Accepted, Value, Recovered, Refused}
-use Rattle.xa_server.specs.Locks.{LockLaw}
-use Rattle.xa_server.specs.Step.{after}
-use Rattle.xa_server.proofs.Keeping.{law_after}
-use Rattle.xa_judge.specs.declared.request.Request.{Request}
-use Rattle.xa_judge.specs.declared.request.Request.TheVariants.{Statement as Given, Unread}
-use Rattle.xa_judge.specs.declared.answer.Answer.{Answer}
-use Rattle.xa_judge.specs.declared.answer.Answer.TheVariants.{Reply as Replied, Unread as NotRead}
-use Rattle.xa_judge.specs.declared.event.Seen.{Seen}
-use Rattle.xa_judge.specs.declared.event.Seen.TheVariants.{Ok as SeenOk, Value as SeenValue, Rows as SeenRows}
-use Rattle.xa_judge.specs.declared.event.Seen.TheVariants.{Error as SeenError}
-use Rattle.xa_judge.specs.declared.event.Event.{Event}
+use Rattle.xa_server.specs.{State.State, declared.reply.Reply.TheVariants.{Ok as Accepted, Value, Recovered, Refused}}
+use Rattle.xa_server.{specs.{Locks.LockLaw, Step.after}, proofs.Keeping.law_after}
+use Rattle.xa_judge.specs.declared.request.Request.{Request, TheVariants.{Statement as Given, Unread}}
+use Rattle.xa_judge.specs.declared.{answer.Answer.Answer, event.{Seen.Seen, Event.Event}}
 use Rattle.xa_judge.specs.declared.event.Event.TheVariants.{Call, Return, Lost, Unknown}
-use Rattle.xa_judge.specs.declared.client_state.ClientState.{ClientState}
+use Rattle.xa_judge.specs.declared.{client_state.ClientState.ClientState, moves.Act.Act}
 use Rattle.xa_judge.specs.declared.client_state.ClientState.TheVariants.{Idle, Called, Answered, Gone, Left}
-use Rattle.xa_judge.specs.declared.moves.Act.{Act}
-use Rattle.xa_judge.specs.declared.moves.Act.TheVariants.{Statement, Disconnect}
-use Rattle.xa_judge.specs.declared.turn.Turn.{Turn}
+use Rattle.xa_judge.specs.declared.{moves.Act.TheVariants.{Statement, Disconnect}, turn.Turn.Turn}
 use Rattle.xa_judge.specs.declared.turn.Turn.TheVariants.{Nobody, Chosen, Other, Within, Rest, Ending}
 use Rattle.xa_judge.specs.Explained.{Config, with_client, effect_of, carried_out, disconnected, observed, called}
 use Rattle.xa_judge.specs.Explained.{returned, lost, answered_unknown, shows_answer, answer_to, next_state}
 use Rattle.xa_judge.specs.Keys.{IsFreeRequest, IsOtherRequest, IsOnRows, IsOffRows, session_of, turn_after, is_chosen}
 use Rattle.xa_judge.specs.Keys.{FitsTurn, has_none, free_in, is_start, is_ending, turn_in, turns_past, turn_called}
-use Rattle.xa_judge.specs.Keys.{turn_returned, turn_unknown}
-use Rattle.xa_judge.proofs.Places.{same_number, get_written, get_apart}
+use Rattle.xa_judge.{specs.Keys.{turn_returned, turn_unknown}, proofs.Places.{same_number, get_written, get_apart}}
 use Rattle.xa_judge.proofs.Clean.{OwnsNone, others_none, ended_none}
 use Rattle.xa_judge.proofs.KeyStates.{AreJoined, free_join, other_join, joined_with}
 
@@ -267,7 +252,7 @@ are_rested named Ending whole chosen rest is are = are
 -- a session whose turn is Ending, and whose call was accepted, owns no branch
 abbrev pub AreEnded : List Turn → Config → Type 0
 AreEnded turns whole = (session : ℕ) → slice_get turns session ≡ Some Ending
-    → slice_get whole.clients session ≡ Some (Answered (Replied Accepted)) → OwnsNone whole.state session
+    → slice_get whole.clients session ≡ Some (Answered (Answer.Reply Accepted)) → OwnsNone whole.state session
 
 -- the configurations of the whole, the chosen part and the other part belong together: their states are joined
 -- (`AreJoined`), each session's clients belong together by its turn (`AreClients`), and in the whole the lock law
@@ -369,7 +354,7 @@ law_next state session (Given statement) law = law_after state session statement
 -- the request was accepted
 ended_next : (turns : List Turn) (whole : Config) (session : ℕ) (request : Request) (client next : ClientState)
     → AreEnded turns whole → slice_get whole.clients session ≡ Some client
-    → (slice_get turns session ≡ Some Ending → next ≡ Answered (Replied Accepted)
+    → (slice_get turns session ≡ Some Ending → next ≡ Answered (Answer.Reply Accepted)
     → OwnsNone (next_state whole.state session request) session)
     → AreEnded turns (record {
       state = next_state whole.state session request;
@@ -378,7 +363,7 @@ ended_next : (turns : List Turn) (whole : Config) (session : ℕ) (request : Req
 ended_next turns whole session request client next ended at own other ending answered =
     elim (same_number session other) [
       | inl e ↦ subst (OwnsNone (next_state whole.state session request)) e
-          (own (ap (slice_get turns) e ∙ ending) (same_Some next (Answered (Replied Accepted))
+          (own (ap (slice_get turns) e ∙ ending) (same_Some next (Answered (Answer.Reply Accepted))
           (sym (get_written whole.clients session client next at)
           ∙ ap (slice_get (set whole.clients session next)) e ∙ answered)))
       | inr apart ↦ others_none whole.state session other request apart
@@ -467,7 +452,7 @@ rest_done : (named : List ℕ → Bool) (turns : List Turn) (whole chosen rest :
     → IsOtherClient named turn next
     → AreJoined named (free_in turns) (next_state whole.state session request) chosen.state
     (next_state rest.state session request)
-    → (slice_get turns session ≡ Some Ending → next ≡ Answered (Replied Accepted)
+    → (slice_get turns session ≡ Some Ending → next ≡ Answered (Answer.Reply Accepted)
     → OwnsNone (next_state whole.state session request) session)
     → AreParts named turns
     (record { state = next_state whole.state session request; clients = set whole.clients session next }) chosen
@@ -526,7 +511,7 @@ rest_deed named turns whole chosen rest session turn Statement (Called request) 
     (ap Answered both.0) tt both.1
     (λ ending accepted. ended_none whole.state session request parts.law
     (is.1.1 (same_Some turn Ending (sym there_turn ∙ ending)))
-    (answer_is (answer_to whole.state session request) (Replied Accepted) accepted))
+    (answer_is (answer_to whole.state session request) (Answer.Reply Accepted) accepted))
 rest_deed named turns whole chosen rest session turn Disconnect (Called request) parts there_turn rests is at idle
     there =
     tt
@@ -544,13 +529,13 @@ rest_deed named turns whole chosen rest session turn Statement (Gone (Some reque
     (λ starts. free_turn turns session turn there_turn ∙ is.0) is.1) in
     rest_done named turns whole chosen rest session turn request (Gone (Some request)) (Gone None) (Gone None) parts
     there_turn rests at idle there refl tt both.1
-    (λ ending accepted. absurd (gone_answered (Replied Accepted) accepted))
+    (λ ending accepted. absurd (gone_answered (Answer.Reply Accepted) accepted))
 rest_deed named turns whole chosen rest session turn Disconnect (Gone request) parts there_turn rests is at idle there =
     let both = other_join named (free_in turns) whole.state chosen.state rest.state session (Given DisconnectGiven)
     parts.states tt in
     rest_done named turns whole chosen rest session turn (Given DisconnectGiven) (Gone request) Left Left parts
     there_turn
-    rests at idle there refl tt both.1 (λ ending accepted. absurd (left_answered (Replied Accepted) accepted))
+    rests at idle there refl tt both.1 (λ ending accepted. absurd (left_answered (Answer.Reply Accepted) accepted))
 rest_deed named turns whole chosen rest session turn Statement Left parts there_turn rests is at idle there = tt
 rest_deed named turns whole chosen rest session turn Disconnect Left parts there_turn rests is at idle there = tt
 
@@ -835,10 +820,10 @@ returned_turns Chosen seen = inl refl
 returned_turns Other seen = inl refl
 returned_turns Within seen = inr refl
 returned_turns Rest seen = inr refl
-returned_turns Ending SeenOk = inl refl
-returned_turns Ending (SeenValue value) = inr refl
-returned_turns Ending (SeenRows rows) = inr refl
-returned_turns Ending (SeenError numbers) = inr refl
+returned_turns Ending Seen.Ok = inl refl
+returned_turns Ending (Seen.Value value) = inr refl
+returned_turns Ending (Seen.Rows rows) = inr refl
+returned_turns Ending (Seen.Error numbers) = inr refl
 
 -- after an answer that isn't known its session's turn is Nobody or Within
 unknown_turns : (turn : Turn) → (turn_unknown turn ≡ Nobody) ⊎ (turn_unknown turn ≡ Within)
@@ -877,12 +862,12 @@ chosen_none named turn event fits = elim (chosen_turns named turn event fits) [
 ]
 
 -- the answer that a return of OK shows is that the statement was accepted
-ok_accepted : (answer : Answer) → shows_answer SeenOk answer ≡ true → answer ≡ Replied Accepted
-ok_accepted (Replied Accepted) is = refl
-ok_accepted (Replied (Value value)) is = absurd (false≢true is)
-ok_accepted (Replied (Recovered xids)) is = absurd (false≢true is)
-ok_accepted (Replied (Refused error)) is = absurd (false≢true is)
-ok_accepted NotRead is = absurd (false≢true is)
+ok_accepted : (answer : Answer) → shows_answer Seen.Ok answer ≡ true → answer ≡ Answer.Reply Accepted
+ok_accepted (Answer.Reply Accepted) is = refl
+ok_accepted (Answer.Reply (Value value)) is = absurd (false≢true is)
+ok_accepted (Answer.Reply (Recovered xids)) is = absurd (false≢true is)
+ok_accepted (Answer.Reply (Refused error)) is = absurd (false≢true is)
+ok_accepted Answer.Unread is = absurd (false≢true is)
 
 -- a session that has no branch by its turn after a call in the other part had none before it
 within_called : (turn : Turn) (request : Request) → is_chosen turn ≡ false
@@ -905,16 +890,16 @@ within_called turn request not none = by turn not none
 -- accepted
 returned_none : (turn : Turn) (seen : Seen) (answer : Answer) → shows_answer seen answer ≡ true
     → has_none (turn_returned turn seen) ≡ true
-    → (has_none turn ≡ true) ⊎ ((turn ≡ Ending) × (answer ≡ Replied Accepted))
+    → (has_none turn ≡ true) ⊎ ((turn ≡ Ending) × (answer ≡ Answer.Reply Accepted))
 returned_none Nobody seen answer shows none = inl refl
 returned_none Chosen seen answer shows none = inl refl
 returned_none Other seen answer shows none = inl refl
 returned_none Within seen answer shows none = absurd (false≢true none)
 returned_none Rest seen answer shows none = absurd (false≢true none)
-returned_none Ending SeenOk answer shows none = inr (refl, ok_accepted answer shows)
-returned_none Ending (SeenValue value) answer shows none = absurd (false≢true none)
-returned_none Ending (SeenRows rows) answer shows none = absurd (false≢true none)
-returned_none Ending (SeenError numbers) answer shows none = absurd (false≢true none)
+returned_none Ending Seen.Ok answer shows none = inr (refl, ok_accepted answer shows)
+returned_none Ending (Seen.Value value) answer shows none = absurd (false≢true none)
+returned_none Ending (Seen.Rows rows) answer shows none = absurd (false≢true none)
+returned_none Ending (Seen.Error numbers) answer shows none = absurd (false≢true none)
 
 -- a session that has no branch by its turn after an answer that isn't known had none before it
 unknown_none : (turn : Turn) → has_none (turn_unknown turn) ≡ true → has_none turn ≡ true
@@ -931,7 +916,7 @@ rest_none : (named : List ℕ → Bool) (turn : Turn) (event : Event) (client ne
     → FitsTurn named turn event false
     → client_after event (Some client) ≡ Some next
     → has_none (turn_after turn event false) ≡ true
-    → (has_none turn ≡ true) ⊎ ((turn ≡ Ending) × (client ≡ Answered (Replied Accepted)))
+    → (has_none turn ≡ true) ⊎ ((turn ≡ Ending) × (client ≡ Answered (Answer.Reply Accepted)))
 rest_none named turn (Call session request) client next fits is none = inl (within_called turn request fits.0 none)
 rest_none named turn (Return session seen) client next fits is none =
     let shown = return_shows session seen client next is in
@@ -1026,10 +1011,10 @@ module _ (named : List ℕ → Bool) (turns : List Turn) (whole chosen rest : Co
       → AreEnded (turns_past turns side event)
       (record { state = whole.state; clients = set whole.clients (session_of event) next })
   ended_past side client next is was other ending answered = elim (same_number (session_of event) other) [
-    | inl e ↦ absurd (open_by_call turn event side client next (Replied Accepted) is
+    | inl e ↦ absurd (open_by_call turn event side client next (Answer.Reply Accepted) is
         (same_Some (turn_after turn event side) Ending
         (sym (written side) ∙ ap (slice_get (turns_past turns side event)) e ∙ ending))
-        (same_Some next (Answered (Replied Accepted))
+        (same_Some next (Answered (Answer.Reply Accepted))
         (sym (get_written whole.clients (session_of event) client next was)
         ∙ ap (slice_get (set whole.clients (session_of event) next)) e ∙ answered)))
     | inr apart ↦ parts.ended other (aside turns (session_of event) _ other apart ∙ ending)

@@ -6,16 +6,11 @@
 --     count_next                               how many there are, while they are counted
 --     one_at_most                              if the least of two numbers is at most a third one, so is one of them
 use Rattle.std.proofs.Common.{◌≡◌, ◌≢◌, ◌⊎◌, ℕ, ◌+◌, ◌<◌, ◌≤◌, zero, suc, Bool, true, false, Some, List, [], ◌∷◌, ◌++◌}
-use Rattle.std.proofs.Common.{length, take, drop, get_or, refl, ap, sym, ◌∙◌, subst, inl, inr, arith}
-use Rattle.std.proofs.Common.{append_assoc, append-nil, min}
+use Rattle.std.proofs.Common.{length, take, drop, get_or, refl, ap, sym, ◌∙◌, subst, inl, inr, arith, append_assoc}
+use Rattle.std.proofs.{Common.{append-nil, min}, lemmas.{Bool.false≢true, Option.{none-some, same_Some}}}
+use Rattle.std.{proofs.lemmas.List.at_drop_more, specs.Prelude.slice_get}
 use mathlib.Core.Bool.{beq}
-use Rattle.std.specs.Prelude.{slice_get}
-use Rattle.std.proofs.lemmas.Bool.{false≢true}
-use Rattle.std.proofs.lemmas.Option.{none-some, same_Some}
-use Rattle.std.proofs.lemmas.List.{at_drop_more}
-use Rattle.xa_judge.specs.declared.event.Event.{Event}
-use Rattle.xa_judge.specs.declared.turn.Turn.{Turn}
-use Rattle.xa_judge.proofs.Places.{get_within}
+use Rattle.xa_judge.{specs.declared.{event.Event.Event, turn.Turn.Turn}, proofs.Places.get_within}
 use Rattle.xa_judge.specs.Keys.{FitsTurn, IsCut, first_turns, session_of, turns_past, picked, count_in}
 
 -- ---- the parts of events

@@ -3,20 +3,13 @@
 --     clients_at                a session's clients in the whole and in the parts, by its turn
 --     IsInParts, in_parts       moves through the whole lead through each part as well
 --     IsWhole, whole_of         moves through both parts lead through the whole
-use Rattle.std.proofs.Common.{◌≡◌, ℕ, Bool, true, false, Option, Some, None, List, [], ◌∷◌, ◌++◌, refl, sym}
-use Rattle.std.proofs.Common.{subst}
+use Rattle.std.proofs.Common.{◌≡◌, ℕ, Bool, true, false, Option, Some, None, List, [], ◌∷◌, ◌++◌, refl, sym, subst}
 use Rattle.std.specs.Prelude.{slice_get}
-use Rattle.xa_judge.specs.declared.event.Event.{Event}
-use Rattle.xa_judge.specs.declared.moves.Act.{Act}
-use Rattle.xa_judge.specs.declared.moves.Move.{Move}
-use Rattle.xa_judge.specs.declared.moves.Move.TheVariants.{Event as Seeing, Effect}
-use Rattle.xa_judge.specs.declared.turn.Turn.{Turn}
-use Rattle.xa_judge.specs.declared.turn.Turn.TheVariants.{Nobody, Chosen, Other, Within, Rest, Ending}
+use Rattle.xa_judge.specs.declared.{event.Event.Event, moves.{Act.Act, Move.Move}, turn.Turn.Turn}
 use Rattle.xa_judge.specs.Explained.{Config, effect_of, observed, LeadsThrough}
-use Rattle.xa_judge.specs.Keys.{IsCut, turns_after, turns_past, picked}
-use Rattle.xa_judge.proofs.KeyClients.{forth, back, AreClients, AreParts, ChosenTogether, RestTogether}
-use Rattle.xa_judge.proofs.KeyClients.{chosen_acts, rest_acts, absent_rests, idle_rests, chosen_seen, rest_seen}
-use Rattle.xa_judge.proofs.KeyClients.{is_rest}
+use Rattle.xa_judge.{specs.Keys.{IsCut, turns_after, turns_past, picked}, proofs.KeyClients.{forth, back, AreClients}}
+use Rattle.xa_judge.proofs.KeyClients.{AreParts, ChosenTogether, RestTogether, chosen_acts, rest_acts, absent_rests}
+use Rattle.xa_judge.proofs.KeyClients.{idle_rests, chosen_seen, rest_seen, is_rest}
 
 -- ---- moves before the next event
 
@@ -25,9 +18,9 @@ use Rattle.xa_judge.proofs.KeyClients.{is_rest}
 pub first_then : (old mid new : Config) (events : List Event) (acts moves : List Move) → LeadsThrough old [] acts mid
     → LeadsThrough mid events moves new
     → LeadsThrough old events (acts ++ moves) new
-first_then old mid new events (Effect session act ∷ acts) moves runs on =
+first_then old mid new events (Move.Effect session act ∷ acts) moves runs on =
     (runs.0, runs.1, runs.2, first_then runs.0 mid new events acts moves runs.3 on)
-first_then old mid new events (Seeing ∷ acts) moves runs on = absurd runs
+first_then old mid new events (Move.Event ∷ acts) moves runs on = absurd runs
 first_then old mid new events [] moves runs on = subst (λ c. LeadsThrough c events moves new) runs on
 
 -- moves lead from `old` through the event and more to `new`, in three: acts before the event, the event, and the
@@ -46,10 +39,10 @@ pub record IsSplit (old : Config) (event : Event) (events : List Event) (new : C
 pub split : (old new : Config) (event : Event) (events : List Event) (moves : List Move)
     → LeadsThrough old (event ∷ events) moves new
     → IsSplit old event events new
-split old new event events (Effect session act ∷ moves) runs =
+split old new event events (Move.Effect session act ∷ moves) runs =
     let rest = split runs.0 new event events moves runs.3 in
     record {
-      acts = Effect session act ∷ rest.acts;
+      acts = Move.Effect session act ∷ rest.acts;
       mid = rest.mid;
       leads = (runs.0, runs.1, runs.2, rest.leads);
       next = rest.next;
@@ -57,7 +50,7 @@ split old new event events (Effect session act ∷ moves) runs =
       moves = rest.moves;
       runs = rest.runs;
     }
-split old new event events (Seeing ∷ moves) runs = record {
+split old new event events (Move.Event ∷ moves) runs = record {
   acts = [];
   mid = old;
   leads = refl;
@@ -84,23 +77,23 @@ clients_at named turns whole chosen rest session turn parts at =
 chosen_turn : (named : List ℕ → Bool) (turns : List Turn) (whole chosen rest mid : Config)
     (session : ℕ) (act : Act) → AreParts named turns whole chosen rest
     → effect_of chosen session act ≡ Some mid
-    → slice_get turns session ≡ Some Chosen
+    → slice_get turns session ≡ Some Turn.Chosen
 chosen_turn named turns whole chosen rest mid session act parts leads = by (slice_get turns session) refl
   where
-    by : (turn : Option Turn) → slice_get turns session ≡ turn → turn ≡ Some Chosen
+    by : (turn : Option Turn) → slice_get turns session ≡ turn → turn ≡ Some Turn.Chosen
     by None at = absurd (absent_rests chosen mid session act
         (clients_at named turns whole chosen rest session None parts at).1 leads)
-    by (Some Nobody) at = absurd (idle_rests chosen mid session act
-        (clients_at named turns whole chosen rest session (Some Nobody) parts at).1 leads)
-    by (Some Chosen) at = refl
-    by (Some Other) at = absurd (idle_rests chosen mid session act
-        (clients_at named turns whole chosen rest session (Some Other) parts at).3 leads)
-    by (Some Within) at = absurd (idle_rests chosen mid session act
-        (clients_at named turns whole chosen rest session (Some Within) parts at).3 leads)
-    by (Some Rest) at = absurd (idle_rests chosen mid session act
-        (clients_at named turns whole chosen rest session (Some Rest) parts at).3 leads)
-    by (Some Ending) at = absurd (idle_rests chosen mid session act
-        (clients_at named turns whole chosen rest session (Some Ending) parts at).3 leads)
+    by (Some Turn.Nobody) at = absurd (idle_rests chosen mid session act
+        (clients_at named turns whole chosen rest session (Some Turn.Nobody) parts at).1 leads)
+    by (Some Turn.Chosen) at = refl
+    by (Some Turn.Other) at = absurd (idle_rests chosen mid session act
+        (clients_at named turns whole chosen rest session (Some Turn.Other) parts at).3 leads)
+    by (Some Turn.Within) at = absurd (idle_rests chosen mid session act
+        (clients_at named turns whole chosen rest session (Some Turn.Within) parts at).3 leads)
+    by (Some Turn.Rest) at = absurd (idle_rests chosen mid session act
+        (clients_at named turns whole chosen rest session (Some Turn.Rest) parts at).3 leads)
+    by (Some Turn.Ending) at = absurd (idle_rests chosen mid session act
+        (clients_at named turns whole chosen rest session (Some Turn.Ending) parts at).3 leads)
 
 -- an act in the other part is of a session whose open call belongs to that part, or that may have a branch
 rest_turn : (named : List ℕ → Bool) (turns : List Turn) (whole chosen rest mid : Config)
@@ -113,14 +106,14 @@ rest_turn named turns whole chosen rest mid session act parts leads = by (slice_
         → (turn : Turn) × (slice_get turns session ≡ Some turn) × (is_rest turn ≡ true)
     by None at = absurd (absent_rests rest mid session act
         (clients_at named turns whole chosen rest session None parts at).2 leads)
-    by (Some Nobody) at = absurd (idle_rests rest mid session act
-        (clients_at named turns whole chosen rest session (Some Nobody) parts at).2 leads)
-    by (Some Chosen) at = absurd (idle_rests rest mid session act
-        (clients_at named turns whole chosen rest session (Some Chosen) parts at).4 leads)
-    by (Some Other) at = (Other, at, refl)
-    by (Some Within) at = (Within, at, refl)
-    by (Some Rest) at = (Rest, at, refl)
-    by (Some Ending) at = (Ending, at, refl)
+    by (Some Turn.Nobody) at = absurd (idle_rests rest mid session act
+        (clients_at named turns whole chosen rest session (Some Turn.Nobody) parts at).2 leads)
+    by (Some Turn.Chosen) at = absurd (idle_rests rest mid session act
+        (clients_at named turns whole chosen rest session (Some Turn.Chosen) parts at).4 leads)
+    by (Some Turn.Other) at = (Turn.Other, at, refl)
+    by (Some Turn.Within) at = (Turn.Within, at, refl)
+    by (Some Turn.Rest) at = (Turn.Rest, at, refl)
+    by (Some Turn.Ending) at = (Turn.Ending, at, refl)
 
 -- ---- from the whole to the parts
 
@@ -140,7 +133,7 @@ acts_in : (named : List ℕ → Bool) (turns : List Turn) (whole chosen rest new
     (acts : List Move) → AreParts named turns whole chosen rest
     → LeadsThrough whole [] acts new
     → IsInParts named turns chosen rest new [] []
-acts_in named turns whole chosen rest new (Effect session act ∷ acts) parts runs =
+acts_in named turns whole chosen rest new (Move.Effect session act ∷ acts) parts runs =
     by (λ w c r. acts_in named turns w c r new acts) (slice_get turns session) refl
   where
     rest_act : ((w c r : Config) → AreParts named turns w c r → LeadsThrough w [] acts new
@@ -154,7 +147,7 @@ acts_in named turns whole chosen rest new (Effect session act ∷ acts) parts ru
         let more = rest_of runs.0 chosen one.0 one.2 runs.3 in
         record {
           chosen_moves = more.chosen_moves;
-          rest_moves = Effect session act ∷ more.rest_moves;
+          rest_moves = Move.Effect session act ∷ more.rest_moves;
           chosen_end = more.chosen_end;
           rest_end = more.rest_end;
           chosen_runs = more.chosen_runs;
@@ -167,15 +160,15 @@ acts_in named turns whole chosen rest new (Effect session act ∷ acts) parts ru
         → (turn : Option Turn) → slice_get turns session ≡ turn → IsInParts named turns chosen rest new [] []
     by rest_of None at = absurd (absent_rests whole runs.0 session act
         (clients_at named turns whole chosen rest session None parts at).0 runs.2)
-    by rest_of (Some Nobody) at = absurd (idle_rests whole runs.0 session act
-        (clients_at named turns whole chosen rest session (Some Nobody) parts at).0 runs.2)
-    by rest_of (Some Chosen) at =
+    by rest_of (Some Turn.Nobody) at = absurd (idle_rests whole runs.0 session act
+        (clients_at named turns whole chosen rest session (Some Turn.Nobody) parts at).0 runs.2)
+    by rest_of (Some Turn.Chosen) at =
         let one = forth (ChosenTogether named turns rest) (effect_of whole session act)
         (effect_of chosen session act) runs.0 (chosen_acts named turns whole chosen rest session act parts at)
         runs.2 in
         let more = rest_of runs.0 one.0 rest one.2 runs.3 in
         record {
-          chosen_moves = Effect session act ∷ more.chosen_moves;
+          chosen_moves = Move.Effect session act ∷ more.chosen_moves;
           rest_moves = more.rest_moves;
           chosen_end = more.chosen_end;
           rest_end = more.rest_end;
@@ -183,11 +176,11 @@ acts_in named turns whole chosen rest new (Effect session act ∷ acts) parts ru
           rest_runs = more.rest_runs;
           parts = more.parts;
         }
-    by rest_of (Some Other) at = rest_act rest_of Other at refl
-    by rest_of (Some Within) at = rest_act rest_of Within at refl
-    by rest_of (Some Rest) at = rest_act rest_of Rest at refl
-    by rest_of (Some Ending) at = rest_act rest_of Ending at refl
-acts_in named turns whole chosen rest new (Seeing ∷ acts) parts runs = absurd runs
+    by rest_of (Some Turn.Other) at = rest_act rest_of Turn.Other at refl
+    by rest_of (Some Turn.Within) at = rest_act rest_of Turn.Within at refl
+    by rest_of (Some Turn.Rest) at = rest_act rest_of Turn.Rest at refl
+    by rest_of (Some Turn.Ending) at = rest_act rest_of Turn.Ending at refl
+acts_in named turns whole chosen rest new (Move.Event ∷ acts) parts runs = absurd runs
 acts_in named turns whole chosen rest new [] parts runs = record {
   chosen_moves = [];
   rest_moves = [];
@@ -220,12 +213,12 @@ in_parts named turns whole chosen rest new (true ∷ sides) (event ∷ events) m
     let more = in_parts named (turns_past turns true event) s.next seen.0 before.rest_end new sides events s.moves
     cut.3 seen.2 s.runs in
     record {
-      chosen_moves = before.chosen_moves ++ Seeing ∷ more.chosen_moves;
+      chosen_moves = before.chosen_moves ++ Move.Event ∷ more.chosen_moves;
       rest_moves = before.rest_moves ++ more.rest_moves;
       chosen_end = more.chosen_end;
       rest_end = more.rest_end;
       chosen_runs = first_then chosen before.chosen_end more.chosen_end (event ∷ picked true sides events)
-          before.chosen_moves (Seeing ∷ more.chosen_moves) before.chosen_runs (seen.0, seen.1, more.chosen_runs);
+          before.chosen_moves (Move.Event ∷ more.chosen_moves) before.chosen_runs (seen.0, seen.1, more.chosen_runs);
       rest_runs = first_then rest before.rest_end more.rest_end (picked false sides events) before.rest_moves
           more.rest_moves before.rest_runs more.rest_runs;
       parts = more.parts;
@@ -241,13 +234,13 @@ in_parts named turns whole chosen rest new (false ∷ sides) (event ∷ events) 
     s.moves cut.3 seen.2 s.runs in
     record {
       chosen_moves = before.chosen_moves ++ more.chosen_moves;
-      rest_moves = before.rest_moves ++ Seeing ∷ more.rest_moves;
+      rest_moves = before.rest_moves ++ Move.Event ∷ more.rest_moves;
       chosen_end = more.chosen_end;
       rest_end = more.rest_end;
       chosen_runs = first_then chosen before.chosen_end more.chosen_end (picked true sides events) before.chosen_moves
           more.chosen_moves before.chosen_runs more.chosen_runs;
       rest_runs = first_then rest before.rest_end more.rest_end (event ∷ picked false sides events) before.rest_moves
-          (Seeing ∷ more.rest_moves) before.rest_runs (seen.0, seen.1, more.rest_runs);
+          (Move.Event ∷ more.rest_moves) before.rest_runs (seen.0, seen.1, more.rest_runs);
       parts = more.parts;
     }
 
@@ -266,18 +259,18 @@ chosen_first : (named : List ℕ → Bool) (turns : List Turn) (whole chosen res
     (acts : List Move) → AreParts named turns whole chosen rest
     → LeadsThrough chosen [] acts new
     → IsWhole named turns whole new rest []
-chosen_first named turns whole chosen rest new (Effect session act ∷ acts) parts runs =
+chosen_first named turns whole chosen rest new (Move.Effect session act ∷ acts) parts runs =
     let turn = chosen_turn named turns whole chosen rest runs.0 session act parts runs.2 in
     let one = back (ChosenTogether named turns rest) (effect_of whole session act) (effect_of chosen session act)
     runs.0 (chosen_acts named turns whole chosen rest session act parts turn) runs.2 in
     let more = chosen_first named turns one.0 runs.0 rest new acts one.2 runs.3 in
     record {
-      moves = Effect session act ∷ more.moves;
+      moves = Move.Effect session act ∷ more.moves;
       end = more.end;
       runs = (one.0, runs.1, one.1, more.runs);
       parts = more.parts;
     }
-chosen_first named turns whole chosen rest new (Seeing ∷ acts) parts runs = absurd runs
+chosen_first named turns whole chosen rest new (Move.Event ∷ acts) parts runs = absurd runs
 chosen_first named turns whole chosen rest new [] parts runs = record {
   moves = [];
   end = whole;
@@ -290,18 +283,18 @@ rest_first : (named : List ℕ → Bool) (turns : List Turn) (whole chosen rest 
     (acts : List Move) → AreParts named turns whole chosen rest
     → LeadsThrough rest [] acts new
     → IsWhole named turns whole chosen new []
-rest_first named turns whole chosen rest new (Effect session act ∷ acts) parts runs =
+rest_first named turns whole chosen rest new (Move.Effect session act ∷ acts) parts runs =
     let turn = rest_turn named turns whole chosen rest runs.0 session act parts runs.2 in
     let one = back (RestTogether named turns chosen) (effect_of whole session act) (effect_of rest session act)
     runs.0 (rest_acts named turns whole chosen rest session turn.0 act parts turn.1 turn.2) runs.2 in
     let more = rest_first named turns one.0 chosen runs.0 new acts one.2 runs.3 in
     record {
-      moves = Effect session act ∷ more.moves;
+      moves = Move.Effect session act ∷ more.moves;
       end = more.end;
       runs = (one.0, runs.1, one.1, more.runs);
       parts = more.parts;
     }
-rest_first named turns whole chosen rest new (Seeing ∷ acts) parts runs = absurd runs
+rest_first named turns whole chosen rest new (Move.Event ∷ acts) parts runs = absurd runs
 rest_first named turns whole chosen rest new [] parts runs = record {
   moves = [];
   end = whole;
@@ -341,9 +334,9 @@ whole_of named turns whole chosen rest chosen_end rest_end (true ∷ sides) (eve
     let more = whole_of named (turns_past turns true event) seen.0 s.next rest chosen_end rest_end sides events
     s.moves rest_moves cut.3 seen.2 s.runs others in
     record {
-      moves = before.moves ++ Seeing ∷ more.moves;
+      moves = before.moves ++ Move.Event ∷ more.moves;
       end = more.end;
-      runs = first_then whole before.end more.end (event ∷ events) before.moves (Seeing ∷ more.moves) before.runs
+      runs = first_then whole before.end more.end (event ∷ events) before.moves (Move.Event ∷ more.moves) before.runs
           (seen.0, seen.1, more.runs);
       parts = more.parts;
     }
@@ -357,9 +350,9 @@ whole_of named turns whole chosen rest chosen_end rest_end (false ∷ sides) (ev
     let more = whole_of named (turns_past turns false event) seen.0 chosen s.next chosen_end rest_end sides events
     chosen_moves s.moves cut.3 seen.2 runs s.runs in
     record {
-      moves = before.moves ++ Seeing ∷ more.moves;
+      moves = before.moves ++ Move.Event ∷ more.moves;
       end = more.end;
-      runs = first_then whole before.end more.end (event ∷ events) before.moves (Seeing ∷ more.moves) before.runs
+      runs = first_then whole before.end more.end (event ∷ events) before.moves (Move.Event ∷ more.moves) before.runs
           (seen.0, seen.1, more.runs);
       parts = more.parts;
     }

@@ -8,45 +8,26 @@
 --     none_apart, none_listed          a state without branches
 --     joined_first, joined_with        before all events;  if other sessions count as those that have no branch
 use Rattle.std.proofs.Common.{◌≡◌, ◌⊎◌, ℕ, ◌==◌, List, [], ◌∷◌, refl, ap, sym, ◌∙◌, subst, Bool, true, false, inl, inr}
-use Rattle.std.specs.Prelude.{Option, Some, None, cond, not, is_some, ◌&&◌, ◌||◌, map as map_list}
-use Rattle.std.specs.List.{list_any}
-use Rattle.std.specs.Option.{option_map, option_map_or, option_and_then}
-use Rattle.std.specs.Ordering.{eq_by_cmp}
-use Rattle.std.specs.FinMap as map
+use Rattle.std.specs.{Prelude.{Option, Some, None, cond, not, is_some, ◌&&◌, ◌||◌, map as map_list}, List.list_any}
+use Rattle.std.specs.{Option.{option_map, option_map_or, option_and_then}, Ordering.eq_by_cmp}
 use Rattle.std.specs.FinMap.{get-empty, get-insert, get-remove, get-entries}
 use mathlib.Core.Bool.{true≢false}
-use Rattle.xa_xid.specs.declared.xid.Xid.{Xid}
-use Rattle.xa_xid.specs.Xid.{Text, bytes_cmp, xid_cmp, same_xid}
-use Rattle.xa_xid.proofs.Orders.{bytes_total, exact_texts}
-use Rattle.xa_xid.specs.declared.statement.Statement.{Statement}
-use Rattle.xa_xid.specs.declared.statement.Statement.TheVariants.{Start, End, Prepare, Commit, Rollback, Recover}
-use Rattle.xa_xid.specs.declared.statement.Statement.TheVariants.{Unsupported, Get, Put, Del, Disconnect}
-use Rattle.xa_server.specs.declared.branch.Phase.TheVariants.{Idle as PhaseIdle, Prepared as PhasePrepared}
-use Rattle.xa_server.specs.declared.reply.Reply.TheVariants.{Ok as Accepted, Value}
-use Rattle.xa_server.specs.declared.xa_error.XaError.TheVariants.{RowLocked}
-use Rattle.xa_server.specs.declared.association.Association.{Association}
-use Rattle.xa_server.specs.declared.association.Association.TheVariants.{Free, Active, Idle}
-use Rattle.xa_server.specs.State.{Write, Branch, State, Shared, Exclusive, owner_at}
-use Rattle.xa_server.specs.State.{association_in, association_of, phase_at, committed_value}
-use Rattle.xa_server.specs.declared.overview.BranchEntry.{BranchEntry}
-use Rattle.xa_server.specs.Overview.{entry_of, branches_of}
-use Rattle.xa_server.specs.Locks.{is_another, holds, is_held_against}
-use Rattle.xa_server.specs.Replies.{refused_if, table, reply_to}
+use Rattle.xa_xid.specs.declared.{xid.Xid.Xid, statement.Statement.Statement}
+use Rattle.xa_xid.{specs.Xid.{Text, bytes_cmp, xid_cmp, same_xid}, proofs.Orders.{bytes_total, exact_texts}}
+use Rattle.xa_server.specs.declared.{branch.Phase.Phase, reply.Reply.Reply, xa_error.XaError.XaError}
+use Rattle.xa_server.specs.declared.{association.Association.Association, overview.BranchEntry.BranchEntry}
+use Rattle.xa_server.specs.State.{Write, Branch, State, Shared, Exclusive, owner_at, association_in, association_of}
+use Rattle.xa_server.specs.{State.{phase_at, committed_value}, Overview.{entry_of, branches_of}}
+use Rattle.xa_server.specs.{Locks.{is_another, holds, is_held_against}, Replies.{refused_if, table, reply_to}}
 use Rattle.xa_server.specs.Step.{started_by, with_branch, with_changed, with_write, with_writes, with_lock}
-use Rattle.xa_server.specs.Step.{with_own_write, without_branch, row_written, committed, unless_refused, effect}
-use Rattle.xa_server.specs.Step.{after}
-use Rattle.xa_server.proofs.Maps.{same_or_apart, get_inserted_apart, get_removed_apart}
-use Rattle.xa_server.proofs.Changes.{idle, detached, branch_after, effect-branch, outcome}
-use Rattle.xa_server.proofs.Others.{none_found}
-use Rattle.xa_server.proofs.Seen.{owned_is}
-use Rattle.xa_judge.specs.declared.request.Request.{Request}
-use Rattle.xa_judge.specs.declared.request.Request.TheVariants.{Statement as Given, Unread}
-use Rattle.xa_judge.specs.declared.answer.Answer.TheVariants.{Reply as Replied}
-use Rattle.xa_judge.specs.Explained.{answer_to, next_state}
-use Rattle.xa_judge.specs.Near.{AreNear, ReadsNamed}
+use Rattle.xa_server.specs.Step.{with_own_write, without_branch, row_written, committed, unless_refused, effect, after}
+use Rattle.xa_server.proofs.{Maps.{same_or_apart, get_inserted_apart, get_removed_apart}, Seen.owned_is}
+use Rattle.xa_server.proofs.{Changes.{idle, detached, branch_after, effect-branch, outcome}, Others.none_found}
+use Rattle.xa_judge.specs.{declared.{request.Request.Request, answer.Answer.Answer}, Explained.{answer_to, next_state}}
+use Rattle.xa_judge.{specs.Near.{AreNear, ReadsNamed}, proofs.Clean.{OwnsNone, same_test}}
 use Rattle.xa_judge.specs.Keys.{IsFreeRequest, IsOtherRequest, IsApartBranch, IsApartAt, IsApart, HasNoBranch}
-use Rattle.xa_judge.proofs.Clean.{OwnsNone, same_test}
 use Rattle.xa_judge.proofs.NearStates.{near_answer, near_next, near_put, near_del, near_refl}
+use Rattle.std.specs.FinMap as map
 
 -- ---- what a request of the other part does to branches
 
@@ -132,50 +113,50 @@ idle_apart named free branch was = record { owner = was.owner; writes = was.writ
 -- the effect of a statement of the other part leaves a branch apart
 branch_apart : (named : List ℕ → Bool) (free : ℕ → Bool) (session : ℕ) (association : Association)
     (statement : Statement) (at : Xid) (found : Option Branch)
-    → IsOtherRequest named free session (Given statement)
+    → IsOtherRequest named free session (Request.Statement statement)
     → IsApartAt named free found → IsApartAt named free (branch_after session association statement at found)
 unfolding branch_after
-branch_apart named free session association (Start xid) at found other was =
+branch_apart named free session association (Statement.Start xid) at found other was =
     either_apart named free (same_xid at xid) (Some (started_by session)) found
     (start_apart named free session other) was
-branch_apart named free session association (End xid) at found other was =
+branch_apart named free session association (Statement.End xid) at found other was =
     either_apart named free (same_xid at xid) (option_map idle found) found
     (changed_apart named free idle found (idle_apart named free) was) was
-branch_apart named free session association (Prepare xid) at found other was =
+branch_apart named free session association (Statement.Prepare xid) at found other was =
     either_apart named free (same_xid at xid) (option_map detached found) found
     (changed_apart named free detached found (detached_apart named free) was) was
-branch_apart named free session association (Commit xid one_phase) at found other was =
+branch_apart named free session association (Statement.Commit xid one_phase) at found other was =
     either_apart named free (same_xid at xid) None found tt was
-branch_apart named free session association (Rollback xid) at found other was =
+branch_apart named free session association (Statement.Rollback xid) at found other was =
     either_apart named free (same_xid at xid) None found tt was
-branch_apart named free session association (Recover convert) at found other was = was
-branch_apart named free session association Unsupported at found other was = was
-branch_apart named free session Free (Get key) at found other was = was
-branch_apart named free session (Active own) (Get key) at found other was =
+branch_apart named free session association (Statement.Recover convert) at found other was = was
+branch_apart named free session association Statement.Unsupported at found other was = was
+branch_apart named free session Association.Free (Statement.Get key) at found other was = was
+branch_apart named free session (Association.Active own) (Statement.Get key) at found other was =
     either_apart named free (same_xid at own) (option_map (with_lock key) found) found
     (changed_apart named free (with_lock key) found (λ b. lock_apart named free key b other) was) was
-branch_apart named free session (Idle own) (Get key) at found other was = was
-branch_apart named free session Free (Put key value) at found other was = was
-branch_apart named free session (Active own) (Put key value) at found other was =
+branch_apart named free session (Association.Idle own) (Statement.Get key) at found other was = was
+branch_apart named free session Association.Free (Statement.Put key value) at found other was = was
+branch_apart named free session (Association.Active own) (Statement.Put key value) at found other was =
     either_apart named free (same_xid at own) (option_map (with_own_write key (Some value)) found) found
     (changed_apart named free (with_own_write key (Some value)) found
     (λ b. write_apart named free key (Some value) b other) was) was
-branch_apart named free session (Idle own) (Put key value) at found other was = was
-branch_apart named free session Free (Del key) at found other was = was
-branch_apart named free session (Active own) (Del key) at found other was =
+branch_apart named free session (Association.Idle own) (Statement.Put key value) at found other was = was
+branch_apart named free session Association.Free (Statement.Del key) at found other was = was
+branch_apart named free session (Association.Active own) (Statement.Del key) at found other was =
     either_apart named free (same_xid at own) (option_map (with_own_write key None) found) found
     (changed_apart named free (with_own_write key None) found
     (λ b. write_apart named free key None b other) was) was
-branch_apart named free session (Idle own) (Del key) at found other was = was
-branch_apart named free session Free Disconnect at found other was = was
-branch_apart named free session (Active own) Disconnect at found other was =
+branch_apart named free session (Association.Idle own) (Statement.Del key) at found other was = was
+branch_apart named free session Association.Free Statement.Disconnect at found other was = was
+branch_apart named free session (Association.Active own) Statement.Disconnect at found other was =
     either_apart named free (same_xid at own) None found tt was
-branch_apart named free session (Idle own) Disconnect at found other was =
+branch_apart named free session (Association.Idle own) Statement.Disconnect at found other was =
     either_apart named free (same_xid at own) None found tt was
 
 -- a statement of the other part leaves every branch apart (`IsApart`)
 statement_apart : (named : List ℕ → Bool) (free : ℕ → Bool) (state : State) (session : ℕ) (statement : Statement)
-    → IsOtherRequest named free session (Given statement)
+    → IsOtherRequest named free session (Request.Statement statement)
     → IsApart named free state → IsApart named free (after state session statement)
 statement_apart named free state session statement other was = elim (outcome state session statement) [
   | inl refused ↦ subst (IsApart named free) (sym refused.1) was
@@ -189,8 +170,8 @@ statement_apart named free state session statement other was = elim (outcome sta
 pub apart_after : (named : List ℕ → Bool) (free : ℕ → Bool) (state : State) (session : ℕ) (request : Request)
     → IsOtherRequest named free session request
     → IsApart named free state → IsApart named free (next_state state session request)
-apart_after named free state session Unread other was = was
-apart_after named free state session (Given statement) other was =
+apart_after named free state session Request.Unread other was = was
+apart_after named free state session (Request.Statement statement) other was =
     statement_apart named free state session statement other was
 
 -- ---- what follows for the sessions that have no branch, and for the chosen rows
@@ -198,10 +179,10 @@ apart_after named free state session (Given statement) other was =
 -- where every branch is apart, a session that counts as one without a branch has nothing open
 pub free_of : (named : List ℕ → Bool) (free : ℕ → Bool) (state : State) (session : ℕ) → IsApart named free state
     → free session ≡ true
-    → association_of state session ≡ Free
+    → association_of state session ≡ Association.Free
 unfolding association_of
 free_of named free state session are is =
-    ap (λ own. option_map_or (λ xid. association_in (phase_at state xid) xid) own Free)
+    ap (λ own. option_map_or (λ xid. association_in (phase_at state xid) xid) own Association.Free)
     (none_found state session (λ xid e. by (map.get state.branches xid) (are xid)
     (owned_is (owner_at state xid) session e)))
   where
@@ -221,10 +202,10 @@ none_any p (x ∷ xs) none = ap (λ b. b || list_any p xs) (none x) ∙ none_any
 -- where every branch is apart, nobody holds a chosen row
 pub unheld : (named : List ℕ → Bool) (free : ℕ → Bool) (state : State) (key : List ℕ) → IsApart named free state
     → named key ≡ true
-    → is_held_against state Free key ≡ false
+    → is_held_against state Association.Free key ≡ false
 unfolding is_held_against
 unheld named free state key are is =
-    none_any (λ xid. is_another Free xid && holds state xid key) (map.keys state.branches)
+    none_any (λ xid. is_another Association.Free xid && holds state xid key) (map.keys state.branches)
     (λ xid. by (map.get state.branches xid) (are xid))
   where
     by : (found : Option Branch) → IsApartAt named free found
@@ -286,90 +267,94 @@ committed_rows named free state xid key are is = by (map.get state.branches xid)
 written_rows : (named : List ℕ → Bool) (state : State) (association : Association) (other key : List ℕ)
     (write : Write) → named other ≡ false → named key ≡ true
     → committed_value (row_written state association other write) key ≡ committed_value state key
-written_rows named state Free other key None unnamed is =
+written_rows named state Association.Free other key None unnamed is =
     get_removed_apart bytes_total exact_texts state.rows other key (unlike named key other unnamed is)
-written_rows named state Free other key (Some value) unnamed is =
+written_rows named state Association.Free other key (Some value) unnamed is =
     get_inserted_apart bytes_total exact_texts state.rows other value key (unlike named key other unnamed is)
-written_rows named state (Active own) other key write unnamed is =
+written_rows named state (Association.Active own) other key write unnamed is =
     ap (λ rows. map.get rows key) (changed_rows state own (with_own_write other write))
-written_rows named state (Idle own) other key write unnamed is = refl
+written_rows named state (Association.Idle own) other key write unnamed is = refl
 
 -- the effect of a statement of the other part leaves the values of the chosen rows, if every branch is apart
 effect_rows : (named : List ℕ → Bool) (free : ℕ → Bool) (state : State) (session : ℕ) (association : Association)
     (statement : Statement) (key : List ℕ)
-    → IsOtherRequest named free session (Given statement)
+    → IsOtherRequest named free session (Request.Statement statement)
     → IsApart named free state → named key ≡ true
     → committed_value (effect state session association statement) key ≡ committed_value state key
 unfolding effect
-effect_rows named free state session association (Start xid) key other are is = refl
-effect_rows named free state session association (End xid) key other are is =
-    ap (λ rows. map.get rows key) (changed_rows state xid (λ branch. record branch { phase = PhaseIdle }))
-effect_rows named free state session association (Prepare xid) key other are is =
+effect_rows named free state session association (Statement.Start xid) key other are is = refl
+effect_rows named free state session association (Statement.End xid) key other are is =
+    ap (λ rows. map.get rows key) (changed_rows state xid (λ branch. record branch { phase = Phase.Idle }))
+effect_rows named free state session association (Statement.Prepare xid) key other are is =
     ap (λ rows. map.get rows key)
-    (changed_rows state xid (λ branch. record branch { phase = PhasePrepared; owner = None }))
-effect_rows named free state session association (Commit xid one_phase) key other are is =
+    (changed_rows state xid (λ branch. record branch { phase = Phase.Prepared; owner = None }))
+effect_rows named free state session association (Statement.Commit xid one_phase) key other are is =
     committed_rows named free state xid key are is
-effect_rows named free state session association (Rollback xid) key other are is = refl
-effect_rows named free state session association (Recover convert) key other are is = refl
-effect_rows named free state session association Unsupported key other are is = refl
-effect_rows named free state session Free (Get row) key other are is = refl
-effect_rows named free state session (Active own) (Get row) key other are is =
+effect_rows named free state session association (Statement.Rollback xid) key other are is = refl
+effect_rows named free state session association (Statement.Recover convert) key other are is = refl
+effect_rows named free state session association Statement.Unsupported key other are is = refl
+effect_rows named free state session Association.Free (Statement.Get row) key other are is = refl
+effect_rows named free state session (Association.Active own) (Statement.Get row) key other are is =
     ap (λ rows. map.get rows key) (changed_rows state own (with_lock row))
-effect_rows named free state session (Idle own) (Get row) key other are is = refl
-effect_rows named free state session association (Put row value) key other are is =
+effect_rows named free state session (Association.Idle own) (Statement.Get row) key other are is = refl
+effect_rows named free state session association (Statement.Put row value) key other are is =
     written_rows named state association row key (Some value) other is
-effect_rows named free state session association (Del row) key other are is =
+effect_rows named free state session association (Statement.Del row) key other are is =
     written_rows named state association row key None other is
-effect_rows named free state session Free Disconnect key other are is = refl
-effect_rows named free state session (Active own) Disconnect key other are is = refl
-effect_rows named free state session (Idle own) Disconnect key other are is = refl
+effect_rows named free state session Association.Free Statement.Disconnect key other are is = refl
+effect_rows named free state session (Association.Active own) Statement.Disconnect key other are is = refl
+effect_rows named free state session (Association.Idle own) Statement.Disconnect key other are is = refl
 
 -- a request of the other part leaves the values of the chosen rows, if every branch is apart (`IsApart`)
 pub rows_after : (named : List ℕ → Bool) (free : ℕ → Bool) (state : State) (session : ℕ) (request : Request)
     (key : List ℕ) → IsOtherRequest named free session request
     → IsApart named free state → named key ≡ true
     → committed_value (next_state state session request) key ≡ committed_value state key
-rows_after named free state session Unread key other are is = refl
-rows_after named free state session (Given statement) key other are is = elim (outcome state session statement) [
-  | inl refused ↦ ap (λ s. committed_value s key) refused.1
-  | inr done ↦ ap (λ s. committed_value s key) done.1
-      ∙ effect_rows named free state session (association_of state session) statement key other are is
-]
+rows_after named free state session Request.Unread key other are is = refl
+rows_after named free state session (Request.Statement statement) key other are is = elim
+    (outcome state session statement) [
+      | inl refused ↦ ap (λ s. committed_value s key) refused.1
+      | inr done ↦ ap (λ s. committed_value s key) done.1
+          ∙ effect_rows named free state session (association_of state session) statement key other are is
+    ]
 
 -- ---- what a request of the chosen part does
 
 -- a session that has nothing open reads the committed value
-pub free_get : (state : State) (session : ℕ) (key : List ℕ) → association_of state session ≡ Free
-    → (reply_to state session (Get key) ≡ Value (committed_value state key)) × (after state session (Get key) ≡ state)
+pub free_get : (state : State) (session : ℕ) (key : List ℕ) → association_of state session ≡ Association.Free
+    → (reply_to state session (Statement.Get key) ≡ Reply.Value (committed_value state key)) ×
+    (after state session (Statement.Get key) ≡ state)
 unfolding reply_to table effect after
 free_get state session key free = (
-  ap (λ a. table state a (Get key)) free,
-  ap (λ a. unless_refused (table state a (Get key)) state (effect state session a (Get key))) free,
+  ap (λ a. table state a (Statement.Get key)) free,
+  ap (λ a. unless_refused (table state a (Statement.Get key)) state (effect state session a (Statement.Get key))) free,
 )
 
 -- a session that has nothing open writes a row at once that nobody holds
-pub free_put : (state : State) (session : ℕ) (key : List ℕ) (value : Text) → association_of state session ≡ Free
-    → is_held_against state Free key ≡ false
-    → (reply_to state session (Put key value) ≡ Accepted)
-    × (after state session (Put key value) ≡ record state { rows = with_write key (Some value) state.rows })
+pub free_put : (state : State) (session : ℕ) (key : List ℕ) (value : Text) → association_of state session ≡
+    Association.Free
+    → is_held_against state Association.Free key ≡ false
+    → (reply_to state session (Statement.Put key value) ≡ Reply.Ok)
+    × (after state session (Statement.Put key value) ≡ record state { rows = with_write key (Some value) state.rows })
 unfolding reply_to table effect after
 free_put state session key value free nobody = (
-  ap (λ a. table state a (Put key value)) free ∙ ap (λ b. refused_if b RowLocked Accepted) nobody,
-  ap (λ a. unless_refused (table state a (Put key value)) state (effect state session a (Put key value))) free
-      ∙ ap (λ b. unless_refused (refused_if b RowLocked Accepted) state
+  ap (λ a. table state a (Statement.Put key value)) free ∙ ap (λ b. refused_if b XaError.RowLocked Reply.Ok) nobody,
+  ap (λ a. unless_refused (table state a (Statement.Put key value)) state
+      (effect state session a (Statement.Put key value))) free
+      ∙ ap (λ b. unless_refused (refused_if b XaError.RowLocked Reply.Ok) state
       (record state { rows = with_write key (Some value) state.rows })) nobody,
 )
 
 -- a session that has nothing open deletes a row at once that nobody holds
-pub free_del : (state : State) (session : ℕ) (key : List ℕ) → association_of state session ≡ Free
-    → is_held_against state Free key ≡ false
-    → (reply_to state session (Del key) ≡ Accepted)
-    × (after state session (Del key) ≡ record state { rows = with_write key None state.rows })
+pub free_del : (state : State) (session : ℕ) (key : List ℕ) → association_of state session ≡ Association.Free
+    → is_held_against state Association.Free key ≡ false
+    → (reply_to state session (Statement.Del key) ≡ Reply.Ok)
+    × (after state session (Statement.Del key) ≡ record state { rows = with_write key None state.rows })
 unfolding reply_to table effect after
 free_del state session key free nobody = (
-  ap (λ a. table state a (Del key)) free ∙ ap (λ b. refused_if b RowLocked Accepted) nobody,
-  ap (λ a. unless_refused (table state a (Del key)) state (effect state session a (Del key))) free
-      ∙ ap (λ b. unless_refused (refused_if b RowLocked Accepted) state
+  ap (λ a. table state a (Statement.Del key)) free ∙ ap (λ b. refused_if b XaError.RowLocked Reply.Ok) nobody,
+  ap (λ a. unless_refused (table state a (Statement.Del key)) state (effect state session a (Statement.Del key))) free
+      ∙ ap (λ b. unless_refused (refused_if b XaError.RowLocked Reply.Ok) state
       (record state { rows = with_write key None state.rows })) nobody,
 )
 
@@ -428,31 +413,31 @@ pub free_join : (named : List ℕ → Bool) (free : ℕ → Bool) (whole chosen 
     → IsFreeRequest named free session request
     → (answer_to whole session request ≡ answer_to chosen session request)
     × AreJoined named free (next_state whole session request) (next_state chosen session request) rest
-free_join named free whole chosen rest session (Given (Get key)) joined is =
+free_join named free whole chosen rest session (Request.Statement (Statement.Get key)) joined is =
     let one = free_get whole session key (free_of named free whole session joined.apart is.0) in
     let other = free_get chosen session key
     (free_of named free chosen session (none_apart named free chosen joined.none) is.0) in (
-      ap Replied (one.0 ∙ ap Value (joined.rows key is.1) ∙ sym other.0),
-      subst (λ s. AreJoined named free s (after chosen session (Get key)) rest) (sym one.1)
+      ap Answer.Reply (one.0 ∙ ap Reply.Value (joined.rows key is.1) ∙ sym other.0),
+      subst (λ s. AreJoined named free s (after chosen session (Statement.Get key)) rest) (sym one.1)
           (subst (λ s. AreJoined named free whole s rest) (sym other.1) joined),
     )
-free_join named free whole chosen rest session (Given (Put key value)) joined is =
+free_join named free whole chosen rest session (Request.Statement (Statement.Put key value)) joined is =
     let nothing = free_of named free whole session joined.apart is.0 in
     let one = free_put whole session key value nothing (unheld named free whole key joined.apart is.1) in
     let other = free_put chosen session key value
     (free_of named free chosen session (none_apart named free chosen joined.none) is.0)
     (unheld named free chosen key (none_apart named free chosen joined.none) is.1) in (
-      ap Replied (one.0 ∙ sym other.0),
+      ap Answer.Reply (one.0 ∙ sym other.0),
       join_write named free whole chosen rest _ _ key (Some value) joined one.1 other.1
           (near_put (unnamed named) whole rest session key value joined.near nothing (ap not is.1)),
     )
-free_join named free whole chosen rest session (Given (Del key)) joined is =
+free_join named free whole chosen rest session (Request.Statement (Statement.Del key)) joined is =
     let nothing = free_of named free whole session joined.apart is.0 in
     let one = free_del whole session key nothing (unheld named free whole key joined.apart is.1) in
     let other = free_del chosen session key
     (free_of named free chosen session (none_apart named free chosen joined.none) is.0)
     (unheld named free chosen key (none_apart named free chosen joined.none) is.1) in (
-      ap Replied (one.0 ∙ sym other.0),
+      ap Answer.Reply (one.0 ∙ sym other.0),
       join_write named free whole chosen rest _ _ key None joined one.1 other.1
           (near_del (unnamed named) whole rest session key joined.near nothing (ap not is.1)),
     )
@@ -462,7 +447,7 @@ free_join named free whole chosen rest session request joined is = absurd is
 reads_others : (named : List ℕ → Bool) (free : ℕ → Bool) (session : ℕ) (request : Request)
     → IsOtherRequest named free session request
     → ReadsNamed (unnamed named) request
-reads_others named free session (Given (Get key)) other = ap not other
+reads_others named free session (Request.Statement (Statement.Get key)) other = ap not other
 reads_others named free session request other = tt
 
 -- a request of the other part is answered there as in the whole, and leaves the three states joined (`AreJoined`)

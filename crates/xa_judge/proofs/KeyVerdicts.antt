@@ -10,34 +10,18 @@
 --     part_of                             the configuration of one part
 --     explained_take                      what is explained is explained up to each of its events
 --     illegal_part, legal_before          the verdict on a record by one part's;  what is explained in a legal part
-use Rattle.std.proofs.Common.{◌≡◌, ℕ, ◌+◌, ◌<◌, ◌≤◌, zero, suc, Bool, true, false, Some}
-use Rattle.std.proofs.Common.{List, [], ◌∷◌, Vec, Global}
-use Rattle.std.proofs.Common.{length, take, refl, ap, sym, ◌∙◌, subst, arith, replicate}
-use Rattle.std.specs.Prelude.{slice_get, not}
-use Rattle.std.proofs.Common.{slice_index_or}
-use Rattle.std.proofs.lemmas.Option.{none-some, same_Some}
-use Rattle.std.proofs.lemmas.Bool.{false≢true}
+use Rattle.std.proofs.Common.{◌≡◌, ℕ, ◌+◌, ◌<◌, ◌≤◌, zero, suc, Bool, true, false, Some, List, [], ◌∷◌, Vec, Global}
+use Rattle.std.proofs.Common.{length, take, refl, ap, sym, ◌∙◌, subst, arith, replicate, slice_index_or}
+use Rattle.std.{proofs.lemmas.{Option.{none-some, same_Some}, Bool.false≢true}, specs.Prelude.{slice_get, not}}
 use Rattle.xa_server.specs.State.{State}
-use Rattle.xa_judge.specs.declared.answer.Answer.{Answer}
-use Rattle.xa_judge.specs.declared.event.Seen.{Seen}
-use Rattle.xa_judge.specs.declared.event.Event.{Event}
-use Rattle.xa_judge.specs.declared.event.Event.TheVariants.{Return}
-use Rattle.xa_judge.specs.declared.client_state.ClientState.TheVariants.{Idle}
-use Rattle.xa_judge.specs.declared.moves.Move.{Move}
-use Rattle.xa_judge.specs.declared.moves.Move.TheVariants.{Event as Seeing, Effect}
-use Rattle.xa_judge.specs.declared.verdict.Verdict.{Verdict}
-use Rattle.xa_judge.specs.declared.verdict.Verdict.TheVariants.{Legal as LegalBy, Illegal as IllegalAt}
-use Rattle.xa_judge.specs.declared.turn.Turn.{Turn}
-use Rattle.xa_judge.specs.declared.turn.Turn.TheVariants.{Nobody, Ending}
-use Rattle.xa_judge.specs.Explained.{Config, opening_config, LeadsThrough, Explained}
-use Rattle.xa_judge.specs.Keys.{FitsTurn, first_turns, free_in, IsCut, turns_after, turns_past, picked, count_in}
-use Rattle.xa_judge.specs.Keys.{session_of, HasNoBranch}
-use Rattle.xa_judge.specs.Verdicts.{IsRefuted, CouldBe, AreAllAnswers, IsVerdict}
-use Rattle.xa_judge.proofs.Places.{get_within}
-use Rattle.xa_judge.proofs.Clean.{law_none}
-use Rattle.xa_judge.proofs.KeyStates.{joined_first}
+use Rattle.xa_judge.specs.declared.{answer.Answer.Answer, event.{Seen.Seen, Event.{Event, TheVariants.Return}}}
+use Rattle.xa_judge.specs.declared.{client_state.ClientState.TheVariants.Idle, moves.Move.Move, verdict.Verdict.Verdict}
+use Rattle.xa_judge.specs.declared.turn.Turn.{Turn, TheVariants.{Nobody, Ending}}
+use Rattle.xa_judge.specs.{Explained.{Config, opening_config, LeadsThrough, Explained}, Keys.{FitsTurn, first_turns}}
+use Rattle.xa_judge.specs.Keys.{free_in, IsCut, turns_after, turns_past, picked, count_in, session_of, HasNoBranch}
+use Rattle.xa_judge.{specs.Verdicts.{IsRefuted, CouldBe, AreAllAnswers, IsVerdict}, proofs.Places.get_within}
+use Rattle.xa_judge.proofs.{Clean.law_none, KeyStates.joined_first, KeyRuns.{clients_at, in_parts, whole_of}}
 use Rattle.xa_judge.proofs.KeyClients.{AreClients, AreParts, same_chosen, same_rest}
-use Rattle.xa_judge.proofs.KeyRuns.{clients_at, in_parts, whole_of}
 
 -- ---- before all events
 
@@ -386,14 +370,14 @@ answers_part named base sides events wanted place answers apart cut at other are
 -- moves that lead through events begin with moves that lead through the first `count` of them
 cut_short : (old new : Config) (events : List Event) (count : ℕ) (moves : List Move) → LeadsThrough old events moves new
     → (fewer : List Move) × (end : Config) × LeadsThrough old (take count events) fewer end
-cut_short old new events count (Effect session act ∷ moves) runs =
+cut_short old new events count (Move.Effect session act ∷ moves) runs =
     let rest = cut_short runs.0 new events count moves runs.3 in
-    (Effect session act ∷ rest.0, rest.1, (runs.0, runs.1, runs.2, rest.2))
-cut_short old new [] count (Seeing ∷ moves) runs = absurd runs
-cut_short old new (event ∷ events) zero (Seeing ∷ moves) runs = ([], old, refl)
-cut_short old new (event ∷ events) (suc count) (Seeing ∷ moves) runs =
+    (Move.Effect session act ∷ rest.0, rest.1, (runs.0, runs.1, runs.2, rest.2))
+cut_short old new [] count (Move.Event ∷ moves) runs = absurd runs
+cut_short old new (event ∷ events) zero (Move.Event ∷ moves) runs = ([], old, refl)
+cut_short old new (event ∷ events) (suc count) (Move.Event ∷ moves) runs =
     let rest = cut_short runs.0 new events count moves runs.2 in
-    (Seeing ∷ rest.0, rest.1, (runs.0, runs.1, rest.2))
+    (Move.Event ∷ rest.0, rest.1, (runs.0, runs.1, rest.2))
 cut_short old new [] zero [] runs = ([], old, refl)
 cut_short old new [] (suc count) [] runs = ([], old, refl)
 cut_short old new (event ∷ events) count [] runs = absurd runs
@@ -419,9 +403,9 @@ pub illegal_part : (named : List ℕ → Bool) (base : State) (sides : List Bool
     → slice_get sides place ≡ Some wanted
     → count_in wanted (take place sides) ≡ index
     → count_in (not wanted) (take place sides) ≤ explained
-    → IsVerdict base (picked wanted sides events) limit (IllegalAt index answers)
+    → IsVerdict base (picked wanted sides events) limit (Verdict.Illegal index answers)
     → Explained base (take explained (picked (not wanted) sides events))
-    → IsVerdict base events limit (IllegalAt place answers)
+    → IsVerdict base events limit (Verdict.Illegal place answers)
 illegal_part named base sides events wanted index place explained limit answers none cut at count few is other =
     let beside : Explained base (picked (not wanted) (take place sides) (take place events)) =
     subst (Explained base) (sym (picked_take (not wanted) place sides events))
@@ -437,7 +421,7 @@ illegal_part named base sides events wanted index place explained limit answers 
 
 -- events with the verdict LEGAL are explained up to each of them
 pub legal_before : (base : State) (events : List Event) (limit count : ℕ) (moves : Vec Move Global) (verdict : Verdict)
-    → IsVerdict base events limit verdict → verdict ≡ LegalBy moves
+    → IsVerdict base events limit verdict → verdict ≡ Verdict.Legal moves
     → Explained base (take count events)
 legal_before base events limit count moves verdict right is =
     let told = subst (IsVerdict base events limit) is right in

@@ -7,25 +7,16 @@
 --     counted_of_more             what counts if some are kept counts if more are
 --     opens_kept, kept_on      all of a list may be kept before all events;  after one event more
 use Rattle.std.proofs.Common.{◌≡◌, ◌≢◌, ◌⊎◌, ℕ, ◌+◌, ◌<◌, suc, Option, Some, List, [], ◌∷◌, ◌++◌, length, get_or, true}
-use Rattle.std.proofs.Common.{false, refl, ap, sym, ◌∙◌, subst, inl, inr, arith}
-use Rattle.std.specs.Prelude.{slice_get}
-use Rattle.std.specs.Option.{option_map}
+use Rattle.std.{proofs.Common.{false, refl, ap, sym, ◌∙◌, subst, inl, inr, arith}, specs.Option.option_map}
+use Rattle.std.{proofs.lemmas.{Option.{same_Some, slice_get_read}, Bool.cases_lt}, specs.Prelude.slice_get}
 use Rattle.std.specs.List.{Contains}
-use Rattle.std.proofs.lemmas.Option.{same_Some, slice_get_read}
-use Rattle.std.proofs.lemmas.Bool.{cases_lt}
 use Rattle.xa_server.specs.State.{State}
-use Rattle.xa_judge.specs.declared.event.Event.{Event}
-use Rattle.xa_judge.specs.declared.event.Event.TheVariants.{Call, Return, Lost, Unknown}
-use Rattle.xa_judge.specs.declared.moves.Act.{Act}
-use Rattle.xa_judge.specs.declared.configuration.Configuration.{Configuration}
-use Rattle.xa_judge.specs.Explained.{Config, effect_of, IsSession}
-use Rattle.xa_judge.specs.Late.{after_settling, has_unheard, is_over, IsReachedFrom, at_once, by_act}
-use Rattle.xa_judge.specs.Late.{IsAnyUnheard, Widens, IsCounted, IsReady, IsKeptAfter, IsKept}
-use Rattle.xa_judge.specs.Found.{config_of, Has, IsShortened, AddsUnlessThere, IsSeenAdded, IsOpening}
-use Rattle.xa_judge.specs.Found.{AddsOnly, IsSettledIn, IsSeenIn}
-use Rattle.xa_judge.proofs.Places.{get_within, place_mapped}
-use Rattle.xa_judge.proofs.Growth.{has_more}
-use Rattle.xa_judge.proofs.Loops.{has_last, has_pushed}
+use Rattle.xa_judge.specs.declared.{event.Event.{Event, TheVariants.{Call, Return, Lost, Unknown}}, moves.Act.Act}
+use Rattle.xa_judge.specs.{declared.configuration.Configuration.Configuration, Explained.{Config, effect_of, IsSession}}
+use Rattle.xa_judge.specs.Late.{after_settling, has_unheard, is_over, IsReachedFrom, at_once, by_act, IsAnyUnheard}
+use Rattle.xa_judge.specs.{Late.{Widens, IsCounted, IsReady, IsKeptAfter, IsKept}, Found.{config_of, Has, IsShortened}}
+use Rattle.xa_judge.specs.Found.{AddsUnlessThere, IsSeenAdded, IsOpening, AddsOnly, IsSettledIn, IsSeenIn}
+use Rattle.xa_judge.proofs.{Places.{get_within, place_mapped}, Growth.has_more, Loops.{has_last, has_pushed}}
 
 -- an empty list has nothing
 has_none : (c : Config) → Has [] c → ⊥

@@ -8,33 +8,19 @@
 --     none_left                         a list of length 0 is empty
 use Rattle.std.proofs.Common.{◌≡◌, ◌≢◌, ◌==◌, ℕ, ◌+◌, ◌<◌, zero, suc, true, cond, Some, None, List, [], ◌∷◌, ◌++◌}
 use Rattle.std.proofs.Common.{length, set, take, get_or, refl, ap, sym, ◌∙◌, subst, inl, inr, arith, append_assoc}
-use Rattle.std.proofs.Common.{length-append}
-use Rattle.std.proofs.lemmas.Grind.{common_steps}
+use Rattle.std.proofs.{Common.length-append, lemmas.{Grind.common_steps, Option.{none-some, same_Some, cond_some}}}
+use Rattle.std.proofs.{lemmas.List.{set-set, get_or-replicate, length-replicate}, Math.Seq.take-append-add}
 use Rattle.std.specs.Prelude.{slice_get, replicate}
-use Rattle.std.proofs.Math.Seq.{take-append-add}
-use Rattle.std.proofs.lemmas.Option.{none-some, same_Some, cond_some}
-use Rattle.std.proofs.lemmas.List.{set-set, get_or-replicate, length-replicate}
 use Rattle.xa_server.specs.State.{State}
-use Rattle.xa_judge.specs.declared.request.Request.{Request}
-use Rattle.xa_judge.specs.declared.answer.Answer.{Answer}
-use Rattle.xa_judge.specs.declared.event.Seen.{Seen}
-use Rattle.xa_judge.specs.declared.event.Event.{Event}
-use Rattle.xa_judge.specs.declared.event.Event.TheVariants.{Call, Return}
-use Rattle.xa_judge.specs.declared.client_state.ClientState.{ClientState}
-use Rattle.xa_judge.specs.declared.client_state.ClientState.TheVariants.{Idle, Called, Answered}
-use Rattle.xa_judge.specs.declared.moves.Act.{Act}
-use Rattle.xa_judge.specs.declared.moves.Act.TheVariants.{Statement, Disconnect}
-use Rattle.xa_judge.specs.declared.moves.Move.{Move}
-use Rattle.xa_judge.specs.declared.moves.Move.TheVariants.{Event as Seeing, Effect}
-use Rattle.xa_judge.specs.Explained.{Config, opening_config, with_client, effect_of, carried_out, disconnected}
-use Rattle.xa_judge.specs.Explained.{observed, called, returned, shows_answer, answer_to}
-use Rattle.xa_judge.specs.Explained.{next_state, LeadsThrough, Explained, IsSession}
-use Rattle.xa_judge.specs.Late.{called_for}
-use Rattle.xa_judge.specs.Near.{IsLoadedTo}
-use Rattle.xa_judge.specs.Verdicts.{IsRefuted, CouldBe, AreAllAnswers}
-use Rattle.xa_judge.proofs.Places.{same_number, stands_at, get_written, get_apart}
-use Rattle.xa_judge.proofs.Steps.{effect_leads, event_leads}
-use Rattle.xa_judge.proofs.Waits.{effect_called}
+use Rattle.xa_judge.specs.declared.{request.Request.Request, answer.Answer.Answer, event.{Seen.Seen, Event.Event}}
+use Rattle.xa_judge.specs.declared.{event.Event.TheVariants.{Call, Return}, client_state.ClientState.ClientState}
+use Rattle.xa_judge.specs.declared.{client_state.ClientState.TheVariants.{Idle, Called, Answered}, moves.Act.Act}
+use Rattle.xa_judge.specs.{declared.moves.Move.{Move, TheVariants.{Event as Seeing, Effect}}, Explained.Config}
+use Rattle.xa_judge.specs.Explained.{opening_config, with_client, effect_of, carried_out, disconnected, observed}
+use Rattle.xa_judge.specs.Explained.{called, returned, shows_answer, answer_to, next_state, LeadsThrough, Explained}
+use Rattle.xa_judge.specs.{Explained.IsSession, Late.called_for, Near.IsLoadedTo}
+use Rattle.xa_judge.{specs.Verdicts.{IsRefuted, CouldBe, AreAllAnswers}, proofs.Waits.effect_called}
+use Rattle.xa_judge.proofs.{Places.{same_number, stands_at, get_written, get_apart}, Steps.{effect_leads, event_leads}}
 
 -- moves through some events and moves through more are moves through all
 pub leads_append : (old mid end : Config) (events more : List Event) (moves later : List Move)
@@ -94,9 +80,9 @@ alone_written clients session old new alone = record {
 idle_rests : (config new : Config) (session : ℕ) (act : Act) → slice_get config.clients session ≡ Some Idle
     → effect_of config session act ≡ Some new → ⊥
 unfolding effect_of carried_out disconnected
-idle_rests config new session Statement found is =
+idle_rests config new session Act.Statement found is =
     none-some new (sym (ap (λ o. carried_out o config session) found) ∙ is)
-idle_rests config new session Disconnect found is =
+idle_rests config new session Act.Disconnect found is =
     none-some new (sym (ap (λ o. disconnected o config session) found) ∙ is)
 
 -- no act of a session that has its answer can take effect
@@ -104,15 +90,15 @@ answered_rests : (config new : Config) (session : ℕ) (act : Act) (answer : Ans
     → slice_get config.clients session ≡ Some (Answered answer)
     → effect_of config session act ≡ Some new → ⊥
 unfolding effect_of carried_out disconnected
-answered_rests config new session Statement answer found is =
+answered_rests config new session Act.Statement answer found is =
     none-some new (sym (ap (λ o. carried_out o config session) found) ∙ is)
-answered_rests config new session Disconnect answer found is =
+answered_rests config new session Act.Disconnect answer found is =
     none-some new (sym (ap (λ o. disconnected o config session) found) ∙ is)
 
 -- the DISCONNECT of a session that has called and isn't answered can't take effect
 called_stays : (config new : Config) (session : ℕ) (request : Request)
     → slice_get config.clients session ≡ Some (Called request)
-    → effect_of config session Disconnect ≡ Some new → ⊥
+    → effect_of config session Act.Disconnect ≡ Some new → ⊥
 unfolding effect_of disconnected
 called_stays config new session request found is =
     none-some new (sym (ap (λ o. disconnected o config session) found) ∙ is)
@@ -161,7 +147,7 @@ answered_config config session request =
 -- the request of a session that has called can take effect
 called_acts : (config : Config) (session : ℕ) (request : Request)
     → slice_get config.clients session ≡ Some (Called request)
-    → effect_of config session Statement ≡ Some (answered_config config session request)
+    → effect_of config session Act.Statement ≡ Some (answered_config config session request)
 called_acts config session request found = effect_called config session request (ap called_for found)
 
 -- if all sessions are idle and the next event is a call, orders go on from the configuration in which it is open
@@ -186,25 +172,25 @@ effect_then : (old end : Config) (session : ℕ) (request : Request) (seen : See
     → IsAlone old.clients session (Called request)
     → LeadsThrough old (Return session seen ∷ rest) all end
     → (later : List Move) × LeadsThrough (answered_config old session request) (Return session seen ∷ rest) later end
-effect_then old end session request seen rest (Effect other Statement ∷ moves) alone runs =
+effect_then old end session request seen rest (Effect other Act.Statement ∷ moves) alone runs =
     elim (same_number other session) [
       | inl e ↦
           let is : IsSession session = subst IsSession e runs.1 in
-          let acts : effect_of old session Statement ≡ Some runs.0 =
-          subst (λ n. effect_of old n Statement ≡ Some runs.0) e runs.2 in
-          let first : LeadsThrough old (Return session seen ∷ rest) (Effect session Statement ∷ moves) end =
+          let acts : effect_of old session Act.Statement ≡ Some runs.0 =
+          subst (λ n. effect_of old n Act.Statement ≡ Some runs.0) e runs.2 in
+          let first : LeadsThrough old (Return session seen ∷ rest) (Effect session Act.Statement ∷ moves) end =
           (runs.0, is, acts, runs.3) in (
             moves,
-            (effect_leads old (answered_config old session request) session Statement
+            (effect_leads old (answered_config old session request) session Act.Statement
                 (Return session seen ∷ rest) moves end is
                 (called_acts old session request alone.here)).0 first,
           )
-      | inr apart ↦ absurd (idle_rests old runs.0 other Statement (alone.others other runs.1 apart) runs.2)
+      | inr apart ↦ absurd (idle_rests old runs.0 other Act.Statement (alone.others other runs.1 apart) runs.2)
     ]
-effect_then old end session request seen rest (Effect other Disconnect ∷ moves) alone runs =
+effect_then old end session request seen rest (Effect other Act.Disconnect ∷ moves) alone runs =
     elim (same_number other session) [
       | inl e ↦ absurd (called_stays old runs.0 other request (ap (slice_get old.clients) e ∙ alone.here) runs.2)
-      | inr apart ↦ absurd (idle_rests old runs.0 other Disconnect (alone.others other runs.1 apart) runs.2)
+      | inr apart ↦ absurd (idle_rests old runs.0 other Act.Disconnect (alone.others other runs.1 apart) runs.2)
     ]
 effect_then old end session request seen rest (Seeing ∷ moves) alone runs =
     absurd (called_open old runs.0 session request seen alone.here runs.1)
@@ -248,7 +234,7 @@ idle_again state next session one two is =
 pub alone_leads : (state : State) (session : ℕ) (request : Request) (seen : Seen) → IsSession session
     → shows_answer seen (answer_to state session request) ≡ true
     → LeadsThrough (opening_config state) (Call session request ∷ Return session seen ∷ [])
-    (Seeing ∷ Effect session Statement ∷ Seeing ∷ [])
+    (Seeing ∷ Effect session Act.Statement ∷ Seeing ∷ [])
     (opening_config (next_state state session request))
 unfolding opening_config
 alone_leads state session request seen is shows =
@@ -299,11 +285,11 @@ pub loaded_more : (base full : State) (events : List Event) (session : ℕ) (req
     → shows_answer seen (answer_to full session request) ≡ true
     → IsLoadedTo base (events ++ Call session request ∷ Return session seen ∷ []) (next_state full session request)
 loaded_more base full events session request seen is loaded shows = record {
-  moves = loaded.moves ++ Seeing ∷ Effect session Statement ∷ Seeing ∷ [];
+  moves = loaded.moves ++ Seeing ∷ Effect session Act.Statement ∷ Seeing ∷ [];
   leads = leads_append (opening_config base) (opening_config full)
       (opening_config (next_state full session request)) events
       (Call session request ∷ Return session seen ∷ []) loaded.moves
-      (Seeing ∷ Effect session Statement ∷ Seeing ∷ []) loaded.leads
+      (Seeing ∷ Effect session Act.Statement ∷ Seeing ∷ []) loaded.leads
       (alone_leads full session request seen is shows);
   only = λ more all end runs.
       let parts : (events ++ Call session request ∷ Return session seen ∷ []) ++ more ≡ events

@@ -10,34 +10,18 @@
 --     others_more, closed_more          what acts of sessions up to one lead to is there;  from each place up to one
 --     contained_more, contained_end     elements that are taken up one after another
 use Rattle.std.proofs.Common.{◌≡◌, ◌≢◌, ◌⊎◌, ℕ, ◌+◌, ◌<◌, ◌≤◌, take, Option, Some, None, List, [], ◌∷◌, ◌++◌, length}
-use Rattle.std.proofs.Common.{get_or, refl}
-use Rattle.std.proofs.Common.{ap, sym, ◌∙◌, subst, inl, inr, arith}
-use Rattle.std.specs.Prelude.{slice_get, IfSome}
-use Rattle.std.specs.Option.{option_map}
-use Rattle.std.specs.List.{All, Contains}
-use Rattle.std.proofs.lemmas.Option.{same_Some, none-some, slice_get_read}
-use Rattle.std.proofs.lemmas.Bool.{cases_lt}
-use Rattle.std.proofs.lemmas.List.{take_more, take_all}
+use Rattle.std.{proofs.Common.{get_or, refl, ap, sym, ◌∙◌, subst, inl, inr, arith}, specs.Prelude.{slice_get, IfSome}}
+use Rattle.std.proofs.lemmas.{Option.{same_Some, none-some, slice_get_read}, Bool.cases_lt, List.{take_more, take_all}}
 use Rattle.std.proofs.lemmas.List.Elements.{All-push, All-pop, Contains-append_left, Contains-push, Contains-push_cases}
+use Rattle.std.specs.{Option.option_map, List.{All, Contains}}
 use Rattle.xa_server.specs.State.{State}
-use Rattle.xa_judge.specs.declared.answer.Answer.{Answer}
-use Rattle.xa_judge.specs.declared.client_state.ClientState.{ClientState}
-use Rattle.xa_judge.specs.declared.client_state.ClientState.TheVariants.{Idle, Called, Answered, Gone, Left}
-use Rattle.xa_judge.specs.declared.event.Event.{Event}
-use Rattle.xa_judge.specs.declared.moves.Act.{Act}
-use Rattle.xa_judge.specs.declared.moves.Act.TheVariants.{Statement, Disconnect}
-use Rattle.xa_judge.specs.declared.moves.Move.{Move}
-use Rattle.xa_judge.specs.declared.moves.Move.TheVariants.{Effect}
-use Rattle.xa_judge.specs.declared.configuration.Configuration.{Configuration}
-use Rattle.xa_judge.specs.Explained.{Config, effect_of, observed, IsSession}
-use Rattle.xa_judge.specs.Late.{after_settling}
-use Rattle.xa_judge.specs.Found.{config_of, configs, Has, Reaches, Grows, AddsUnlessThere}
-use Rattle.xa_judge.specs.Found.{IsSettledFrom, IsSeenAdded, IsAnsweredIn}
-use Rattle.xa_judge.specs.Found.{IsAnswerAdded}
-use Rattle.xa_judge.specs.Found.{IsExpandedBelow, IsClosedBelow}
-use Rattle.xa_judge.proofs.Places.{map_append, get_within, place_mapped}
-use Rattle.xa_judge.proofs.Growth.{has_still, has_added, has_kept, still_there, all_added, reaches_effect}
-use Rattle.xa_judge.proofs.Growth.{reaches_event, grows_added}
+use Rattle.xa_judge.specs.declared.{answer.Answer.Answer, client_state.ClientState.ClientState, event.Event.Event}
+use Rattle.xa_judge.specs.declared.{moves.{Act.Act, Move.Move}, configuration.Configuration.Configuration}
+use Rattle.xa_judge.specs.{Explained.{Config, effect_of, observed, IsSession}, Late.after_settling, Found.config_of}
+use Rattle.xa_judge.specs.Found.{configs, Has, Reaches, Grows, AddsUnlessThere, IsSettledFrom, IsSeenAdded}
+use Rattle.xa_judge.specs.Found.{IsAnsweredIn, IsAnswerAdded, IsExpandedBelow, IsClosedBelow}
+use Rattle.xa_judge.proofs.{Places.{map_append, get_within, place_mapped}, Growth.{has_still, has_added, has_kept}}
+use Rattle.xa_judge.proofs.Growth.{still_there, all_added, reaches_effect, reaches_event, grows_added}
 
 -- in a loop over a list: if the events lead to all of it, they lead to what is left and to what was made of the rest
 abbrev pub KeepsReachBoth : List Configuration → List Configuration → List Configuration → Type 0
@@ -98,7 +82,7 @@ reaches_settled : (base : State) (events : List Event) (trunk : List Move) (sess
     → Reaches base events trunk one → Reaches base events trunk next
 reaches_settled base events trunk session one next (inl same) reach = subst (Reaches base events trunk) (sym same) reach
 reaches_settled base events trunk session one next (inr effect) reach =
-    reaches_effect base events trunk one next session Statement reach effect.0 effect.1 effect.2
+    reaches_effect base events trunk one next session Act.Statement reach effect.0 effect.1 effect.2
 
 -- one round of the loop that settles: if the events lead to what is left and to what was made (`KeepsReachBoth`),
 -- they still do once the last one was taken off and its settled one put behind the list
@@ -158,7 +142,7 @@ sees_reach event first known rest list new one parts (inr some) reach = λ base 
 abbrev pub HasAnswersBefore : ℕ → List Configuration → ℕ → List Answer → Type 0
 HasAnswersBefore count known session answers =
     (place : ℕ) (one : Configuration) (answer : Answer) → place < count → slice_get known place ≡ Some one
-    → slice_get one.clients.items session ≡ Some (Answered answer) → Contains answers answer
+    → slice_get one.clients.items session ≡ Some (ClientState.Answered answer) → Contains answers answer
 
 -- one round of a loop that takes up a session's answers: each of the list is one that the session has in some
 -- configuration, also once the one at this place was added
@@ -171,9 +155,9 @@ answers_step known place session one old new within at added all = by (slice_get
     by : (o : Option ClientState) → slice_get one.clients.items session ≡ o → IsAnswerAdded o old new
         → All (IsAnsweredIn known session) new
     by None is same = subst (λ l. All (IsAnsweredIn known session) l) (sym same) all
-    by (Some Idle) is same = subst (λ l. All (IsAnsweredIn known session) l) (sym same) all
-    by (Some (Called request)) is same = subst (λ l. All (IsAnsweredIn known session) l) (sym same) all
-    by (Some (Answered answer)) is more =
+    by (Some ClientState.Idle) is same = subst (λ l. All (IsAnsweredIn known session) l) (sym same) all
+    by (Some (ClientState.Called request)) is same = subst (λ l. All (IsAnsweredIn known session) l) (sym same) all
+    by (Some (ClientState.Answered answer)) is more =
         subst (λ l. All (IsAnsweredIn known session) l) (sym more)
         (All-push (IsAnsweredIn known session) old answer all
         (record {
@@ -181,8 +165,8 @@ answers_step known place session one old new within at added all = by (slice_get
           has = place_mapped config_of known place one (slice_get_read known (length known) place one refl within at);
           stands = is;
         }))
-    by (Some (Gone request)) is same = subst (λ l. All (IsAnsweredIn known session) l) (sym same) all
-    by (Some Left) is same = subst (λ l. All (IsAnsweredIn known session) l) (sym same) all
+    by (Some (ClientState.Gone request)) is same = subst (λ l. All (IsAnsweredIn known session) l) (sym same) all
+    by (Some ClientState.Left) is same = subst (λ l. All (IsAnsweredIn known session) l) (sym same) all
 
 -- one round of a loop that takes up a session's answers: a list with each one that the session has before a place has
 -- each one up to it, once the answer there was added
@@ -197,7 +181,7 @@ answers_more known place session one old new within at added before k other answ
           let here : slice_get known place ≡ Some one = slice_get_read known (length known) place one refl within at in
           let same : k ≡ place = omega (arith, below, more) in
           let is : one ≡ other = same_Some one other (sym here ∙ ap (slice_get known) (sym same) ∙ found) in
-          let there : slice_get one.clients.items session ≡ Some (Answered answer) =
+          let there : slice_get one.clients.items session ≡ Some (ClientState.Answered answer) =
           ap (λ (c : Configuration). slice_get c.clients.items session) is ∙ stands in
           let pushed : new ≡ old ++ answer ∷ [] = subst (λ o. IsAnswerAdded o old new) there added in
           subst (λ l. Contains l answer) (sym pushed) (Contains-push old answer)
@@ -205,12 +189,12 @@ answers_more known place session one old new within at added before k other answ
   where
     kept : (o : Option ClientState) → IsAnswerAdded o old new → Contains old answer → Contains new answer
     kept None same has = subst (λ l. Contains l answer) (sym same) has
-    kept (Some Idle) same has = subst (λ l. Contains l answer) (sym same) has
-    kept (Some (Called request)) same has = subst (λ l. Contains l answer) (sym same) has
-    kept (Some (Answered last)) more has =
+    kept (Some ClientState.Idle) same has = subst (λ l. Contains l answer) (sym same) has
+    kept (Some (ClientState.Called request)) same has = subst (λ l. Contains l answer) (sym same) has
+    kept (Some (ClientState.Answered last)) more has =
         subst (λ l. Contains l answer) (sym more) (Contains-append_left old (last ∷ []) answer has)
-    kept (Some (Gone request)) same has = subst (λ l. Contains l answer) (sym same) has
-    kept (Some Left) same has = subst (λ l. Contains l answer) (sym same) has
+    kept (Some (ClientState.Gone request)) same has = subst (λ l. Contains l answer) (sym same) has
+    kept (Some ClientState.Left) same has = subst (λ l. Contains l answer) (sym same) has
 
 -- a list that has what acts lead to from each place before one (`IsClosedBelow`) has it from each place up to that
 -- one, once it has what they lead to from there
@@ -236,14 +220,14 @@ pub effect_added : (old new : List Configuration) (place : ℕ) (one next : Conf
     (session : ℕ) (act : Act)
     → slice_get old place ≡ Some one → IsSession session
     → option_map config_of found ≡ effect_of (config_of one) session act
-    → IfSome found (λ n. n.path ≡ one.path ++ Effect session act ∷ [])
+    → IfSome found (λ n. n.path ≡ one.path ++ Move.Effect session act ∷ [])
     → found ≡ Some next → AddsUnlessThere old next new
     → Grows old new × ((other : Configuration) (config : Config) → slice_get old place ≡ Some other
     → effect_of (config_of other) session act ≡ Some config
     → Has new config)
 effect_added old new place one next found session act at is effect path some added = (
   grows_added old new place one next session act at is led
-      (subst (λ o. IfSome o (λ n. n.path ≡ one.path ++ Effect session act ∷ [])) some path) added,
+      (subst (λ o. IfSome o (λ n. n.path ≡ one.path ++ Move.Effect session act ∷ [])) some path) added,
   λ other config there leads.
       let same : one ≡ other = same_Some one other (sym at ∙ there) in
       subst (λ d. Has new d) (same_Some (config_of next) config
@@ -258,15 +242,15 @@ effect_added old new place one next found session act at is effect path some add
 -- does, it has what each of its acts leads to
 pub effects_added : (old mid new : List Configuration) (place session : ℕ) → Grows old mid → Grows mid new
     → ((one : Configuration) (config : Config) → slice_get old place ≡ Some one
-    → effect_of (config_of one) session Statement ≡ Some config → Has mid config)
+    → effect_of (config_of one) session Act.Statement ≡ Some config → Has mid config)
     → ((one : Configuration) (config : Config) → slice_get mid place ≡ Some one
-    → effect_of (config_of one) session Disconnect ≡ Some config → Has new config)
+    → effect_of (config_of one) session Act.Disconnect ≡ Some config → Has new config)
     → (one : Configuration) (act : Act) (config : Config) → slice_get old place ≡ Some one
     → effect_of (config_of one) session act ≡ Some config
     → Has new config
-effects_added old mid new place session first second has then one Statement config at leads =
+effects_added old mid new place session first second has then one Act.Statement config at leads =
     has_still mid new config second (has one config at leads)
-effects_added old mid new place session first second has then one Disconnect config at leads =
+effects_added old mid new place session first second has then one Act.Disconnect config at leads =
     then one config (still_there old mid place one first at) leads
 
 -- one round of the loop over sessions: a list that has what acts of sessions below a number lead to from a

@@ -5,31 +5,19 @@
 --     near_run                    where moves lead on from one they lead on from the other
 --     near_opening                before all events, configurations on near states are near
 use Rattle.std.proofs.Common.{◌≡◌, ℕ, Bool, cond, Option, Some, None, List, [], ◌∷◌, replicate, set, zero, suc, refl}
-use Rattle.std.proofs.Common.{ap, sym, ◌∙◌, subst, inl, inr}
-use Rattle.std.specs.Prelude.{slice_get}
-use Rattle.std.specs.List.{All, AllByRecursion}
-use Rattle.std.proofs.lemmas.Option.{none-some, same_Some, cond_some}
-use Rattle.std.proofs.lemmas.List.Elements.{recursion_from_All}
+use Rattle.std.proofs.{Common.{ap, sym, ◌∙◌, subst, inl, inr}, lemmas.Option.{none-some, same_Some, cond_some}}
+use Rattle.std.{proofs.lemmas.List.Elements.recursion_from_All, specs.{Prelude.slice_get, List.{All, AllByRecursion}}}
 use Rattle.xa_xid.specs.declared.statement.Statement.TheVariants.{Disconnect as DisconnectGiven}
-use Rattle.xa_server.specs.State.{State}
-use Rattle.xa_server.specs.Step.{after}
-use Rattle.xa_judge.specs.declared.request.Request.{Request}
-use Rattle.xa_judge.specs.declared.event.Seen.{Seen}
-use Rattle.xa_judge.specs.declared.event.Event.{Event}
+use Rattle.xa_server.specs.{State.State, Step.after}
+use Rattle.xa_judge.specs.declared.{request.Request.Request, event.{Seen.Seen, Event.Event}}
 use Rattle.xa_judge.specs.declared.event.Event.TheVariants.{Call, Return, Lost, Unknown}
-use Rattle.xa_judge.specs.declared.client_state.ClientState.{ClientState}
+use Rattle.xa_judge.specs.declared.{client_state.ClientState.ClientState, moves.{Act.Act, Move.Move}}
 use Rattle.xa_judge.specs.declared.client_state.ClientState.TheVariants.{Idle, Called, Answered, Gone, Left}
-use Rattle.xa_judge.specs.declared.moves.Act.{Act}
-use Rattle.xa_judge.specs.declared.moves.Act.TheVariants.{Statement, Disconnect}
-use Rattle.xa_judge.specs.declared.moves.Move.{Move}
-use Rattle.xa_judge.specs.declared.moves.Move.TheVariants.{Event as Seeing, Effect}
 use Rattle.xa_judge.specs.Explained.{Config, opening_config, with_client, effect_of, carried_out, disconnected}
-use Rattle.xa_judge.specs.Explained.{observed, called, returned, lost, answered_unknown}
-use Rattle.xa_judge.specs.Explained.{shows_answer, answer_to, next_state, LeadsThrough}
-use Rattle.xa_judge.specs.Near.{AreNear, ReadsNamed, CallsNamed}
-use Rattle.xa_judge.proofs.NearStates.{near_answer, near_next, near_after}
+use Rattle.xa_judge.specs.Explained.{observed, called, returned, lost, answered_unknown, shows_answer, answer_to}
+use Rattle.xa_judge.specs.{Explained.{next_state, LeadsThrough}, Near.{AreNear, ReadsNamed, CallsNamed}}
+use Rattle.xa_judge.{specs.Keys.session_of, proofs.NearStates.{near_answer, near_next, near_after}}
 use Rattle.xa_judge.proofs.Places.{same_number, get_written, get_apart}
-use Rattle.xa_judge.specs.Keys.{session_of}
 
 -- the session's open request reads only named rows, if it has one; its client may be gone
 abbrev pub WaitsNamed : (List ℕ → Bool) → ClientState → Type 0
@@ -97,7 +85,7 @@ near_statement : (named : List ℕ → Bool) (o : Option ClientState) (left righ
     → AreNearConfigs named left right
     → slice_get left.clients session ≡ o
     → carried_out o left session ≡ Some mid
-    → EffectToo named right mid session Statement
+    → EffectToo named right mid session Act.Statement
 unfolding effect_of carried_out
 near_statement named None left right mid session near found is = absurd (none-some mid is)
 near_statement named (Some Idle) left right mid session near found is = absurd (none-some mid is)
@@ -136,7 +124,7 @@ near_disconnect : (named : List ℕ → Bool) (o : Option ClientState) (left rig
     → AreNearConfigs named left right
     → slice_get left.clients session ≡ o
     → disconnected o left session ≡ Some mid
-    → EffectToo named right mid session Disconnect
+    → EffectToo named right mid session Act.Disconnect
 unfolding effect_of disconnected
 near_disconnect named None left right mid session near found is = absurd (none-some mid is)
 near_disconnect named (Some Idle) left right mid session near found is = absurd (none-some mid is)
@@ -160,9 +148,9 @@ pub near_effect : (named : List ℕ → Bool) (left right mid : Config) (session
     → effect_of left session act ≡ Some mid
     → (other : Config) × (effect_of right session act ≡ Some other) × AreNearConfigs named mid other
 unfolding effect_of
-near_effect named left right mid session Statement near is =
+near_effect named left right mid session Act.Statement near is =
     near_statement named (slice_get left.clients session) left right mid session near refl is
-near_effect named left right mid session Disconnect near is =
+near_effect named left right mid session Act.Disconnect near is =
     near_disconnect named (slice_get left.clients session) left right mid session near refl is
 
 -- an event that makes the same of its session's client in two near configurations leads to near ones, if that
@@ -287,12 +275,12 @@ run_too : (named : List ℕ → Bool) (events : List Event) (moves : List Move) 
     → AllByRecursion (CallsNamed named) events
     → LeadsThrough left events moves end
     → (other : Config) × LeadsThrough right events moves other × AreNearConfigs named end other
-run_too named events (Effect session act ∷ moves) left right end near all runs =
+run_too named events (Move.Effect session act ∷ moves) left right end near all runs =
     let one = near_effect named left right runs.0 session act near runs.2 in
     let rest = run_too named events moves runs.0 one.0 end one.2 all runs.3 in
     (rest.0, (one.0, runs.1, one.1, rest.1), rest.2)
-run_too named [] (Seeing ∷ moves) left right end near all runs = absurd runs
-run_too named (event ∷ events) (Seeing ∷ moves) left right end near all runs =
+run_too named [] (Move.Event ∷ moves) left right end near all runs = absurd runs
+run_too named (event ∷ events) (Move.Event ∷ moves) left right end near all runs =
     let one = near_event named left right runs.0 event near all.0 runs.1 in
     let rest = run_too named events moves runs.0 one.0 end one.2 all.1 runs.2 in
     (rest.0, (one.0, one.1, rest.1), rest.2)

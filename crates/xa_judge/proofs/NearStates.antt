@@ -5,39 +5,24 @@
 --     near_refl, near_sym       a state is near itself;  and near states are so in either order
 --     free_told                 a session that has nothing open, by the refusal of its XA END
 use Rattle.std.proofs.Common.{◌≡◌, ℕ, List, [], ◌∷◌, refl, ap, sym, ◌∙◌, subst, Bool, true, false, inl, inr}
-use Rattle.std.specs.Prelude.{Option, Some, None, cond}
-use Rattle.std.specs.Option.{option_map_or, unwrap_or}
-use Rattle.std.specs.Ordering.{eq_by_cmp}
-use Rattle.std.specs.FinMap as map
+use Rattle.std.specs.{Prelude.{Option, Some, None, cond}, Option.{option_map_or, unwrap_or}, Ordering.eq_by_cmp}
 use Rattle.std.specs.FinMap.{get-insert, get-remove}
 use mathlib.Core.Bool.{true≢false}
-use Rattle.xa_xid.specs.declared.xid.Xid.{Xid}
-use Rattle.xa_xid.specs.Xid.{Text, bytes_cmp, xid_cmp, same_xid}
+use Rattle.xa_xid.specs.declared.{xid.Xid.Xid, statement.Statement.{Statement, TheVariants.{Start, End, Prepare}}}
+use Rattle.xa_xid.specs.declared.statement.Statement.TheVariants.{Commit, Rollback, Recover, Unsupported, Get, Put, Del}
+use Rattle.xa_xid.specs.{declared.statement.Statement.TheVariants.Disconnect, Xid.{Text, bytes_cmp, xid_cmp, same_xid}}
 use Rattle.xa_xid.proofs.Orders.{bytes_total, exact_texts}
-use Rattle.xa_xid.specs.declared.statement.Statement.{Statement}
-use Rattle.xa_xid.specs.declared.statement.Statement.TheVariants.{Start, End, Prepare, Commit, Rollback, Recover}
-use Rattle.xa_xid.specs.declared.statement.Statement.TheVariants.{Unsupported, Get, Put, Del, Disconnect}
 use Rattle.xa_server.specs.declared.branch.Phase.TheVariants.{Idle as PhaseIdle, Prepared as PhasePrepared}
-use Rattle.xa_server.specs.declared.reply.Reply.{Reply}
-use Rattle.xa_server.specs.declared.reply.Reply.TheVariants.{Ok as Accepted, Value, Recovered, Refused}
-use Rattle.xa_server.specs.declared.xa_error.XaError.{XaError}
-use Rattle.xa_server.specs.declared.xa_error.XaError.TheVariants.{Nota, Rmfail, RowLocked}
-use Rattle.xa_server.specs.declared.xa_error.BranchState.TheVariants.{NonExisting}
-use Rattle.xa_server.specs.declared.association.Association.{Association}
-use Rattle.xa_server.specs.declared.association.Association.TheVariants.{Free, Active, Idle}
+use Rattle.xa_server.specs.declared.{reply.Reply.Reply, xa_error.{XaError.XaError, BranchState.TheVariants.NonExisting}}
+use Rattle.xa_server.specs.declared.association.Association.{Association, TheVariants.{Free, Active, Idle}}
 use Rattle.xa_server.specs.State.{Write, Branch, State, own_xid, association_of, write_at, prepared_xids}
-use Rattle.xa_server.specs.Locks.{is_held_against, is_locked_against}
-use Rattle.xa_server.specs.Replies.{ok_if, refused_if, table, reply_to}
+use Rattle.xa_server.specs.{Locks.{is_held_against, is_locked_against}, Replies.{ok_if, refused_if, table, reply_to}}
 use Rattle.xa_server.specs.Step.{with_branch, with_changed, with_write, with_writes, with_lock, with_own_write}
-use Rattle.xa_server.specs.Step.{without_branch, committed, row_written}
-use Rattle.xa_server.specs.Step.{is_refused, unless_refused, effect, after}
-use Rattle.xa_server.proofs.Maps.{same_or_apart, get_inserted_apart, get_removed_apart}
-use Rattle.xa_server.proofs.Steps.{same_state}
-use Rattle.xa_judge.specs.declared.request.Request.{Request}
-use Rattle.xa_judge.specs.declared.request.Request.TheVariants.{Statement as Given, Unread}
-use Rattle.xa_judge.specs.declared.answer.Answer.TheVariants.{Reply as Replied}
-use Rattle.xa_judge.specs.Explained.{answer_to, next_state}
-use Rattle.xa_judge.specs.Near.{AreNear, ReadsNamed}
+use Rattle.xa_server.specs.Step.{without_branch, committed, row_written, is_refused, unless_refused, effect, after}
+use Rattle.xa_server.proofs.{Maps.{same_or_apart, get_inserted_apart, get_removed_apart}, Steps.same_state}
+use Rattle.xa_judge.specs.declared.request.Request.{Request, TheVariants.{Statement as Given, Unread}}
+use Rattle.xa_judge.specs.{declared.answer.Answer.Answer, Explained.{answer_to, next_state}, Near.{AreNear, ReadsNamed}}
+use Rattle.std.specs.FinMap as map
 
 -- the committed values of rows, by their keys
 abbrev Rows : Type 0
@@ -119,10 +104,10 @@ table_agrees named branches left right agree (Active own) (Rollback xid) reads =
 table_agrees named branches left right agree (Idle own) (Rollback xid) reads = refl
 table_agrees named branches left right agree association (Recover convert) reads = refl
 table_agrees named branches left right agree association Unsupported reads = refl
-table_agrees named branches left right agree Free (Get key) reads = ap Value (agree key reads)
+table_agrees named branches left right agree Free (Get key) reads = ap Reply.Value (agree key reads)
 table_agrees named branches left right agree (Active own) (Get key) reads =
-    ap (λ value. refused_if (is_locked_against (state_at branches left) (Active own) key) RowLocked
-    (Value (unwrap_or (write_at (state_at branches left) own key) value))) (agree key reads)
+    ap (λ value. refused_if (is_locked_against (state_at branches left) (Active own) key) XaError.RowLocked
+    (Reply.Value (unwrap_or (write_at (state_at branches left) own key) value))) (agree key reads)
 table_agrees named branches left right agree (Idle own) (Get key) reads = refl
 table_agrees named branches left right agree Free (Put key value) reads = refl
 table_agrees named branches left right agree (Active own) (Put key value) reads = refl
@@ -151,7 +136,7 @@ reply_agrees named branches left right agree session statement reads =
 
 -- whether `refused_if` refuses depends on its test, not on the value that would be returned
 refusal_of_get : (b : Bool) (error : XaError) (left right : Option Text)
-    → is_refused (refused_if b error (Value left)) ≡ is_refused (refused_if b error (Value right))
+    → is_refused (refused_if b error (Reply.Value left)) ≡ is_refused (refused_if b error (Reply.Value right))
 refusal_of_get true error left right = refl
 refusal_of_get false error left right = refl
 
@@ -186,7 +171,7 @@ refusal_agrees branches left right association Unsupported =
     ap is_refused (table_agrees none_named branches left right (all_agree left right) association Unsupported tt)
 refusal_agrees branches left right Free (Get key) = refl
 refusal_agrees branches left right (Active own) (Get key) =
-    refusal_of_get (is_locked_against (state_at branches left) (Active own) key) RowLocked
+    refusal_of_get (is_locked_against (state_at branches left) (Active own) key) XaError.RowLocked
     (unwrap_or (write_at (state_at branches left) own key) (map.get left key))
     (unwrap_or (write_at (state_at branches right) own key) (map.get right key))
 refusal_agrees branches left right (Idle own) (Get key) = refl
@@ -285,10 +270,10 @@ near_effect named branches left right agree session (Idle own) Disconnect =
 
 -- after a statement the state is the old one if its reply is a refusal, and else the new one
 by_refusal : (reply : Reply) (old new : State) → unless_refused reply old new ≡ cond (is_refused reply) old new
-by_refusal Accepted old new = refl
-by_refusal (Value value) old new = refl
-by_refusal (Recovered xids) old new = refl
-by_refusal (Refused error) old new = refl
+by_refusal Reply.Ok old new = refl
+by_refusal (Reply.Value value) old new = refl
+by_refusal (Reply.Recovered xids) old new = refl
+by_refusal (Reply.Refused error) old new = refl
 
 -- if the old states are near, and the new ones too, so are those that are left if both or neither is refused
 near_either : (named : List ℕ → Bool) (refused : Bool) (old new other other_new : State) → AreNear named old other
@@ -335,7 +320,7 @@ pub near_answer : (named : List ℕ → Bool) (left right : State) (session : �
     → answer_to left session request ≡ answer_to right session request
 near_answer named left right session Unread near reads = refl
 near_answer named left right session (Given statement) near reads =
-    ap Replied (reply_agrees named left.branches left.rows right.rows near.rows session statement reads
+    ap Answer.Reply (reply_agrees named left.branches left.rows right.rows near.rows session statement reads
     ∙ ap (λ s. reply_to s session statement) (right_is named left right near))
 
 -- a statement leaves near states near, whatever it reads
@@ -358,7 +343,7 @@ near_next named left right session (Given statement) near = near_after named lef
 -- write is refused or done
 near_refusable : (named : List ℕ → Bool) (refused : Bool) (old new other : State) → AreNear named old other
     → AreNear named new other
-    → AreNear named (unless_refused (refused_if refused RowLocked Accepted) old new) other
+    → AreNear named (unless_refused (refused_if refused XaError.RowLocked Reply.Ok) old new) other
 near_refusable named true old new other before later = before
 near_refusable named false old new other before later = later
 
@@ -405,17 +390,17 @@ near_sym named left right near = record { branches = sym near.branches; rows = �
 
 -- a session whose XA END is refused with the state NON-EXISTING has no branch open
 pub free_told : (state : State) (session : ℕ) (xid : Xid) (reply : Reply) → reply ≡ reply_to state session (End xid)
-    → reply ≡ Refused (Rmfail NonExisting)
+    → reply ≡ Reply.Refused (XaError.Rmfail NonExisting)
     → association_of state session ≡ Free
 unfolding reply_to table
 free_told state session xid reply told is = by (association_of state session) (sym told ∙ is)
   where
-    by : (association : Association) → table state association (End xid) ≡ Refused (Rmfail NonExisting)
+    by : (association : Association) → table state association (End xid) ≡ Reply.Refused (XaError.Rmfail NonExisting)
         → association ≡ Free
     by Free same = refl
     by (Active own) same = apart (same_xid xid own) same
       where
-        apart : (b : Bool) → ok_if b Nota ≡ Refused (Rmfail NonExisting) → Active own ≡ Free
+        apart : (b : Bool) → ok_if b XaError.Nota ≡ Reply.Refused (XaError.Rmfail NonExisting) → Active own ≡ Free
         apart true same = absurd (cc)
         apart false same = absurd (cc)
     by (Idle own) same = absurd (cc)

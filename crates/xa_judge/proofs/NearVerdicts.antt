@@ -2,21 +2,12 @@
 --     refuted_near, answers_near     what is refuted on one is refuted on the other;  with the same answers
 --     illegal_behind                 what is illegal on a near server is so behind events that lead to the other
 use Rattle.std.proofs.Common.{◌≡◌, ℕ, ◌+◌, Bool, Some, List, ◌++◌, Vec, Global, length, sym, take, slice_get}
-use Rattle.std.proofs.Common.{slice_index_or, subst}
-use Rattle.std.specs.List.{All}
-use Rattle.std.proofs.lemmas.List.Elements.{All-take}
+use Rattle.std.{proofs.{Common.{slice_index_or, subst}, lemmas.List.Elements.All-take}, specs.List.All}
 use Rattle.xa_server.specs.State.{State}
-use Rattle.xa_judge.specs.declared.answer.Answer.{Answer}
-use Rattle.xa_judge.specs.declared.client_state.ClientState.{ClientState}
-use Rattle.xa_judge.specs.declared.client_state.ClientState.TheVariants.{Answered}
-use Rattle.xa_judge.specs.declared.event.Event.{Event}
-use Rattle.xa_judge.specs.Explained.{opening_config, Explained}
-use Rattle.xa_judge.specs.declared.verdict.Verdict.{Verdict}
-use Rattle.xa_judge.specs.declared.verdict.Verdict.TheVariants.{Illegal as IllegalAt}
-use Rattle.xa_judge.specs.Near.{AreNear, CallsNamed, IsLoadedTo}
-use Rattle.xa_judge.specs.Verdicts.{IsRefuted, CouldBe, AreAllAnswers, IsVerdict}
-use Rattle.xa_judge.proofs.Loaded.{refuted_behind, answers_behind}
-use Rattle.xa_judge.proofs.NearStates.{near_sym}
+use Rattle.xa_judge.specs.declared.{answer.Answer.Answer, client_state.ClientState.{ClientState, TheVariants.Answered}}
+use Rattle.xa_judge.specs.{declared.{event.Event.Event, verdict.Verdict.Verdict}, Explained.{opening_config, Explained}}
+use Rattle.xa_judge.{specs.Near.{AreNear, CallsNamed, IsLoadedTo}, proofs.Loaded.{refuted_behind, answers_behind}}
+use Rattle.xa_judge.{specs.Verdicts.{IsRefuted, CouldBe, AreAllAnswers, IsVerdict}, proofs.NearStates.near_sym}
 use Rattle.xa_judge.proofs.NearRuns.{near_run, near_opening}
 
 -- what some order explains from one of two near states, some order explains from the other, if all calls read only
@@ -83,8 +74,8 @@ pub illegal_behind : (named : List ℕ → Bool) (base full near : State) (event
     (limit place : ℕ) (answers : Vec Answer Global)
     (verdict : Verdict) → events ≡ first ++ later → IsLoadedTo base first full → AreNear named full near
     → All (CallsNamed named) later
-    → IsVerdict near later limit verdict → verdict ≡ IllegalAt place answers
-    → IsVerdict base events limit (IllegalAt (length first + place) answers)
+    → IsVerdict near later limit verdict → verdict ≡ Verdict.Illegal place answers
+    → IsVerdict base events limit (Verdict.Illegal (length first + place) answers)
 illegal_behind named base full near events first later limit place answers verdict parts loaded are calls right is =
     let told = subst (IsVerdict near later limit) is right in
     let other = near_sym named full near are in

@@ -5,53 +5,33 @@
 --     has_active, has_row                         what is so of the session's branch, by the replies to XA END and DEL
 --     among_at                                    a row that is among some rows stands at a place of them
 --     asked_is, asked_not                         what a call is for, by the event at its noted place
-use Rattle.std.proofs.Common.{◌≡◌, ◌||◌, Bool, true, false, not, Option, Some, None, List, [], ◌∷◌, ℕ}
-use Rattle.std.proofs.Common.{refl, ap, sym, ◌∙◌, subst, inl, inr, zero, suc}
-use Rattle.std.specs.Prelude.{is_some, map, slice_get}
-use Rattle.std.specs.Option.{option_map_or, option_and_then}
-use Rattle.std.specs.List.{list_any}
-use Rattle.std.specs.Ordering.{eq_by_cmp}
-use Rattle.std.specs.FinMap as fin
+use Rattle.std.proofs.Common.{◌≡◌, ◌||◌, Bool, true, false, not, Option, Some, None, List, [], ◌∷◌, ℕ, refl, ap, sym}
+use Rattle.std.proofs.{Common.{◌∙◌, subst, inl, inr, zero, suc}, lemmas.Bool.false≢true}
+use Rattle.std.{proofs.lemmas.Option.{none-some, same_Some}, specs.Prelude.{is_some, map, slice_get}}
+use Rattle.std.specs.{Option.{option_map_or, option_and_then}, List.list_any, Ordering.eq_by_cmp}
 use Rattle.std.specs.FinMap.{contains_key-keys}
-use Rattle.std.proofs.lemmas.Bool.{false≢true}
-use Rattle.xa_xid.specs.declared.xid.Xid.{Xid}
-use Rattle.xa_xid.specs.Xid.{bytes_cmp}
-use Rattle.xa_xid.proofs.Orders.{bytes_total, exact_texts}
-use Rattle.xa_xid.specs.declared.statement.Statement.{Statement}
+use Rattle.xa_xid.specs.{declared.{xid.Xid.Xid, statement.Statement.Statement}, Xid.bytes_cmp}
 use Rattle.xa_xid.specs.declared.statement.Statement.TheVariants.{Start, End, Prepare, Commit, Rollback, Del}
-use Rattle.xa_server.specs.declared.association.Association.{Association}
-use Rattle.xa_server.specs.declared.association.Association.TheVariants.{Free, Active, Idle}
-use Rattle.xa_server.specs.declared.reply.Reply.{Reply}
-use Rattle.xa_server.specs.declared.reply.Reply.TheVariants.{Ok as Accepted, Refused}
-use Rattle.xa_server.specs.declared.xa_error.XaError.TheVariants.{Nota, Rmfail}
-use Rattle.xa_server.specs.declared.xa_error.XaError.{XaError}
-use Rattle.xa_server.specs.declared.xa_error.BranchState.TheVariants.{Prepared as StatePrepared}
-use Rattle.xa_server.specs.State.{LockMode, Branch, State, association_of, is_prepared}
-use Rattle.xa_server.specs.Locks.{holds}
-use Rattle.xa_server.specs.Overview.{held_row, rows_held, rows_of, keys_of, keys_about}
-use Rattle.xa_server.specs.Replies.{table, reply_to, ok_if, refused_if}
-use Rattle.xa_server.specs.Step.{is_refused}
-use Rattle.xa_server.proofs.Accepted.{accepted_start, own_is, accepted_del}
-use Rattle.xa_server.proofs.Maps.{same_itself, same_or_apart}
-use Rattle.xa_judge.specs.declared.request.Request.{Request}
-use Rattle.xa_judge.specs.declared.request.Request.TheVariants.{Statement as Given}
-use Rattle.xa_judge.specs.declared.answer.Answer.TheVariants.{Reply as Replied}
-use Rattle.xa_judge.specs.Explained.{answer_to}
-use Rattle.xa_judge.specs.Clear.{IsAmong, HasRow, MayEnd, IsEnding, key_of, IsOwnStep}
-use Rattle.xa_judge.specs.Clear.{starts, ends, prepares, works, finishes}
-use Rattle.xa_judge.proofs.Commuting.{by_row, by_ending}
-use Rattle.std.proofs.lemmas.Option.{none-some, same_Some}
-use Rattle.xa_judge.specs.declared.event.Event.{Event}
-use Rattle.xa_judge.specs.declared.event.Event.TheVariants.{Call}
-use Rattle.xa_judge.specs.Foreseen.{asked_by, request_in}
+use Rattle.xa_xid.proofs.Orders.{bytes_total, exact_texts}
+use Rattle.xa_server.specs.declared.association.Association.{Association, TheVariants.{Free, Active, Idle}}
+use Rattle.xa_server.specs.declared.{reply.Reply.Reply, xa_error.XaError.{XaError, TheVariants.{Nota, Rmfail}}}
+use Rattle.xa_server.specs.{declared.xa_error.BranchState.BranchState, Replies.{table, reply_to, ok_if, refused_if}}
+use Rattle.xa_server.specs.{State.{LockMode, Branch, State, association_of, is_prepared}, Locks.holds}
+use Rattle.xa_server.specs.{Overview.{held_row, rows_held, rows_of, keys_of, keys_about}, Step.is_refused}
+use Rattle.xa_server.proofs.{Accepted.{accepted_start, own_is, accepted_del}, Maps.{same_itself, same_or_apart}}
+use Rattle.xa_judge.specs.{declared.request.Request.{Request, TheVariants.Statement as Given}, Explained.answer_to}
+use Rattle.xa_judge.specs.declared.{answer.Answer.TheVariants.Reply as Replied, event.Event.{Event, TheVariants.Call}}
+use Rattle.xa_judge.specs.Clear.{IsAmong, HasRow, MayEnd, IsEnding, key_of, IsOwnStep, starts, ends, prepares, works}
+use Rattle.xa_judge.{specs.{Clear.finishes, Foreseen.{asked_by, request_in}}, proofs.Commuting.{by_row, by_ending}}
+use Rattle.std.specs.FinMap as fin
 
 -- if an answer is OK, so is the reply in it
-pub replied : (reply : Reply) → Replied reply ≡ Replied Accepted → reply ≡ Accepted
+pub replied : (reply : Reply) → Replied reply ≡ Replied Reply.Ok → reply ≡ Reply.Ok
 replied reply e = cc
 
 -- if the answer to a request is OK, so is the reply to its statement
 pub accepted : (state : State) (session : ℕ) (request : Request) (statement : Statement) → request ≡ Given statement
-    → answer_to state session request ≡ Replied Accepted → reply_to state session statement ≡ Accepted
+    → answer_to state session request ≡ Replied Reply.Ok → reply_to state session statement ≡ Reply.Ok
 accepted state session request statement is e =
     replied (reply_to state session statement) (sym (ap (answer_to state session) is) ∙ e)
 
@@ -62,32 +42,32 @@ nothing_there (Some branch) e = absurd (false≢true (sym e))
 
 -- an XA START that is accepted is a step of the branch that it starts
 pub started_step : (state : State) (session : ℕ) (xid : Xid) (rows : List (List ℕ))
-    → reply_to state session (Start xid) ≡ Accepted → IsOwnStep state session (Start xid) xid rows
+    → reply_to state session (Start xid) ≡ Reply.Ok → IsOwnStep state session (Start xid) xid rows
 unfolding reply_to
 started_step state session xid rows e =
     let is = accepted_start state (association_of state session) xid (ap is_refused e) in
     starts refl is.0 (nothing_there (fin.get state.branches xid) is.1)
 
 -- the table accepts XA END only of the branch that the session has open and ACTIVE
-active_of : (state : State) (a : Association) (xid : Xid) → table state a (End xid) ≡ Accepted → a ≡ Active xid
+active_of : (state : State) (a : Association) (xid : Xid) → table state a (End xid) ≡ Reply.Ok → a ≡ Active xid
 unfolding table
 active_of state Free xid e = absurd (false≢true (sym (ap is_refused e)))
 active_of state (Active own) xid e = ap Active (sym (own_is xid own _ (ap is_refused e)))
 active_of state (Idle own) xid e = absurd (false≢true (sym (ap is_refused e)))
 
 -- XA END is accepted only of the branch that the session has open and ACTIVE
-pub has_active : (state : State) (session : ℕ) (xid : Xid) → reply_to state session (End xid) ≡ Accepted
+pub has_active : (state : State) (session : ℕ) (xid : Xid) → reply_to state session (End xid) ≡ Reply.Ok
     → association_of state session ≡ Active xid
 unfolding reply_to
 has_active state session xid e = active_of state (association_of state session) xid e
 
 -- an XA END that is accepted is a step of its branch
 pub ended_step : (state : State) (session : ℕ) (xid : Xid) (rows : List (List ℕ))
-    → reply_to state session (End xid) ≡ Accepted → IsOwnStep state session (End xid) xid rows
+    → reply_to state session (End xid) ≡ Reply.Ok → IsOwnStep state session (End xid) xid rows
 ended_step state session xid rows e = ends refl (has_active state session xid e)
 
 -- the table accepts XA PREPARE only of the branch on which the session has ended its work
-idle_of : (state : State) (a : Association) (xid : Xid) → table state a (Prepare xid) ≡ Accepted → a ≡ Idle xid
+idle_of : (state : State) (a : Association) (xid : Xid) → table state a (Prepare xid) ≡ Reply.Ok → a ≡ Idle xid
 unfolding table
 idle_of state Free xid e = absurd (false≢true (sym (ap is_refused e)))
 idle_of state (Active own) xid e = absurd (false≢true (sym (ap is_refused e)))
@@ -95,13 +75,13 @@ idle_of state (Idle own) xid e = ap Idle (sym (own_is xid own _ (ap is_refused e
 
 -- an XA PREPARE that is accepted is a step of its branch
 pub prepared_step : (state : State) (session : ℕ) (xid : Xid) (rows : List (List ℕ))
-    → reply_to state session (Prepare xid) ≡ Accepted → IsOwnStep state session (Prepare xid) xid rows
+    → reply_to state session (Prepare xid) ≡ Reply.Ok → IsOwnStep state session (Prepare xid) xid rows
 unfolding reply_to
 prepared_step state session xid rows e = prepares refl (idle_of state (association_of state session) xid e)
 
 -- in a session's ACTIVE branch a DEL is accepted only if no other branch holds the row (`HasRow`)
 pub has_row : (state : State) (session : ℕ) (key : List ℕ) (xid : Xid) → association_of state session ≡ Active xid
-    → reply_to state session (Del key) ≡ Accepted → HasRow state session key xid
+    → reply_to state session (Del key) ≡ Reply.Ok → HasRow state session key xid
 unfolding reply_to
 has_row state session key xid own e = (
   own,
@@ -161,18 +141,18 @@ held_among state xid key e = by (fin.get state.branches xid) e
         ∙ sym (contains_key-keys branch.locks key) ∙ e
 
 -- if `ok_if` gives OK, its test holds
-passed : (b : Bool) (error : XaError) → ok_if b error ≡ Accepted → b ≡ true
+passed : (b : Bool) (error : XaError) → ok_if b error ≡ Reply.Ok → b ≡ true
 passed true error e = refl
 passed false error e = absurd (false≢true (sym (ap is_refused e)))
 
 -- a reply that is one refusal or another is never OK
-never : (b : Bool) → refused_if (not b) Nota (Refused (Rmfail StatePrepared)) ≡ Accepted → ⊥
+never : (b : Bool) → refused_if (not b) Nota (Reply.Refused (Rmfail BranchState.Prepared)) ≡ Reply.Ok → ⊥
 never true e = false≢true (sym (ap is_refused e))
 never false e = false≢true (sym (ap is_refused e))
 
 -- if the table accepts XA COMMIT, with ONE PHASE or without, the session may end the branch
 commit_ends : (state : State) (session : ℕ) (xid : Xid) (one_phase : Bool) (a : Association)
-    → association_of state session ≡ a → table state a (Commit xid one_phase) ≡ Accepted → MayEnd state session xid
+    → association_of state session ≡ a → table state a (Commit xid one_phase) ≡ Reply.Ok → MayEnd state session xid
 unfolding table
 commit_ends state session xid false Free is e = inl (is, passed (is_prepared state xid) _ e)
 commit_ends state session xid true Free is e = absurd (never (is_prepared state xid) e)
@@ -183,7 +163,7 @@ commit_ends state session xid true (Idle own) is e = inr (is ∙ ap Idle (sym (o
 
 -- if the table accepts XA ROLLBACK, the session may end the branch
 roll_ends : (state : State) (session : ℕ) (xid : Xid) (a : Association) → association_of state session ≡ a
-    → table state a (Rollback xid) ≡ Accepted → MayEnd state session xid
+    → table state a (Rollback xid) ≡ Reply.Ok → MayEnd state session xid
 unfolding table
 roll_ends state session xid Free is e = inl (is, passed (is_prepared state xid) _ e)
 roll_ends state session xid (Active own) is e = absurd (false≢true (sym (ap is_refused e)))
@@ -191,10 +171,10 @@ roll_ends state session xid (Idle own) is e = inr (is ∙ ap Idle (sym (own_is x
 
 -- a session whose statement ends a branch and is accepted may end it
 may_end : (state : State) (session : ℕ) (statement : Statement) (xid : Xid) → IsEnding statement xid
-    → reply_to state session statement ≡ Accepted → MayEnd state session xid
+    → reply_to state session statement ≡ Reply.Ok → MayEnd state session xid
 unfolding reply_to
 may_end state session statement xid ending e =
-    by_ending (λ s. table state (association_of state session) s ≡ Accepted → MayEnd state session xid) statement xid
+    by_ending (λ s. table state (association_of state session) s ≡ Reply.Ok → MayEnd state session xid) statement xid
     ending (λ one_phase. commit_ends state session xid one_phase (association_of state session) refl)
     (roll_ends state session xid (association_of state session) refl) e
 
@@ -209,7 +189,7 @@ ended_rows state session statement xid ending =
 -- a statement that ends a branch and is accepted is a step of it, on the rows that it is about
 pub finished_step : (state : State) (session : ℕ) (statement : Statement) (xid : Xid) (rows : List (List ℕ))
     → IsEnding statement xid → rows ≡ keys_about state session statement
-    → reply_to state session statement ≡ Accepted → IsOwnStep state session statement xid rows
+    → reply_to state session statement ≡ Reply.Ok → IsOwnStep state session statement xid rows
 finished_step state session statement xid rows ending about e =
     finishes ending (may_end state session statement xid ending e) (ap is_refused e)
     (λ key held. subst (IsAmong key) (sym (about ∙ ended_rows state session statement xid ending))

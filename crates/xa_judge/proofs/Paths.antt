@@ -2,9 +2,7 @@
 --     moves_push                                one code more at the end is one move more at the end
 --     moves_folded, moves_split, moves_more     the codes behind as one block more;  moves in two parts
 use Rattle.std.proofs.Common.{◌≡◌, ℕ, List, [], ◌∷◌, ◌++◌, map, ap, sym, ◌∙◌, append_assoc, append-nil}
-use Rattle.std.specs.List.{concat}
-use Rattle.std.proofs.lemmas.List.{map-append}
-use Rattle.std.proofs.lemmas.List.Folds.{concat-append}
+use Rattle.std.{proofs.lemmas.List.{map-append, Folds.concat-append}, specs.List.concat}
 use Rattle.xa_judge.specs.Path.{move_of, moves_of}
 
 -- joining blocks with one more at the end is joining them and putting that one behind

@@ -5,10 +5,8 @@
 --     map_append, length_map                a mapped list
 --     mapped_place, place_mapped            where its members come from
 use Rattle.std.proofs.Common.{◌≡◌, ◌≢◌, ◌⊎◌, ℕ, ◌<◌, zero, suc, Some, List, [], ◌∷◌, ◌++◌, length, set, map, get_or}
-use Rattle.std.proofs.Common.{refl, ap, inl, inr, arith}
-use Rattle.std.specs.Prelude.{slice_get}
-use Rattle.std.specs.List.{Contains}
-use Rattle.std.proofs.lemmas.Option.{none-some, same_Some, slice_get_read}
+use Rattle.std.proofs.{Common.{refl, ap, inl, inr, arith}, lemmas.Option.{none-some, same_Some, slice_get_read}}
+use Rattle.std.specs.{Prelude.slice_get, List.Contains}
 
 -- two numbers are the same or not
 pub same_number : (m n : ℕ) → (m ≡ n) ⊎ (m ≢ n)

@@ -3,28 +3,16 @@
 --     illegal_return       a return is refuted if it shows none of the answers that its call can have
 --     all_more, all_end    loops over answers
 use Rattle.std.proofs.Common.{◌≡◌, ℕ, ◌+◌, ◌<◌, true, false, Option, Some, None, List, [], ◌∷◌, ◌++◌, length, take}
-use Rattle.std.proofs.Common.{refl, ap, sym, ◌∙◌, subst, get_or, ◌≤◌}
-use Rattle.std.specs.Prelude.{slice_get}
-use Rattle.std.specs.List.{All, Contains}
-use Rattle.std.proofs.lemmas.Bool.{false≢true}
-use Rattle.std.proofs.lemmas.List.{take_more, take_all}
-use Rattle.std.proofs.lemmas.Option.{none-some, same_Some, cond_some, get_or_from_slice_get}
-use Rattle.std.proofs.lemmas.List.Elements.{All-contains, All-push}
+use Rattle.std.proofs.{Common.{refl, ap, sym, ◌∙◌, subst, get_or, ◌≤◌}, lemmas.Bool.false≢true}
+use Rattle.std.{proofs.lemmas.List.{take_more, take_all, Elements.{All-contains, All-push}}, specs.List.{All, Contains}}
+use Rattle.std.{proofs.lemmas.Option.{none-some, same_Some, cond_some, get_or_from_slice_get}, specs.Prelude.slice_get}
 use Rattle.xa_server.specs.State.{State}
-use Rattle.xa_judge.specs.declared.answer.Answer.{Answer}
-use Rattle.xa_judge.specs.declared.client_state.ClientState.{ClientState}
+use Rattle.xa_judge.specs.declared.{answer.Answer.Answer, client_state.ClientState.ClientState, event.Seen.Seen}
 use Rattle.xa_judge.specs.declared.client_state.ClientState.TheVariants.{Idle, Called, Answered, Gone, Left}
-use Rattle.xa_judge.specs.declared.event.Seen.{Seen}
-use Rattle.xa_judge.specs.declared.event.Event.{Event}
-use Rattle.xa_judge.specs.declared.event.Event.TheVariants.{Return}
-use Rattle.xa_judge.specs.declared.moves.Move.{Move}
-use Rattle.xa_judge.specs.declared.moves.Move.TheVariants.{Event as Seeing, Effect}
-use Rattle.xa_judge.specs.Explained.{Config, with_client, opening_config, observed, returned, shows_answer}
-use Rattle.xa_judge.specs.Explained.{LeadsThrough}
-use Rattle.xa_judge.specs.Explained.{Explained}
-use Rattle.xa_judge.specs.Verdicts.{IsRefuted, IsAnswerAfter, AreAllAnswers}
-use Rattle.xa_judge.proofs.Places.{get_within}
-use Rattle.xa_judge.proofs.KeyVerdicts.{explained_take}
+use Rattle.xa_judge.specs.{declared.{event.Event.{Event, TheVariants.Return}, moves.Move.Move}, Explained.Config}
+use Rattle.xa_judge.specs.Explained.{with_client, opening_config, observed, returned, shows_answer, LeadsThrough}
+use Rattle.xa_judge.specs.{Explained.Explained, Verdicts.{IsRefuted, IsAnswerAfter, AreAllAnswers}}
+use Rattle.xa_judge.proofs.{Places.get_within, KeyVerdicts.explained_take}
 
 -- ---- the last event
 
@@ -39,21 +27,21 @@ record IsBeforeLast (old : Config) (events : List Event) (event : Event) : Type 
 -- moves that lead through events and a last one begin so (`IsBeforeLast`)
 before_last : (old new : Config) (events : List Event) (event : Event) (moves : List Move)
     → LeadsThrough old (events ++ event ∷ []) moves new → IsBeforeLast old events event
-before_last old new events event (Effect session act ∷ moves) runs =
+before_last old new events event (Move.Effect session act ∷ moves) runs =
     let rest = before_last runs.0 new events event moves runs.3 in
     record {
-      moves = Effect session act ∷ rest.moves;
+      moves = Move.Effect session act ∷ rest.moves;
       mid = rest.mid;
       runs = (runs.0, runs.1, runs.2, rest.runs);
       next = rest.next;
       sees = rest.sees;
     }
-before_last old new [] event (Seeing ∷ moves) runs =
+before_last old new [] event (Move.Event ∷ moves) runs =
     record { moves = []; mid = old; runs = refl; next = runs.0; sees = runs.1 }
-before_last old new (first ∷ events) event (Seeing ∷ moves) runs =
+before_last old new (first ∷ events) event (Move.Event ∷ moves) runs =
     let rest = before_last runs.0 new events event moves runs.2 in
     record {
-      moves = Seeing ∷ rest.moves;
+      moves = Move.Event ∷ rest.moves;
       mid = rest.mid;
       runs = (runs.0, runs.1, rest.runs);
       next = rest.next;

@@ -4,24 +4,14 @@
 --                                    called for has taken effect
 --     AnsweredSo, answers_settle     in a closed list, each answer that acts lead to is that of a settled one
 use Rattle.std.proofs.Common.{◌≡◌, ◌≢◌, ◌⊎◌, ℕ, Bool, true, false, Option, Some, None, List, [], ◌∷◌, length, set, refl}
-use Rattle.std.proofs.Common.{ap, sym, ◌∙◌, subst, inl, inr, arith}
-use Rattle.std.specs.Prelude.{slice_get}
-use Rattle.std.proofs.lemmas.Option.{none-some, same_Some}
-use Rattle.std.proofs.lemmas.Bool.{false≢true}
-use Rattle.xa_judge.specs.declared.answer.Answer.{Answer}
-use Rattle.xa_judge.specs.declared.request.Request.{Request}
-use Rattle.xa_judge.specs.declared.event.Seen.{Seen}
-use Rattle.xa_judge.specs.declared.event.Event.{Event}
-use Rattle.xa_judge.specs.declared.event.Event.TheVariants.{Return}
-use Rattle.xa_judge.specs.declared.client_state.ClientState.{ClientState}
+use Rattle.std.proofs.{Common.{ap, sym, ◌∙◌, subst, inl, inr, arith}, lemmas.Option.{none-some, same_Some}}
+use Rattle.std.{proofs.lemmas.Bool.false≢true, specs.Prelude.slice_get}
+use Rattle.xa_judge.specs.declared.{answer.Answer.Answer, request.Request.Request, event.{Seen.Seen, Event.Event}}
+use Rattle.xa_judge.specs.declared.{event.Event.TheVariants.Return, client_state.ClientState.ClientState, moves.Act.Act}
 use Rattle.xa_judge.specs.declared.client_state.ClientState.TheVariants.{Idle, Called, Answered, Gone, Left}
-use Rattle.xa_judge.specs.declared.moves.Act.{Act}
-use Rattle.xa_judge.specs.declared.moves.Act.TheVariants.{Statement, Disconnect}
-use Rattle.xa_judge.specs.declared.moves.Move.{Move}
-use Rattle.xa_judge.specs.declared.moves.Move.TheVariants.{Event as Seeing, Effect}
-use Rattle.xa_judge.specs.declared.configuration.Configuration.{Configuration}
-use Rattle.xa_judge.specs.Explained.{Config, effect_of, carried_out, disconnected, answer_to, next_state, LeadsThrough}
-use Rattle.xa_judge.specs.Explained.{IsSession}
+use Rattle.xa_judge.specs.declared.moves.{Act.TheVariants.{Statement, Disconnect}, Move.Move}
+use Rattle.xa_judge.specs.{declared.configuration.Configuration.Configuration, Explained.{Config, effect_of}}
+use Rattle.xa_judge.specs.Explained.{carried_out, disconnected, answer_to, next_state, LeadsThrough, IsSession}
 use Rattle.xa_judge.specs.Late.{after_settling, settled_by, called_for, call_is_answered, answered_so}
 use Rattle.xa_judge.specs.Found.{config_of, Has, IsClosedBelow}
 use Rattle.xa_judge.proofs.Places.{same_number, get_written, get_apart, mapped_place}
@@ -56,10 +46,10 @@ dead_behind old mid session other act at none =
 pub dead : (old new : Config) (session : ℕ) (seen : Seen) (more : List Event) (moves : List Move)
     → may_answer (slice_get old.clients session) ≡ false
     → LeadsThrough old (Return session seen ∷ more) moves new → ⊥
-dead old new session seen more (Seeing ∷ moves) none runs =
+dead old new session seen more (Move.Event ∷ moves) none runs =
     false≢true (sym none ∙ answered_may (slice_get old.clients session)
     (return_answered old runs.0 session seen runs.1))
-dead old new session seen more (Effect other act ∷ moves) none runs =
+dead old new session seen more (Move.Effect other act ∷ moves) none runs =
     dead runs.0 new session seen more moves (dead_behind old runs.0 session other act runs.2 none) runs.3
 dead old new session seen more [] none runs = runs
 
@@ -186,14 +176,14 @@ other_act list returning session act old mid closed has is apart unanswered at =
 settles_effect : (list : List Configuration) (session other : ℕ) (act : Act) (seen : Seen) (more : List Event)
     (old new : Config) (moves : List Move)
     → IsClosedBelow (length list) (Some session) list → Has list old
-    → (runs : LeadsThrough old (Return session seen ∷ more) (Effect other act ∷ moves) new)
+    → (runs : LeadsThrough old (Return session seen ∷ more) (Move.Effect other act ∷ moves) new)
     → (Has list runs.0 → Settled list session seen more new)
     → Settled list session seen more new
 settles_effect list session other act seen more old new moves closed has runs go_on =
     by (call_is_answered old session) refl
   where
     by : (b : Bool) → call_is_answered old session ≡ b → Settled list session seen more new
-    by true answered = settles_answered list session seen more old new (Effect other act ∷ moves) has answered runs
+    by true answered = settles_answered list session seen more old new (Move.Effect other act ∷ moves) has answered runs
     by false unanswered = elim (same_number other session) [
       | inl e ↦ settles_own list session act seen more old runs.0 new moves has
           (ap (λ n. effect_of old n act) (sym e) ∙ runs.2) runs.3
@@ -207,10 +197,10 @@ pub settles : (list : List Configuration) (session : ℕ) (seen : Seen) (more : 
     → IsClosedBelow (length list) (Some session) list → Has list old
     → LeadsThrough old (Return session seen ∷ more) moves new
     → Settled list session seen more new
-settles list session seen more old new (Seeing ∷ moves) closed has runs =
-    settles_answered list session seen more old new (Seeing ∷ moves) has
+settles list session seen more old new (Move.Event ∷ moves) closed has runs =
+    settles_answered list session seen more old new (Move.Event ∷ moves) has
     (return_answered old runs.0 session seen runs.1) runs
-settles list session seen more old new (Effect other act ∷ moves) closed has runs =
+settles list session seen more old new (Move.Effect other act ∷ moves) closed has runs =
     settles_effect list session other act seen more old new moves closed has runs
     (λ there. settles list session seen more runs.0 new moves closed there runs.3)
 settles list session seen more old new [] closed has runs = absurd runs
@@ -219,8 +209,8 @@ settles list session seen more old new [] closed has runs = absurd runs
 dead_end : (old new : Config) (session : ℕ) (answer : Answer) (moves : List Move)
     → may_answer (slice_get old.clients session) ≡ false
     → LeadsThrough old [] moves new → slice_get new.clients session ≡ Some (Answered answer) → ⊥
-dead_end old new session answer (Seeing ∷ moves) none runs stands = absurd runs
-dead_end old new session answer (Effect other act ∷ moves) none runs stands =
+dead_end old new session answer (Move.Event ∷ moves) none runs stands = absurd runs
+dead_end old new session answer (Move.Effect other act ∷ moves) none runs stands =
     dead_end runs.0 new session answer moves (dead_behind old runs.0 session other act runs.2 none) runs.3 stands
 dead_end old new session answer [] none runs stands =
     false≢true (sym none ∙ ap may_answer (ap (λ (c : Config). slice_get c.clients session) (sym runs) ∙ stands))
@@ -229,8 +219,8 @@ dead_end old new session answer [] none runs stands =
 stays_answered : (old new : Config) (session : ℕ) (moves : List Move) → call_is_answered old session ≡ true
     → LeadsThrough old [] moves new
     → slice_get new.clients session ≡ slice_get old.clients session
-stays_answered old new session (Seeing ∷ moves) answered runs = absurd runs
-stays_answered old new session (Effect other act ∷ moves) answered runs =
+stays_answered old new session (Move.Event ∷ moves) answered runs = absurd runs
+stays_answered old new session (Move.Effect other act ∷ moves) answered runs =
     let a = acted old runs.0 other act runs.2 in
     let here : slice_get runs.0.clients session ≡ slice_get old.clients session =
     ap (λ (c : Config). slice_get c.clients session) a.is
@@ -282,14 +272,14 @@ answers_own list session answer act old mid new moves has at runs stands = elim 
 answers_effect : (list : List Configuration) (session other : ℕ) (answer : Answer) (act : Act) (old new : Config)
     (moves : List Move)
     → IsClosedBelow (length list) (Some session) list → Has list old
-    → (runs : LeadsThrough old [] (Effect other act ∷ moves) new)
+    → (runs : LeadsThrough old [] (Move.Effect other act ∷ moves) new)
     → slice_get new.clients session ≡ Some (Answered answer)
     → (Has list runs.0 → AnsweredSo list session answer) → AnsweredSo list session answer
 answers_effect list session other answer act old new moves closed has runs stands go_on =
     by (call_is_answered old session) refl
   where
     by : (b : Bool) → call_is_answered old session ≡ b → AnsweredSo list session answer
-    by true answered = answers_here list session answer old new (Effect other act ∷ moves) has answered runs stands
+    by true answered = answers_here list session answer old new (Move.Effect other act ∷ moves) has answered runs stands
     by false unanswered = elim (same_number other session) [
       | inl e ↦ answers_own list session answer act old runs.0 new moves has
           (ap (λ n. effect_of old n act) (sym e) ∙ runs.2) runs.3 stands
@@ -301,8 +291,8 @@ pub answers_settle : (list : List Configuration) (session : ℕ) (answer : Answe
     → IsClosedBelow (length list) (Some session) list → Has list old → LeadsThrough old [] moves new
     → slice_get new.clients session ≡ Some (Answered answer)
     → AnsweredSo list session answer
-answers_settle list session answer old new (Seeing ∷ moves) closed has runs stands = absurd runs
-answers_settle list session answer old new (Effect other act ∷ moves) closed has runs stands =
+answers_settle list session answer old new (Move.Event ∷ moves) closed has runs stands = absurd runs
+answers_settle list session answer old new (Move.Effect other act ∷ moves) closed has runs stands =
     answers_effect list session other answer act old new moves closed has runs stands
     (λ there. answers_settle list session answer runs.0 new moves closed there runs.3 stands)
 answers_settle list session answer old new [] closed has runs stands =

@@ -3,21 +3,11 @@
 --     chosen_none      before the first configuration
 --     chosen_same, chosen_new      after one whose number was in the set already;  or wasn't
 use Rattle.std.proofs.Common.{◌≡◌, ◌≢◌, ℕ, ◌+◌, ◌<◌, Bool, true, false, not, cond, List, [], ◌∷◌, length, get_or, refl}
-use Rattle.std.proofs.Common.{ap, sym, ◌∙◌, subst, arith}
-use Rattle.std.specs.List.{All}
-use Rattle.std.specs.Ordering.{nat_cmp}
-use Rattle.std.specs.BTreeMap.{is_at}
-use Rattle.std.specs.BTreeSet.{BTreeSet, contains, Updates}
-use Rattle.std.proofs.lemmas.Bool.{false≢true}
-use Rattle.std.proofs.lemmas.Option.{slice_get_read}
-use Rattle.std.proofs.lemmas.List.Elements.{All-cons, All-nil}
-use Rattle.std.proofs.lemmas.List.Kept.{AllPairs-cons}
-use Rattle.xa_judge.specs.declared.configuration.Configuration.{Configuration}
-use Rattle.xa_judge.specs.Explained.{Config}
-use Rattle.xa_judge.specs.Found.{config_of, Has}
-use Rattle.xa_judge.specs.Verdicts.{AreDifferent}
-use Rattle.xa_judge.specs.Marks.{mark}
-use Rattle.xa_judge.proofs.Places.{place_mapped}
+use Rattle.std.proofs.{Common.{ap, sym, ◌∙◌, subst, arith}, lemmas.{Bool.false≢true, Option.slice_get_read}}
+use Rattle.std.{proofs.lemmas.List.{Elements.{All-cons, All-nil}, Kept.AllPairs-cons}, specs.List.All}
+use Rattle.std.specs.{Ordering.nat_cmp, BTreeMap.is_at, BTreeSet.{BTreeSet, contains, Updates}}
+use Rattle.xa_judge.specs.{declared.configuration.Configuration.Configuration, Explained.Config, Found.{config_of, Has}}
+use Rattle.xa_judge.{specs.{Verdicts.AreDifferent, Marks.mark}, proofs.Places.place_mapped}
 
 -- configurations of the list, as many as were counted, no two of them the same; the set has their numbers (`mark`)
 pub record Chosen (known : List Configuration) (keys : List (List ℕ)) (marks : BTreeSet ℕ) (count : ℕ) : Type 0 where

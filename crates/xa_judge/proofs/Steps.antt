@@ -4,19 +4,12 @@
 --     none_leads                    with no move left, an event that is left is never seen
 --     some_leads, leads_some        walking the moves finds a configuration if and only if they lead to one
 use Rattle.std.proofs.Common.{◌≡◌, ℕ, ◌+◌, ◌↔◌, zero, suc, true, Option, Some, None, IfSome, List, [], ◌∷◌, drop}
-use Rattle.std.proofs.Common.{slice_get, refl, ap, sym, ◌∙◌, subst, add-one}
-use Rattle.std.specs.Option.{is_some}
-use Rattle.std.proofs.lemmas.Bool.{false≢true}
-use Rattle.std.proofs.lemmas.Option.{none-some, same_Some}
-use Rattle.xa_judge.specs.declared.event.Event.{Event}
-use Rattle.xa_judge.specs.declared.moves.Act.{Act}
-use Rattle.xa_judge.specs.declared.moves.Move.{Move}
-use Rattle.xa_judge.specs.declared.moves.Move.TheVariants.{Event as Seeing, Effect}
-use Rattle.xa_server.specs.State.{State}
-use Rattle.xa_judge.specs.declared.configuration.Configuration.{Configuration}
+use Rattle.std.proofs.{Common.{slice_get, refl, ap, sym, ◌∙◌, subst, add-one}, lemmas.Bool.false≢true}
+use Rattle.std.{proofs.lemmas.Option.{none-some, same_Some}, specs.Option.is_some}
+use Rattle.xa_judge.specs.declared.{event.Event.Event, moves.{Act.Act, Move.Move}}
+use Rattle.xa_judge.specs.{declared.configuration.Configuration.Configuration, Found.config_of, Following.Leads}
 use Rattle.xa_judge.specs.Explained.{Config, effect_of, observed, opening_config, LeadsThrough, IsSession}
-use Rattle.xa_judge.specs.Found.{config_of}
-use Rattle.xa_judge.specs.Following.{Leads}
+use Rattle.xa_server.specs.State.{State}
 
 -- what a list has from a place on is what stands there, and then the rest
 pub drop_got : {A : Type 0} (xs : List A) (i : ℕ) (x : A) → slice_get xs i ≡ Some x → drop i xs ≡ x ∷ drop (i + 1) xs
@@ -32,7 +25,7 @@ drop_got {A} xs i x found = subst (λ n. drop i xs ≡ x ∷ drop n xs) (sym (ad
 pub effect_leads : (old new : Config) (session : ℕ) (act : Act) (events : List Event) (later : List Move) (end : Config)
     → IsSession session
     → effect_of old session act ≡ Some new
-    → LeadsThrough old events (Effect session act ∷ later) end ↔ LeadsThrough new events later end
+    → LeadsThrough old events (Move.Effect session act ∷ later) end ↔ LeadsThrough new events later end
 effect_leads old new session act events later end is leads = (
   λ runs. subst (λ c. LeadsThrough c events later end) (same_Some runs.0 new (sym runs.2 ∙ leads)) runs.3,
   λ runs. (new, is, leads, runs),
@@ -43,15 +36,15 @@ effect_leads old new session act events later end is leads = (
 pub event_leads : (old new : Config) (event : Event) (events more : List Event) (later : List Move) (end : Config)
     → events ≡ event ∷ more
     → observed old event ≡ Some new
-    → LeadsThrough old events (Seeing ∷ later) end ↔ LeadsThrough new more later end
+    → LeadsThrough old events (Move.Event ∷ later) end ↔ LeadsThrough new more later end
 event_leads old new event events more later end is leads = (
   λ runs.
-      let first : LeadsThrough old (event ∷ more) (Seeing ∷ later) end =
-      subst (λ l. LeadsThrough old l (Seeing ∷ later) end) is runs in
+      let first : LeadsThrough old (event ∷ more) (Move.Event ∷ later) end =
+      subst (λ l. LeadsThrough old l (Move.Event ∷ later) end) is runs in
       subst (λ c. LeadsThrough c more later end) (same_Some first.0 new (sym first.1 ∙ leads)) first.2,
   λ runs.
-      let first : LeadsThrough old (event ∷ more) (Seeing ∷ later) end = (new, leads, runs) in
-      subst (λ l. LeadsThrough old l (Seeing ∷ later) end) (sym is) first,
+      let first : LeadsThrough old (event ∷ more) (Move.Event ∷ later) end = (new, leads, runs) in
+      subst (λ l. LeadsThrough old l (Move.Event ∷ later) end) (sym is) first,
 )
 
 -- with no move left, an event that is left is never seen

@@ -7,15 +7,12 @@
 --     told_found, found_on        a verdict that was found, or none;  after passes
 --     whole_told, verdict_on      a pass that begins with the first event;  after passes
 --     later_told                  a pass over events that come after others
-use Rattle.std.proofs.Common.{◌≡◌, ℕ, ◌+◌, List, ◌++◌, length, refl, ap, sym, ◌∙◌, subst, zero-add}
-use Rattle.std.proofs.lemmas.List.{length-append}
-use Rattle.std.proofs.Common.{Option, Some, None, Result, Ok, Err, IfOk, IfSome, MatchOption}
+use Rattle.std.proofs.Common.{◌≡◌, ℕ, ◌+◌, List, ◌++◌, length, refl, ap, sym, ◌∙◌, subst, zero-add, Option, Some, None}
+use Rattle.std.proofs.{Common.{Result, Ok, Err, IfOk, IfSome, MatchOption}, lemmas.List.length-append}
 use Rattle.xa_server.specs.State.{State}
-use Rattle.xa_judge.specs.declared.event.Event.{Event}
-use Rattle.xa_judge.specs.declared.so_far.SoFar.{SoFar}
-use Rattle.xa_judge.specs.declared.verdict.Verdict.{Verdict}
-use Rattle.xa_judge.specs.Told.{IsReport, AreReports, no_report, one_more, IsSize, ArePasses, no_pass, one_pass}
-use Rattle.xa_judge.specs.Told.{IsToldUpTo, IsSizeOfKept, seen_for}
+use Rattle.xa_judge.specs.{declared.{event.Event.Event, so_far.SoFar.SoFar, verdict.Verdict.Verdict}, Told.IsReport}
+use Rattle.xa_judge.specs.Told.{AreReports, no_report, one_more, IsSize, ArePasses, no_pass, one_pass, IsToldUpTo}
+use Rattle.xa_judge.specs.Told.{IsSizeOfKept, seen_for}
 
 module _ {S : Type 0} {gives : S → SoFar → S → Type 0} where
   -- reports of sizes that fit one condition fit each weaker one

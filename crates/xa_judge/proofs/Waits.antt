@@ -7,29 +7,17 @@
 --     CanWait, First, later                     where acts can wait, the event is seen first
 --     answered_apart, return_answered           who has an answer doesn't act;  who returns had one
 use Rattle.std.proofs.Common.{◌≡◌, ◌≢◌, ℕ, Bool, true, false, cond, Option, Some, None, List, [], ◌∷◌, ◌++◌, set, refl}
-use Rattle.std.proofs.Common.{ap, sym, ◌∙◌, subst, inl, inr}
-use Rattle.std.specs.Prelude.{slice_get}
-use Rattle.std.proofs.lemmas.Option.{none-some, same_Some, cond_some}
-use Rattle.std.proofs.lemmas.List.{set-set}
-use Rattle.std.proofs.lemmas.Bool.{false≢true}
+use Rattle.std.proofs.{Common.{ap, sym, ◌∙◌, subst, inl, inr}, lemmas.Option.{none-some, same_Some, cond_some}}
+use Rattle.std.{proofs.lemmas.{List.set-set, Bool.false≢true}, specs.Prelude.slice_get}
 use Rattle.xa_xid.specs.declared.statement.Statement.TheVariants.{Disconnect as DisconnectGiven}
-use Rattle.xa_server.specs.State.{State}
-use Rattle.xa_server.specs.Step.{after}
-use Rattle.xa_judge.specs.declared.request.Request.{Request}
-use Rattle.xa_judge.specs.declared.event.Seen.{Seen}
-use Rattle.xa_judge.specs.declared.event.Event.{Event}
+use Rattle.xa_server.specs.{State.State, Step.after}
+use Rattle.xa_judge.specs.declared.{request.Request.Request, event.{Seen.Seen, Event.Event}}
 use Rattle.xa_judge.specs.declared.event.Event.TheVariants.{Call, Return, Lost, Unknown}
-use Rattle.xa_judge.specs.declared.client_state.ClientState.{ClientState}
+use Rattle.xa_judge.specs.declared.{client_state.ClientState.ClientState, moves.{Act.Act, Move.Move}}
 use Rattle.xa_judge.specs.declared.client_state.ClientState.TheVariants.{Idle, Called, Answered, Gone, Left}
-use Rattle.xa_judge.specs.declared.moves.Act.{Act}
-use Rattle.xa_judge.specs.declared.moves.Act.TheVariants.{Statement, Disconnect}
-use Rattle.xa_judge.specs.declared.moves.Move.{Move}
-use Rattle.xa_judge.specs.declared.moves.Move.TheVariants.{Event as Seeing, Effect}
 use Rattle.xa_judge.specs.Explained.{Config, with_client, effect_of, carried_out, disconnected, observed, called}
-use Rattle.xa_judge.specs.Explained.{returned, lost, shows_answer, answer_to}
-use Rattle.xa_judge.specs.Explained.{next_state, LeadsThrough, IsSession}
-use Rattle.xa_judge.specs.Late.{call_is_answered, answered_so, has_unheard, unheard_so, called_for}
-use Rattle.xa_judge.specs.Keys.{session_of}
+use Rattle.xa_judge.specs.Explained.{returned, lost, shows_answer, answer_to, next_state, LeadsThrough, IsSession}
+use Rattle.xa_judge.specs.{Late.{call_is_answered, answered_so, has_unheard, unheard_so, called_for}, Keys.session_of}
 use Rattle.xa_judge.proofs.Places.{same_number, get_written, get_apart, set_apart}
 
 -- moves that lead through events still do with one act more at the end, which leads on from there
@@ -37,11 +25,11 @@ pub runs_effect : (old mid new : Config) (events : List Event) (moves : List Mov
     → LeadsThrough old events moves mid
     → IsSession session
     → effect_of mid session act ≡ Some new
-    → LeadsThrough old events (moves ++ Effect session act ∷ []) new
-runs_effect old mid new events (Effect other its ∷ moves) session act runs is at =
+    → LeadsThrough old events (moves ++ Move.Effect session act ∷ []) new
+runs_effect old mid new events (Move.Effect other its ∷ moves) session act runs is at =
     (runs.0, runs.1, runs.2, runs_effect runs.0 mid new events moves session act runs.3 is at)
-runs_effect old mid new [] (Seeing ∷ moves) session act runs is at = absurd runs
-runs_effect old mid new (event ∷ events) (Seeing ∷ moves) session act runs is at =
+runs_effect old mid new [] (Move.Event ∷ moves) session act runs is at = absurd runs
+runs_effect old mid new (event ∷ events) (Move.Event ∷ moves) session act runs is at =
     (runs.0, runs.1, runs_effect runs.0 mid new events moves session act runs.2 is at)
 runs_effect old mid new [] [] session act runs is at = let P : Config → Type 0 =
     λ c. effect_of c session act ≡ Some new in (new, is, subst P runs at, refl)
@@ -51,11 +39,11 @@ runs_effect old mid new (event ∷ events) [] session act runs is at = absurd ru
 pub runs_event : (old mid new : Config) (events : List Event) (moves : List Move) (event : Event)
     → LeadsThrough old events moves mid
     → observed mid event ≡ Some new
-    → LeadsThrough old (events ++ event ∷ []) (moves ++ Seeing ∷ []) new
-runs_event old mid new events (Effect other its ∷ moves) event runs at =
+    → LeadsThrough old (events ++ event ∷ []) (moves ++ Move.Event ∷ []) new
+runs_event old mid new events (Move.Effect other its ∷ moves) event runs at =
     (runs.0, runs.1, runs.2, runs_event runs.0 mid new events moves event runs.3 at)
-runs_event old mid new [] (Seeing ∷ moves) event runs at = absurd runs
-runs_event old mid new (first ∷ events) (Seeing ∷ moves) event runs at =
+runs_event old mid new [] (Move.Event ∷ moves) event runs at = absurd runs
+runs_event old mid new (first ∷ events) (Move.Event ∷ moves) event runs at =
     (runs.0, runs.1, runs_event runs.0 mid new events moves event runs.2 at)
 runs_event old mid new [] [] event runs at = let P : Config → Type 0 = λ c. observed c event ≡ Some new in
     (new, subst P runs at, refl)
@@ -94,7 +82,7 @@ pub record Acted (old : Config) (session : ℕ) (act : Act) (new : Config) : Typ
 -- is that client before
 acted_statement : (o : Option ClientState) (old new : Config) (session : ℕ) → slice_get old.clients session ≡ o
     → carried_out o old session ≡ Some new
-    → Acted old session Statement new
+    → Acted old session Act.Statement new
 unfolding effect_of carried_out
 acted_statement None old new session found is = absurd (none-some new is)
 acted_statement (Some Idle) old new session found is = absurd (none-some new is)
@@ -133,7 +121,7 @@ acted_statement (Some Left) old new session found is = absurd (none-some new is)
 -- client before
 acted_disconnect : (o : Option ClientState) (old new : Config) (session : ℕ) → slice_get old.clients session ≡ o
     → disconnected o old session ≡ Some new
-    → Acted old session Disconnect new
+    → Acted old session Act.Disconnect new
 unfolding effect_of disconnected
 acted_disconnect None old new session found is = absurd (none-some new is)
 acted_disconnect (Some Idle) old new session found is = absurd (none-some new is)
@@ -158,14 +146,14 @@ acted_disconnect (Some Left) old new session found is = absurd (none-some new is
 pub acted : (old new : Config) (session : ℕ) (act : Act) → effect_of old session act ≡ Some new
     → Acted old session act new
 unfolding effect_of
-acted old new session Statement is = acted_statement (slice_get old.clients session) old new session refl is
-acted old new session Disconnect is = acted_disconnect (slice_get old.clients session) old new session refl is
+acted old new session Act.Statement is = acted_statement (slice_get old.clients session) old new session refl is
+acted old new session Act.Disconnect is = acted_disconnect (slice_get old.clients session) old new session refl is
 
 -- the statement of a session that has called can take effect: that leads to the state after its request, and to its
 -- answer
 pub effect_called : (config : Config) (session : ℕ) (request : Request)
     → called_for (slice_get config.clients session) ≡ Some request
-    → effect_of config session Statement
+    → effect_of config session Act.Statement
     ≡ some_config (next_state config.state session request)
     (set config.clients session (Answered (answer_to config.state session request)))
 unfolding effect_of carried_out
@@ -313,7 +301,7 @@ commute old mid new session act event a s apart =
 lost_alone : (o : Option ClientState) (old mid new : Config) (session : ℕ) → slice_get old.clients session ≡ o
     → carried_out o old session ≡ Some mid
     → Saw mid (Lost session) new → lost (slice_get mid.clients session) mid session ≡ Some new
-    → Swapped old (Lost session) session Statement new
+    → Swapped old (Lost session) session Act.Statement new
 unfolding effect_of observed carried_out lost
 lost_alone None old mid new session found is s at = absurd (none-some mid is)
 lost_alone (Some Idle) old mid new session found is s at = absurd (none-some mid is)
@@ -388,7 +376,7 @@ called_alone (Some Left) old mid new session request found heard is at = none-so
 gone_alone : (o : Option ClientState) (old mid new : Config) (session : ℕ) (request : Request)
     → slice_get old.clients session ≡ o → unheard_so o ≡ false
     → disconnected o old session ≡ Some mid → called (slice_get mid.clients session) mid session request ≡ Some new
-    → Swapped old (Call session request) session Disconnect new
+    → Swapped old (Call session request) session Act.Disconnect new
 unfolding effect_of observed disconnected called
 gone_alone None old mid new session request found heard is at = absurd (none-some mid is)
 gone_alone (Some Idle) old mid new session request found heard is at = absurd (none-some mid is)
@@ -420,9 +408,9 @@ call_alone : (old mid new : Config) (session : ℕ) (act : Act) (request : Reque
     → called (slice_get mid.clients session) mid session request ≡ Some new
     → Swapped old (Call session request) session act new
 unfolding effect_of
-call_alone old mid new session Statement request heard is at =
+call_alone old mid new session Act.Statement request heard is at =
     absurd (called_alone (slice_get old.clients session) old mid new session request refl heard is at)
-call_alone old mid new session Disconnect request heard is at =
+call_alone old mid new session Act.Disconnect request heard is at =
     gone_alone (slice_get old.clients session) old mid new session request refl heard is at
 
 -- acts that come before the event can wait until it is seen: before a call, unless its session's client is gone with a
@@ -460,23 +448,23 @@ swap old mid new session act (Return other seen) is at waits =
     commute old mid new session act (Return other seen) a
     (saw_return (slice_get mid.clients other) mid new other seen refl at).0
     (answered_apart old mid session other act a waits)
-swap old mid new session Statement (Lost other) is at waits = elim (same_number session other) [
+swap old mid new session Act.Statement (Lost other) is at waits = elim (same_number session other) [
   | inl e ↦
       let at' : lost (slice_get mid.clients session) mid session ≡ Some new =
       ap (λ n. lost (slice_get mid.clients n) mid n) e ∙ at in
-      let alone : Swapped old (Lost session) session Statement new =
+      let alone : Swapped old (Lost session) session Act.Statement new =
       lost_alone (slice_get old.clients session) old mid new session refl is
       (saw_lost (slice_get mid.clients session) mid new session refl at') at' in
-      subst (λ n. Swapped old (Lost n) session Statement new) e alone
-  | inr apart ↦ commute old mid new session Statement (Lost other) (acted old mid session Statement is)
+      subst (λ n. Swapped old (Lost n) session Act.Statement new) e alone
+  | inr apart ↦ commute old mid new session Act.Statement (Lost other) (acted old mid session Act.Statement is)
       (saw_lost (slice_get mid.clients other) mid new other refl at) apart
 ]
-swap old mid new session Disconnect (Lost other) is at waits = elim (same_number session other) [
+swap old mid new session Act.Disconnect (Lost other) is at waits = elim (same_number session other) [
   | inl e ↦
       let at' : lost (slice_get mid.clients session) mid session ≡ Some new =
       ap (λ n. lost (slice_get mid.clients n) mid n) e ∙ at in
       absurd (left_alone (slice_get old.clients session) old mid new session refl is at')
-  | inr apart ↦ commute old mid new session Disconnect (Lost other) (acted old mid session Disconnect is)
+  | inr apart ↦ commute old mid new session Act.Disconnect (Lost other) (acted old mid session Act.Disconnect is)
       (saw_lost (slice_get mid.clients other) mid new other refl at) apart
 ]
 swap old mid new session act (Unknown other) is at waits = absurd waits
@@ -513,15 +501,15 @@ pub record First (old : Config) (event : Event) (more : List Event) (new : Confi
 pub later : (old new : Config) (event : Event) (more : List Event) (moves : List Move) → CanWait old event
     → LeadsThrough old (event ∷ more) moves new
     → First old event more new
-later old new event more (Seeing ∷ moves) waits runs =
+later old new event more (Move.Event ∷ moves) waits runs =
     record { first = runs.0; sees = runs.1; moves = moves; runs = runs.2 }
-later old new event more (Effect session act ∷ moves) waits runs =
+later old new event more (Move.Effect session act ∷ moves) waits runs =
     let rest = later runs.0 new event more moves (still_waits old runs.0 session act event runs.2 waits) runs.3 in
     let s = swap old runs.0 rest.first session act event runs.2 rest.sees waits in
     record {
       first = s.0;
       sees = s.1;
-      moves = Effect session act
+      moves = Move.Effect session act
           ∷ rest.moves;
       runs = (rest.first, runs.1, s.2, rest.runs);
     }

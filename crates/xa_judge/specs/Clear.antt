@@ -15,31 +15,19 @@
 --     IsReadyStep                     a session has called for its step
 -- Every rule here is the project's own: crates/xa_judge/README.md.
 use Rattle.std.specs.Prelude.{◌≡◌, ◌≢◌, ◌⊎◌, ◌==◌, ℕ, Bool, true, false, cond, Option, Some, None, List, [], ◌∷◌}
-use Rattle.std.specs.List.{list_any}
-use Rattle.std.specs.Ordering.{eq_by_cmp}
-use Rattle.std.specs.FinMap as map
-use Rattle.xa_xid.specs.declared.xid.Xid.{Xid}
+use Rattle.std.specs.{Prelude.slice_get, List.list_any, Ordering.eq_by_cmp}
+use Rattle.xa_xid.specs.declared.{xid.Xid.Xid, statement.Statement.{Statement, TheVariants.{Start, End, Prepare}}}
+use Rattle.xa_xid.specs.declared.statement.Statement.TheVariants.{Commit, Rollback, Recover, Get, Put, Del}
 use Rattle.xa_xid.specs.Xid.{same_xid, bytes_cmp}
-use Rattle.xa_xid.specs.declared.statement.Statement.{Statement}
-use Rattle.xa_xid.specs.declared.statement.Statement.TheVariants.{Start, End, Prepare, Commit, Rollback, Recover}
-use Rattle.xa_xid.specs.declared.statement.Statement.TheVariants.{Get, Put, Del}
-use Rattle.xa_server.specs.declared.association.Association.{Association}
-use Rattle.xa_server.specs.declared.association.Association.TheVariants.{Free, Active, Idle}
-use Rattle.xa_server.specs.State.{State, association_of, is_prepared}
-use Rattle.xa_server.specs.Replies.{reply_to}
-use Rattle.xa_server.specs.Step.{is_refused}
+use Rattle.xa_server.specs.declared.association.Association.{Association, TheVariants.{Free, Active, Idle}}
+use Rattle.xa_server.specs.{State.{State, association_of, is_prepared}, Replies.reply_to, Step.is_refused}
 use Rattle.xa_server.specs.Locks.{LockLaw, holds, is_held_against}
-use Rattle.xa_judge.specs.declared.request.Request.{Request}
-use Rattle.xa_judge.specs.declared.request.Request.TheVariants.{Statement as Given, Unread}
-use Rattle.xa_judge.specs.declared.event.Seen.{Seen}
-use Rattle.xa_judge.specs.declared.event.Event.{Event}
-use Rattle.xa_judge.specs.declared.event.Event.TheVariants.{Call, Return, Lost, Unknown}
-use Rattle.std.specs.Prelude.{slice_get}
-use Rattle.xa_judge.specs.declared.client_state.ClientState.TheVariants.{Called}
-use Rattle.xa_judge.specs.declared.moves.Move.{Move}
-use Rattle.xa_judge.specs.Explained.{Config, LeadsThrough, answer_to, shows_answer}
-use Rattle.xa_judge.specs.Keys.{session_of}
+use Rattle.xa_judge.specs.declared.request.Request.{Request, TheVariants.{Statement as Given, Unread}}
+use Rattle.xa_judge.specs.declared.event.{Seen.Seen, Event.{Event, TheVariants.{Call, Return, Lost, Unknown}}}
+use Rattle.xa_judge.specs.declared.{client_state.ClientState.TheVariants.Called, moves.Move.Move}
+use Rattle.xa_judge.specs.{Explained.{Config, LeadsThrough, answer_to, shows_answer}, Keys.session_of}
 use Rattle.xa_judge.specs.Foreseen.{Hint, fact_of, seen_in, IsOpenFor, AreAlike, IsLike}
+use Rattle.std.specs.FinMap as map
 
 -- the branch that a statement names
 abbrev pub named_by : Statement → Option Xid

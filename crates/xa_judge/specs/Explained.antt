@@ -12,40 +12,18 @@
 --     LeadsThrough               moves lead through all of the events
 --     Explained                  some moves do, from opening_config on
 use Rattle.std.specs.Prelude.{◌≡◌, ℕ, ◌≤◌, Bool, true, false, cond, ◌&&◌, ◌||◌, ◌==◌, Option, Some, None, List, [], ◌∷◌}
-use Rattle.std.specs.Prelude.{slice_get, slice_set}
-use Rattle.std.specs.Prelude.{replicate}
-use Rattle.std.specs.List.{list_any}
-use Rattle.std.specs.Cmp.Lexicographic.{pointwise}
-use Rattle.std.specs.Prelude.{nat_eq}
-use Rattle.xa_xid.specs.declared.xid.Xid.{Xid}
-use Rattle.xa_xid.specs.declared.statement.Statement.TheVariants.{Disconnect}
-use Rattle.xa_xid.specs.Xid.{Text, same_xid}
-use Rattle.xa_server.specs.declared.reply.Reply.TheVariants.{Ok as Accepted, Value, Recovered, Refused}
-use Rattle.xa_server.specs.State.{State}
-use Rattle.xa_server.specs.Replies.{reply_to}
-use Rattle.xa_server.specs.Step.{after}
-use Rattle.xa_server.specs.Errors.{number_of}
-use Rattle.xa_judge.specs.declared.request.Request.{Request}
-use Rattle.xa_judge.specs.declared.request.Request.TheVariants.{Statement as Given, Unread}
-use Rattle.xa_judge.specs.declared.answer.Answer.{Answer}
-use Rattle.xa_judge.specs.declared.answer.Answer.TheVariants.{Reply as Replied, Unread as NotRead}
-use Rattle.xa_judge.specs.declared.error_numbers.ErrorNumbers.{ErrorNumbers}
-use Rattle.xa_judge.specs.declared.event.Seen.{Seen}
-use Rattle.xa_judge.specs.declared.event.Seen.TheVariants.{Ok as SeenOk, Value as SeenValue, Rows as SeenRows}
-use Rattle.xa_judge.specs.declared.event.Seen.TheVariants.{Error as SeenError}
-use Rattle.xa_judge.specs.declared.event.Event.{Event}
-use Rattle.xa_judge.specs.declared.event.Event.TheVariants.{Call, Return, Lost, Unknown}
-use Rattle.xa_judge.specs.declared.client_state.ClientState.{ClientState}
+use Rattle.std.specs.{Prelude.{slice_get, slice_set, replicate, nat_eq}, List.list_any, Cmp.Lexicographic.pointwise}
+use Rattle.xa_xid.specs.{declared.{xid.Xid.Xid, statement.Statement.TheVariants.Disconnect}, Xid.{Text, same_xid}}
+use Rattle.xa_server.specs.{declared.reply.Reply.Reply, State.State, Replies.reply_to, Step.after, Errors.number_of}
+use Rattle.xa_judge.specs.declared.request.Request.{Request, TheVariants.{Statement as Given, Unread}}
+use Rattle.xa_judge.specs.declared.{answer.Answer.Answer, error_numbers.ErrorNumbers.ErrorNumbers, event.Seen.Seen}
+use Rattle.xa_judge.specs.declared.{event.Event.Event, client_state.ClientState.ClientState, moves.{Act.Act, Move.Move}}
 use Rattle.xa_judge.specs.declared.client_state.ClientState.TheVariants.{Idle, Called, Answered, Gone, Left}
-use Rattle.xa_judge.specs.declared.moves.Act.{Act}
-use Rattle.xa_judge.specs.declared.moves.Act.TheVariants.{Statement as ItsStatement, Disconnect as ItsDisconnect}
-use Rattle.xa_judge.specs.declared.moves.Move.{Move}
-use Rattle.xa_judge.specs.declared.moves.Move.TheVariants.{Event as Seeing, Effect}
 
 -- what a request is answered
 abbrev pub answer_to : State → ℕ → Request → Answer
-answer_to state session (Given statement) = Replied (reply_to state session statement)
-answer_to state session Unread = NotRead
+answer_to state session (Given statement) = Answer.Reply (reply_to state session statement)
+answer_to state session Unread = Answer.Unread
 
 -- the state after a request; a text that isn't a statement does nothing
 abbrev pub next_state : State → ℕ → Request → State
@@ -84,8 +62,8 @@ disconnected other config session = None
 
 -- the configuration after an act of a session takes effect, if it can
 unfoldable pub effect_of : Config → ℕ → Act → Option Config
-effect_of config session ItsStatement = carried_out (slice_get config.clients session) config session
-effect_of config session ItsDisconnect = disconnected (slice_get config.clients session) config session
+effect_of config session Act.Statement = carried_out (slice_get config.clients session) config session
+effect_of config session Act.Disconnect = disconnected (slice_get config.clients session) config session
 
 -- two texts have the same bytes
 abbrev pub same_text : Text → Text → Bool
@@ -110,11 +88,11 @@ stands_for numbers number = numbers.seen == number || list_any (λ other. other 
 -- a return shows this answer; of a refusal only the number is compared. A text that isn't a statement is refused with
 -- 1064
 abbrev pub shows_answer : Seen → Answer → Bool
-shows_answer SeenOk (Replied Accepted) = true
-shows_answer (SeenValue seen) (Replied (Value value)) = same_values seen value
-shows_answer (SeenRows rows) (Replied (Recovered xids)) = same_rows rows.items xids
-shows_answer (SeenError numbers) (Replied (Refused error)) = stands_for numbers (number_of error)
-shows_answer (SeenError numbers) NotRead = stands_for numbers 1064
+shows_answer Seen.Ok (Answer.Reply Reply.Ok) = true
+shows_answer (Seen.Value seen) (Answer.Reply (Reply.Value value)) = same_values seen value
+shows_answer (Seen.Rows rows) (Answer.Reply (Reply.Recovered xids)) = same_rows rows.items xids
+shows_answer (Seen.Error numbers) (Answer.Reply (Reply.Refused error)) = stands_for numbers (number_of error)
+shows_answer (Seen.Error numbers) Answer.Unread = stands_for numbers 1064
 shows_answer seen answer = false
 
 -- an idle session calls. One whose client is gone may call too: nobody hears the answer, and after its DISCONNECT the
@@ -148,10 +126,10 @@ answered_unknown other config session = None
 
 -- the configuration after an event is seen, if it can be seen there
 unfoldable pub observed : Config → Event → Option Config
-observed config (Call session request) = called (slice_get config.clients session) config session request
-observed config (Return session seen) = returned (slice_get config.clients session) config session seen
-observed config (Lost session) = lost (slice_get config.clients session) config session
-observed config (Unknown session) = answered_unknown (slice_get config.clients session) config session
+observed config (Event.Call session request) = called (slice_get config.clients session) config session request
+observed config (Event.Return session seen) = returned (slice_get config.clients session) config session seen
+observed config (Event.Lost session) = lost (slice_get config.clients session) config session
+observed config (Event.Unknown session) = answered_unknown (slice_get config.clients session) config session
 
 -- the number is a session's, 1 to 16
 abbrev pub IsSession : ℕ → Type 0
@@ -159,9 +137,9 @@ IsSession session = (1 ≤ session) × (session ≤ 16)
 
 -- the moves lead from old through all of the events to new
 abbrev pub LeadsThrough : Config → List Event → List Move → Config → Type 0
-LeadsThrough old events (Effect session act ∷ moves) new =
+LeadsThrough old events (Move.Effect session act ∷ moves) new =
     (mid : Config) × IsSession session × (effect_of old session act ≡ Some mid) × LeadsThrough mid events moves new
-LeadsThrough old (event ∷ events) (Seeing ∷ moves) new =
+LeadsThrough old (event ∷ events) (Move.Event ∷ moves) new =
     (mid : Config) × (observed old event ≡ Some mid) × LeadsThrough mid events moves new
 LeadsThrough old [] [] new = new ≡ old
 LeadsThrough old events moves new = ⊥

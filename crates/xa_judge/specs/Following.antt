@@ -3,11 +3,8 @@
 --     Leads            moves lead through the events
 use Rattle.std.specs.Prelude.{Option, Some, None, List, drop}
 use Rattle.xa_server.specs.State.{State}
-use Rattle.xa_judge.specs.declared.event.Event.{Event}
-use Rattle.xa_judge.specs.declared.moves.Move.{Move}
-use Rattle.xa_judge.specs.declared.following.Following.{Following}
-use Rattle.xa_judge.specs.Explained.{Config, opening_config, LeadsThrough}
-use Rattle.xa_judge.specs.Found.{config_of}
+use Rattle.xa_judge.specs.declared.{event.Event.Event, moves.Move.Move, following.Following.Following}
+use Rattle.xa_judge.specs.{Explained.{Config, opening_config, LeadsThrough}, Found.config_of}
 
 -- there is a configuration so far, and the moves lead on from it through the events that are still to be seen; never,
 -- if there is none

@@ -26,31 +26,16 @@
 --     IsAdvanceFor         orders go on past an event, from one list in another
 --     NeedsNone            no act has to come before an event
 use Rattle.std.specs.Prelude.{◌≡◌, length, ◌⊎◌, ◌||◌, ℕ, Bool, true, false, Option, Some, None, List, ◌<◌, ◌∷◌, ◌++◌}
-use Rattle.std.specs.Prelude.{slice_get, map}
-use Rattle.std.specs.Option.{unwrap_or}
+use Rattle.std.specs.{Prelude.{slice_get, map}, Option.unwrap_or}
 use Rattle.xa_xid.specs.declared.statement.Statement.TheVariants.{Get, Recover, Disconnect}
-use Rattle.xa_server.specs.declared.association.Association.{Association}
-use Rattle.xa_server.specs.declared.association.Association.TheVariants.{Free}
-use Rattle.xa_server.specs.Step.{is_refused}
-use Rattle.xa_server.specs.State.{State, association_of}
-use Rattle.xa_server.specs.Locks.{LockLaw}
-use Rattle.xa_judge.specs.declared.request.Request.{Request}
-use Rattle.xa_judge.specs.declared.request.Request.TheVariants.{Statement as Given}
-use Rattle.xa_judge.specs.declared.answer.Answer.{Answer}
-use Rattle.xa_judge.specs.declared.answer.Answer.TheVariants.{Reply as Replied, Unread as NotRead}
-use Rattle.xa_judge.specs.declared.client_state.ClientState.{ClientState}
-use Rattle.xa_judge.specs.declared.client_state.ClientState.TheVariants.{Called, Answered, Gone}
-use Rattle.xa_judge.specs.declared.event.Seen.{Seen}
-use Rattle.xa_judge.specs.declared.event.Seen.TheVariants.{Error as SeenError}
-use Rattle.xa_judge.specs.declared.configuration.Configuration.{Configuration}
-use Rattle.xa_judge.specs.declared.open_call.OpenCall.{OpenCall}
-use Rattle.xa_judge.specs.Found.{config_of, Has}
-use Rattle.xa_judge.specs.Late.{has_unheard, is_over}
+use Rattle.xa_server.specs.{declared.association.Association.{Association, TheVariants.Free}, Step.is_refused}
+use Rattle.xa_server.specs.{State.{State, association_of}, Locks.LockLaw}
+use Rattle.xa_judge.specs.declared.{request.Request.{Request, TheVariants.Statement as Given}, answer.Answer.Answer}
+use Rattle.xa_judge.specs.declared.client_state.ClientState.{ClientState, TheVariants.{Called, Answered, Gone}}
+use Rattle.xa_judge.specs.declared.event.{Seen.Seen, Event.{Event, TheVariants.{Call, Return, Lost, Unknown}}}
+use Rattle.xa_judge.specs.declared.{configuration.Configuration.Configuration, open_call.OpenCall.OpenCall}
+use Rattle.xa_judge.specs.{declared.moves.{Act.Act, Move.Move}, Found.{config_of, Has}, Late.{has_unheard, is_over}}
 use Rattle.xa_judge.specs.Explained.{Config, shows_answer, answer_to, effect_of, observed, LeadsThrough, IsSession}
-use Rattle.xa_judge.specs.declared.event.Event.{Event}
-use Rattle.xa_judge.specs.declared.event.Event.TheVariants.{Call, Return, Lost, Unknown}
-use Rattle.xa_judge.specs.declared.moves.Act.{Act}
-use Rattle.xa_judge.specs.declared.moves.Move.{Move}
 
 -- what is known of an open call: what it returns (`seen`); or that it isn't heard of any more (`never`); and what was
 -- called for (`asked`)
@@ -92,7 +77,7 @@ IsQuiet state session request = ⊥
 
 -- the request changes nothing whenever the return shows its answer: it is quiet, or the return shows a refusal
 abbrev pub IsQuietFor : State → ℕ → Request → Seen → Type 0
-IsQuietFor state session request (SeenError numbers) = Unit {0}
+IsQuietFor state session request (Seen.Error numbers) = Unit {0}
 IsQuietFor state session request seen = IsQuiet state session request
 
 -- what is kept (`other`) is ahead of the order (`one`): the call was answered there with what it returns. In the
@@ -135,8 +120,8 @@ is_reading state session request = false
 
 -- the answer says that nothing was done: it is a refusal, or the text wasn't a statement
 abbrev pub refuses : Answer → Bool
-refuses (Replied reply) = is_refused reply
-refuses NotRead = true
+refuses (Answer.Reply reply) = is_refused reply
+refuses Answer.Unread = true
 
 -- the request changes nothing as things are: it only reads, or is refused
 abbrev pub is_still : State → ℕ → Request → Bool

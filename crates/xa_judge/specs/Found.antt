@@ -15,22 +15,13 @@
 --     AddsOnly         nothing is added but what an act that counts (Late.antt) leads to from a configuration
 --     IsSettledIn, IsSeenIn    it comes of one of a list, by what a session called for;  by an event
 --     IsExpandedBelow, IsClosedBelow      the list has what acts that count lead to
-use Rattle.std.specs.Prelude.{◌≡◌, ◌≢◌, ◌⊎◌, ℕ, ◌<◌, false, Option, Some, None, List, [], ◌∷◌, ◌++◌, length}
-use Rattle.std.specs.Prelude.{map, slice_get, slice_set}
-use Rattle.std.specs.List.{All, Contains}
+use Rattle.std.specs.Prelude.{◌≡◌, ◌≢◌, ◌⊎◌, ℕ, ◌<◌, false, Option, Some, None, List, [], ◌∷◌, ◌++◌, length, map}
+use Rattle.std.specs.{Prelude.{slice_get, slice_set}, List.{All, Contains}}
 use Rattle.xa_server.specs.State.{State}
-use Rattle.xa_judge.specs.declared.event.Event.{Event}
-use Rattle.xa_judge.specs.declared.client_state.ClientState.{ClientState}
-use Rattle.xa_judge.specs.declared.client_state.ClientState.TheVariants.{Answered}
-use Rattle.xa_judge.specs.declared.answer.Answer.{Answer}
-use Rattle.xa_judge.specs.declared.moves.Act.{Act}
-use Rattle.xa_judge.specs.declared.moves.Act.TheVariants.{Statement}
-use Rattle.xa_judge.specs.declared.moves.Move.TheVariants.{Event as Seeing, Effect}
-use Rattle.xa_judge.specs.declared.moves.Move.{Move}
-use Rattle.xa_judge.specs.declared.configuration.Configuration.{Configuration}
+use Rattle.xa_judge.specs.declared.{event.Event.Event, client_state.ClientState.ClientState, answer.Answer.Answer}
+use Rattle.xa_judge.specs.declared.{moves.{Act.Act, Move.Move}, configuration.Configuration.Configuration}
 use Rattle.xa_judge.specs.Explained.{Config, opening_config, effect_of, observed, LeadsThrough, IsSession}
-use Rattle.xa_judge.specs.Late.{after_settling, is_over, IsNextTo}
-use Rattle.xa_judge.specs.Verdicts.{AreDifferent}
+use Rattle.xa_judge.specs.{Late.{after_settling, is_over, IsNextTo}, Verdicts.AreDifferent}
 
 -- a configuration as the definitions see it
 abbrev pub config_of : Configuration → Config
@@ -74,8 +65,8 @@ ReachesPast event old new =
 -- effect more
 abbrev pub IsSettledFrom : ℕ → Configuration → Configuration → Type 0
 IsSettledFrom session old new =
-    (new ≡ old) ⊎ (IsSession session × (effect_of (config_of old) session Statement ≡ Some (config_of new))
-    × (new.path ≡ old.path ++ Effect session Statement ∷ []))
+    (new ≡ old) ⊎ (IsSession session × (effect_of (config_of old) session Act.Statement ≡ Some (config_of new))
+    × (new.path ≡ old.path ++ Move.Effect session Act.Statement ∷ []))
 
 -- the list had this configuration and is as it was; or it has this one at its end in addition
 abbrev pub AddsUnlessThere : List Configuration → Configuration → List Configuration → Type 0
@@ -93,19 +84,19 @@ abbrev pub IsSeenAdded : Event → Configuration → List Configuration → List
 IsSeenAdded event one old new =
     ((observed (config_of one) event ≡ None) × (new ≡ old))
     ⊎ ((next : Configuration) × (observed (config_of one) event ≡ Some (config_of next))
-    × (next.path ≡ one.path ++ Seeing ∷ [])
+    × (next.path ≡ one.path ++ Move.Event ∷ [])
     × AddsUnlessThere old next new)
 
 -- the list has the client's answer in addition, or is as it was if the client has none
 abbrev pub IsAnswerAdded : Option ClientState → List Answer → List Answer → Type 0
-IsAnswerAdded (Some (Answered answer)) old new = new ≡ old ++ answer ∷ []
+IsAnswerAdded (Some (ClientState.Answered answer)) old new = new ≡ old ++ answer ∷ []
 IsAnswerAdded other old new = new ≡ old
 
 -- the session has this answer in a configuration of the list
 pub record IsAnsweredIn (list : List Configuration) (session : ℕ) (answer : Answer) : Type 0 where
   pub one : Config
   pub has : Has list one
-  pub stands : slice_get one.clients session ≡ Some (Answered answer)
+  pub stands : slice_get one.clients session ≡ Some (ClientState.Answered answer)
 
 -- the list has only the configuration before all events, with an empty path
 abbrev pub IsOpening : State → List Configuration → Type 0

@@ -4,8 +4,7 @@
 --     state_past      the state after blocks of such requests
 use Rattle.std.specs.Prelude.{List, fold}
 use Rattle.xa_server.specs.State.{State}
-use Rattle.xa_judge.specs.declared.done.Done.{Done}
-use Rattle.xa_judge.specs.Explained.{next_state}
+use Rattle.xa_judge.specs.{declared.done.Done.Done, Explained.next_state}
 
 -- the state after a request that was carried out
 abbrev pub state_after : State → Done → State

@@ -17,50 +17,41 @@
 --     count_in             how many events stand in one part
 --     IsApart              no branch has anything of the chosen rows, or is owned by a session that is `free`
 --     HasNoBranch          there is no branch
-use Rattle.std.specs.Prelude.{◌≡◌, ℕ, suc, Bool, true, false, Some, List, [], ◌∷◌, slice_get, slice_set, replicate}
-use Rattle.std.specs.Prelude.{◌≢◌, Option, None, cond}
-use Rattle.std.specs.Option.{unwrap_or, option_map_or}
-use Rattle.std.specs.FinMap as map
-use Rattle.xa_xid.specs.declared.xid.Xid.{Xid}
-use Rattle.xa_xid.specs.declared.statement.Statement.TheVariants.{Start, Prepare, Commit, Rollback}
-use Rattle.xa_xid.specs.declared.statement.Statement.TheVariants.{Get, Put, Del, Disconnect}
+use Rattle.std.specs.Prelude.{◌≡◌, ℕ, suc, Bool, true, false, Some, List, [], ◌∷◌, slice_get, slice_set, replicate, ◌≢◌}
+use Rattle.std.specs.{Prelude.{Option, None, cond}, Option.{unwrap_or, option_map_or}}
+use Rattle.xa_xid.specs.declared.{xid.Xid.Xid, statement.Statement.Statement}
 use Rattle.xa_server.specs.State.{Branch, State}
-use Rattle.xa_judge.specs.declared.request.Request.{Request}
-use Rattle.xa_judge.specs.declared.request.Request.TheVariants.{Statement as Given}
-use Rattle.xa_judge.specs.declared.event.Seen.{Seen}
-use Rattle.xa_judge.specs.declared.event.Seen.TheVariants.{Ok as SeenOk}
-use Rattle.xa_judge.specs.declared.event.Event.{Event}
-use Rattle.xa_judge.specs.declared.event.Event.TheVariants.{Call, Return, Lost, Unknown}
-use Rattle.xa_judge.specs.declared.turn.Turn.{Turn}
-use Rattle.xa_judge.specs.declared.turn.Turn.TheVariants.{Nobody, Chosen, Other, Within, Rest, Ending}
+use Rattle.xa_judge.specs.declared.{request.Request.{Request, TheVariants.Statement as Given}, event.Seen.Seen}
+use Rattle.xa_judge.specs.declared.{event.Event.{Event, TheVariants.{Call, Return, Lost, Unknown}}, turn.Turn.Turn}
+use Rattle.std.specs.FinMap as map
 
 -- a statement on a chosen row, by a session that has no branch
 abbrev pub IsFreeRequest : (List ℕ → Bool) → (ℕ → Bool) → ℕ → Request → Type 0
-IsFreeRequest named free session (Given (Get key)) = (free session ≡ true) × (named key ≡ true)
-IsFreeRequest named free session (Given (Put key value)) = (free session ≡ true) × (named key ≡ true)
-IsFreeRequest named free session (Given (Del key)) = (free session ≡ true) × (named key ≡ true)
+IsFreeRequest named free session (Given (Statement.Get key)) = (free session ≡ true) × (named key ≡ true)
+IsFreeRequest named free session (Given (Statement.Put key value)) = (free session ≡ true) × (named key ≡ true)
+IsFreeRequest named free session (Given (Statement.Del key)) = (free session ≡ true) × (named key ≡ true)
 IsFreeRequest named free session request = ⊥
 
 -- a request that names no chosen row, and is no XA START of a session that has no branch
 abbrev pub IsOtherRequest : (List ℕ → Bool) → (ℕ → Bool) → ℕ → Request → Type 0
-IsOtherRequest named free session (Given (Get key)) = named key ≡ false
-IsOtherRequest named free session (Given (Put key value)) = named key ≡ false
-IsOtherRequest named free session (Given (Del key)) = named key ≡ false
-IsOtherRequest named free session (Given (Start xid)) = free session ≡ false
+IsOtherRequest named free session (Given (Statement.Get key)) = named key ≡ false
+IsOtherRequest named free session (Given (Statement.Put key value)) = named key ≡ false
+IsOtherRequest named free session (Given (Statement.Del key)) = named key ≡ false
+IsOtherRequest named free session (Given (Statement.Start xid)) = free session ≡ false
 IsOtherRequest named free session request = Unit {0}
 
 -- a statement on a chosen row
 abbrev pub IsOnRows : (List ℕ → Bool) → Request → Type 0
-IsOnRows named (Given (Get key)) = named key ≡ true
-IsOnRows named (Given (Put key value)) = named key ≡ true
-IsOnRows named (Given (Del key)) = named key ≡ true
+IsOnRows named (Given (Statement.Get key)) = named key ≡ true
+IsOnRows named (Given (Statement.Put key value)) = named key ≡ true
+IsOnRows named (Given (Statement.Del key)) = named key ≡ true
 IsOnRows named request = ⊥
 
 -- a request that names no chosen row
 abbrev pub IsOffRows : (List ℕ → Bool) → Request → Type 0
-IsOffRows named (Given (Get key)) = named key ≡ false
-IsOffRows named (Given (Put key value)) = named key ≡ false
-IsOffRows named (Given (Del key)) = named key ≡ false
+IsOffRows named (Given (Statement.Get key)) = named key ≡ false
+IsOffRows named (Given (Statement.Put key value)) = named key ≡ false
+IsOffRows named (Given (Statement.Del key)) = named key ≡ false
 IsOffRows named request = Unit {0}
 
 -- whose event it is
@@ -72,12 +63,12 @@ session_of (Unknown session) = session
 
 -- a session with this turn has no branch
 abbrev pub has_none : Turn → Bool
-has_none Nobody = true
-has_none Chosen = true
-has_none Other = true
-has_none Within = false
-has_none Rest = false
-has_none Ending = false
+has_none Turn.Nobody = true
+has_none Turn.Chosen = true
+has_none Turn.Other = true
+has_none Turn.Within = false
+has_none Turn.Rest = false
+has_none Turn.Ending = false
 
 -- whether the session of this number has no branch, by its turn
 abbrev pub free_in : List Turn → ℕ → Bool
@@ -85,68 +76,68 @@ free_in turns session = option_map_or has_none (slice_get turns session) false
 
 -- the request may start a branch
 abbrev pub is_start : Request → Bool
-is_start (Given (Start xid)) = true
+is_start (Given (Statement.Start xid)) = true
 is_start request = false
 
 -- once the request is accepted, its session has no branch
 abbrev pub is_ending : Request → Bool
-is_ending (Given (Prepare xid)) = true
-is_ending (Given (Commit xid one_phase)) = true
-is_ending (Given (Rollback xid)) = true
-is_ending (Given Disconnect) = true
+is_ending (Given (Statement.Prepare xid)) = true
+is_ending (Given (Statement.Commit xid one_phase)) = true
+is_ending (Given (Statement.Rollback xid)) = true
+is_ending (Given Statement.Disconnect) = true
 is_ending request = false
 
 -- a session's turn after a call in the other part. From Nobody it is Rest if the request may start a branch, else
 -- Other; from any other turn it is Ending if the request, once accepted, leaves the session without a branch, else
 -- Rest
 abbrev pub turn_called : Turn → Request → Turn
-turn_called Nobody request = cond (is_start request) Rest Other
-turn_called turn request = cond (is_ending request) Ending Rest
+turn_called Turn.Nobody request = cond (is_start request) Turn.Rest Turn.Other
+turn_called turn request = cond (is_ending request) Turn.Ending Turn.Rest
 
 -- a session's turn after its call has returned this: a session that may have a branch has none only after an OK to an
 -- ending request
 abbrev pub turn_returned : Turn → Seen → Turn
-turn_returned Chosen seen = Nobody
-turn_returned Other seen = Nobody
-turn_returned Ending SeenOk = Nobody
-turn_returned turn seen = Within
+turn_returned Turn.Chosen seen = Turn.Nobody
+turn_returned Turn.Other seen = Turn.Nobody
+turn_returned Turn.Ending Seen.Ok = Turn.Nobody
+turn_returned turn seen = Turn.Within
 
 -- a session's turn after its call is over with an answer that isn't known: one that had no branch still has none, and
 -- any other may have one
 abbrev pub turn_unknown : Turn → Turn
-turn_unknown Chosen = Nobody
-turn_unknown Other = Nobody
-turn_unknown turn = Within
+turn_unknown Turn.Chosen = Turn.Nobody
+turn_unknown Turn.Other = Turn.Nobody
+turn_unknown turn = Turn.Within
 
 -- a session's turn after its event: true stands for the chosen part. A session whose client is lost has Within
 abbrev pub turn_after : Turn → Event → Bool → Turn
-turn_after turn (Call session request) true = Chosen
+turn_after turn (Call session request) true = Turn.Chosen
 turn_after turn (Call session request) false = turn_called turn request
 turn_after turn (Return session seen) side = turn_returned turn seen
-turn_after turn (Lost session) side = Within
+turn_after turn (Lost session) side = Turn.Within
 turn_after turn (Unknown session) side = turn_unknown turn
 
 -- the open call belongs to the chosen part
 abbrev pub is_chosen : Turn → Bool
-is_chosen Nobody = false
-is_chosen Chosen = true
-is_chosen Other = false
-is_chosen Within = false
-is_chosen Rest = false
-is_chosen Ending = false
+is_chosen Turn.Nobody = false
+is_chosen Turn.Chosen = true
+is_chosen Turn.Other = false
+is_chosen Turn.Within = false
+is_chosen Turn.Rest = false
+is_chosen Turn.Ending = false
 
 -- a statement on this row may stand in this part; true stands for the chosen one. There the row is chosen, and the
 -- session has no branch and no open call. In the other part the row isn't chosen, and no chosen call of the session
 -- is open
 abbrev pub FitsRow : (List ℕ → Bool) → Turn → List ℕ → Bool → Type 0
-FitsRow named turn key true = (turn ≡ Nobody) × (named key ≡ true)
+FitsRow named turn key true = (turn ≡ Turn.Nobody) × (named key ≡ true)
 FitsRow named turn key false = (is_chosen turn ≡ false) × (named key ≡ false)
 
 -- the event may stand in this part; true stands for the chosen one. A call fits as its row does (`FitsRow`), and one
 -- without a row only in the other part; the end of a call where the call stands; a lost client only in the other part,
 -- if no chosen call of it is open
 abbrev pub FitsTurn : (List ℕ → Bool) → Turn → Event → Bool → Type 0
-FitsTurn named turn (Call session request) true = (turn ≡ Nobody) × IsOnRows named request
+FitsTurn named turn (Call session request) true = (turn ≡ Turn.Nobody) × IsOnRows named request
 FitsTurn named turn (Call session request) false = (is_chosen turn ≡ false) × IsOffRows named request
 FitsTurn named turn (Lost session) true = ⊥
 FitsTurn named turn (Lost session) false = is_chosen turn ≡ false
@@ -155,7 +146,7 @@ FitsTurn named turn (Unknown session) side = is_chosen turn ≡ side
 
 -- the turn of a session; Nobody if the list has no place for it
 abbrev pub turn_in : List Turn → ℕ → Turn
-turn_in turns session = unwrap_or (slice_get turns session) Nobody
+turn_in turns session = unwrap_or (slice_get turns session) Turn.Nobody
 
 -- the turns after an event
 abbrev pub turns_past : List Turn → Bool → Event → List Turn
@@ -164,7 +155,7 @@ turns_past turns side event =
 
 -- the turns before all events: no session has an open call or a branch
 unfoldable pub first_turns : List Turn
-first_turns = replicate 17 Nobody
+first_turns = replicate 17 Turn.Nobody
 
 -- there is a part for each event, in which it may stand (`FitsTurn`) by the turns after those before it; true stands
 -- for the chosen part

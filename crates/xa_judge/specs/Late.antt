@@ -16,12 +16,8 @@
 use Rattle.std.specs.Prelude.{◌≡◌, ◌≢◌, ◌⊎◌, ℕ, zero, suc, Bool, true, false, Option, Some, None, List, slice_get}
 use Rattle.std.specs.Prelude.{slice_set}
 use Rattle.xa_server.specs.State.{State}
-use Rattle.xa_judge.specs.declared.request.Request.{Request}
-use Rattle.xa_judge.specs.declared.event.Event.{Event}
-use Rattle.xa_judge.specs.declared.event.Event.TheVariants.{Call, Return, Lost, Unknown}
-use Rattle.xa_judge.specs.declared.client_state.ClientState.{ClientState}
-use Rattle.xa_judge.specs.declared.client_state.ClientState.TheVariants.{Called, Answered, Gone}
-use Rattle.xa_judge.specs.declared.moves.Act.{Act}
+use Rattle.xa_judge.specs.declared.{request.Request.Request, event.Event.Event, client_state.ClientState.ClientState}
+use Rattle.xa_judge.specs.declared.{client_state.ClientState.TheVariants.{Called, Answered, Gone}, moves.Act.Act}
 use Rattle.xa_judge.specs.Explained.{Config, opening_config, effect_of, observed, IsSession, answer_to, next_state}
 
 -- what a session whose client isn't gone has called for, if that has taken no effect yet
@@ -89,17 +85,17 @@ IsAnyUnheard kept session = (one : Config) × kept one × (has_unheard one sessi
 -- acts may have to take effect before the event: the call of a return or of an unknown answer, after calls of others;
 -- and the earlier call of a session whose client is gone, before it calls again
 abbrev pub Widens : (Config → Type 0) → Event → Type 0
-Widens kept (Call session request) = IsAnyUnheard kept session
-Widens kept (Return session seen) = Unit {0}
-Widens kept (Lost session) = ⊥
-Widens kept (Unknown session) = Unit {0}
+Widens kept (Event.Call session request) = IsAnyUnheard kept session
+Widens kept (Event.Return session seen) = Unit {0}
+Widens kept (Event.Lost session) = ⊥
+Widens kept (Event.Unknown session) = Unit {0}
 
 -- the session that is to return; None at an event that is no return
 abbrev pub returning_at : Event → Option ℕ
-returning_at (Call session request) = None
-returning_at (Return session seen) = Some session
-returning_at (Lost session) = None
-returning_at (Unknown session) = None
+returning_at (Event.Call session request) = None
+returning_at (Event.Return session seen) = Some session
+returning_at (Event.Lost session) = None
+returning_at (Event.Unknown session) = None
 
 -- acts may have to take effect before the event, and those that count lead to this from what is kept
 pub record IsCounted (kept : Config → Type 0) (event : Event) (config : Config) : Type 0 where
@@ -110,11 +106,11 @@ pub record IsCounted (kept : Config → Type 0) (event : Event) (config : Config
 -- that count lead to (`IsCounted`), before a call or an unknown answer. Before a return acts come first, and what its
 -- session called for takes effect last
 abbrev pub IsReady : (Config → Type 0) → Event → Config → Type 0
-IsReady kept (Call session request) config = kept config ⊎ IsCounted kept (Call session request) config
-IsReady kept (Return session seen) config =
-    (one : Config) × IsCounted kept (Return session seen) one × (config ≡ after_settling one session)
-IsReady kept (Lost session) config = kept config
-IsReady kept (Unknown session) config = IsCounted kept (Unknown session) config
+IsReady kept (Event.Call session request) config = kept config ⊎ IsCounted kept (Event.Call session request) config
+IsReady kept (Event.Return session seen) config =
+    (one : Config) × IsCounted kept (Event.Return session seen) one × (config ≡ after_settling one session)
+IsReady kept (Event.Lost session) config = kept config
+IsReady kept (Event.Unknown session) config = IsCounted kept (Event.Unknown session) config
 
 -- the configuration is kept after the event, which leads to it from one that stands directly before (`IsReady`)
 abbrev pub IsKeptAfter : (Config → Type 0) → Event → Config → Type 0

@@ -5,28 +5,12 @@
 --     with_server            a number after a server's branches, and the committed values of some rows
 --     mark                   a configuration's number; the keys are those of the rows that were written
 use Rattle.std.specs.Prelude.{ℕ, ◌+◌, ◌*◌, ◌/◌, ◌%◌, ◌^◌, Option, Some, None, List, length, fold, bit_xor}
-use Rattle.xa_xid.specs.declared.xid.Xid.{Xid}
-use Rattle.xa_xid.specs.Xid.{Text}
-use Rattle.xa_server.specs.declared.reply.Reply.TheVariants.{Ok as Accepted, Value, Recovered, Refused}
-use Rattle.xa_server.specs.declared.xa_error.XaError.{XaError}
-use Rattle.xa_server.specs.declared.xa_error.XaError.TheVariants.{Rmfail}
-use Rattle.xa_server.specs.declared.xa_error.BranchState.{BranchState}
-use Rattle.xa_server.specs.declared.xa_error.BranchState.TheVariants.{NonExisting, Active as StateActive}
-use Rattle.xa_server.specs.declared.xa_error.BranchState.TheVariants.{Idle as StateIdle, Prepared as StatePrepared}
-use Rattle.xa_server.specs.declared.branch.Phase.{Phase}
-use Rattle.xa_server.specs.declared.branch.Phase.TheVariants.{Active, Idle as PhaseIdle, Prepared}
-use Rattle.xa_server.specs.declared.hold.Hold.{Hold}
-use Rattle.xa_server.specs.declared.hold.Hold.TheVariants.{Shared, Put, Delete}
-use Rattle.xa_server.specs.declared.hold.HeldRow.{HeldRow}
-use Rattle.xa_server.specs.declared.overview.BranchEntry.{BranchEntry}
-use Rattle.xa_server.specs.State.{State, committed_value}
-use Rattle.xa_server.specs.Errors.{number_of}
-use Rattle.xa_server.specs.Overview.{branches_of, rows_of}
-use Rattle.xa_judge.specs.declared.answer.Answer.{Answer}
-use Rattle.xa_judge.specs.declared.answer.Answer.TheVariants.{Reply as Replied, Unread as NotRead}
-use Rattle.xa_judge.specs.declared.client_state.ClientState.{ClientState}
-use Rattle.xa_judge.specs.declared.client_state.ClientState.TheVariants.{Idle, Called, Answered, Gone, Left}
-use Rattle.xa_judge.specs.Explained.{Config}
+use Rattle.xa_xid.specs.{declared.xid.Xid.Xid, Xid.Text}
+use Rattle.xa_server.specs.declared.{reply.Reply.Reply, xa_error.XaError.{XaError, TheVariants.Rmfail}}
+use Rattle.xa_server.specs.declared.{xa_error.BranchState.BranchState, branch.Phase.Phase, hold.Hold.Hold}
+use Rattle.xa_server.specs.declared.{hold.HeldRow.HeldRow, overview.BranchEntry.BranchEntry}
+use Rattle.xa_server.specs.{State.{State, committed_value}, Errors.number_of, Overview.{branches_of, rows_of}}
+use Rattle.xa_judge.specs.{declared.{answer.Answer.Answer, client_state.ClientState.ClientState}, Explained.Config}
 
 -- a number after one more word: the xor of both, plus 1, times a constant, modulo 2^64; and then the xor of that with
 -- its own upper 35 bits. The constant is odd, and is 2^64 divided by the golden ratio, rounded down
@@ -54,10 +38,10 @@ with_xids number xids = fold with_xid (with_word number (length xids)) xids
 
 -- the number so far, followed by the state of a branch that a refusal names, as one word
 abbrev pub with_state : ℕ → BranchState → ℕ
-with_state number NonExisting = with_word number 0
-with_state number StateActive = with_word number 1
-with_state number StateIdle = with_word number 2
-with_state number StatePrepared = with_word number 3
+with_state number BranchState.NonExisting = with_word number 0
+with_state number BranchState.Active = with_word number 1
+with_state number BranchState.Idle = with_word number 2
+with_state number BranchState.Prepared = with_word number 3
 
 -- the number so far, followed by a refusal's number, and the state of a branch if it names one
 abbrev pub with_error : ℕ → XaError → ℕ
@@ -66,26 +50,26 @@ with_error number error = with_word number (number_of error)
 
 -- the number so far, followed by the kind of an answer as one word, and by what it has
 abbrev pub with_answer : ℕ → Answer → ℕ
-with_answer number NotRead = with_word number 0
-with_answer number (Replied Accepted) = with_word number 1
-with_answer number (Replied (Value value)) = with_value (with_word number 2) value
-with_answer number (Replied (Recovered xids)) = with_xids (with_word number 3) xids
-with_answer number (Replied (Refused error)) = with_error (with_word number 4) error
+with_answer number Answer.Unread = with_word number 0
+with_answer number (Answer.Reply Reply.Ok) = with_word number 1
+with_answer number (Answer.Reply (Reply.Value value)) = with_value (with_word number 2) value
+with_answer number (Answer.Reply (Reply.Recovered xids)) = with_xids (with_word number 3) xids
+with_answer number (Answer.Reply (Reply.Refused error)) = with_error (with_word number 4) error
 
 -- the number so far, followed by how far a session is, without what it has called for
 abbrev pub with_client : ℕ → ClientState → ℕ
-with_client number Idle = with_word number 0
-with_client number (Called request) = with_word number 1
-with_client number (Answered answer) = with_answer (with_word number 2) answer
-with_client number (Gone None) = with_word number 3
-with_client number (Gone (Some request)) = with_word number 4
-with_client number Left = with_word number 5
+with_client number ClientState.Idle = with_word number 0
+with_client number (ClientState.Called request) = with_word number 1
+with_client number (ClientState.Answered answer) = with_answer (with_word number 2) answer
+with_client number (ClientState.Gone None) = with_word number 3
+with_client number (ClientState.Gone (Some request)) = with_word number 4
+with_client number ClientState.Left = with_word number 5
 
 -- the number so far, followed by a branch's phase, as one word
 abbrev pub with_phase : ℕ → Phase → ℕ
-with_phase number Active = with_word number 0
-with_phase number PhaseIdle = with_word number 1
-with_phase number Prepared = with_word number 2
+with_phase number Phase.Active = with_word number 0
+with_phase number Phase.Idle = with_word number 1
+with_phase number Phase.Prepared = with_word number 2
 
 -- the number so far, followed by a branch's owner, as one word: 0 is nobody
 abbrev pub with_owner : ℕ → Option ℕ → ℕ
@@ -94,9 +78,9 @@ with_owner number (Some session) = with_word number session
 
 -- the number so far, followed by how a branch holds a row, as one word, and the value, if it puts one
 abbrev pub with_hold : ℕ → Hold → ℕ
-with_hold number Shared = with_word number 0
-with_hold number (Put value) = with_text (with_word number 1) value.items
-with_hold number Delete = with_word number 2
+with_hold number Hold.Shared = with_word number 0
+with_hold number (Hold.Put value) = with_text (with_word number 1) value.items
+with_hold number Hold.Delete = with_word number 2
 
 -- the number so far, followed by a row that a branch holds: its key and how it is held
 abbrev pub with_row : ℕ → HeldRow → ℕ

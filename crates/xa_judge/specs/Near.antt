@@ -5,17 +5,10 @@
 --     CallsNamed         an event, if it is a call, reads only named rows
 --     IsLoadedTo         the events lead to a state, with all sessions idle, and whatever goes on goes on from it
 --     IsNearLater        later events read only what a near server holds as well
-use Rattle.std.specs.Prelude.{◌≡◌, ℕ, Bool, true, List, ◌++◌}
-use Rattle.std.specs.BTreeSet.{BTreeSet, contains}
-use Rattle.std.specs.List.{All}
-use Rattle.xa_xid.specs.Xid.{bytes_cmp}
-use Rattle.xa_xid.specs.declared.statement.Statement.TheVariants.{Get}
+use Rattle.std.specs.{Prelude.{◌≡◌, ℕ, Bool, true, List, ◌++◌}, BTreeSet.{BTreeSet, contains}, List.All}
+use Rattle.xa_xid.specs.{Xid.bytes_cmp, declared.statement.Statement.TheVariants.Get}
 use Rattle.xa_server.specs.State.{State, committed_value}
-use Rattle.xa_judge.specs.declared.request.Request.{Request}
-use Rattle.xa_judge.specs.declared.request.Request.TheVariants.{Statement as Given}
-use Rattle.xa_judge.specs.declared.event.Event.{Event}
-use Rattle.xa_judge.specs.declared.event.Event.TheVariants.{Call}
-use Rattle.xa_judge.specs.declared.moves.Move.{Move}
+use Rattle.xa_judge.specs.declared.{request.Request.Request, event.Event.{Event, TheVariants.Call}, moves.Move.Move}
 use Rattle.xa_judge.specs.Explained.{Config, opening_config, LeadsThrough}
 
 -- a set of keys
@@ -33,7 +26,7 @@ pub record AreNear (named : List ℕ → Bool) (left right : State) : Type 0 whe
 
 -- the request reads only named rows: it is no GET, or one of a named row
 abbrev pub ReadsNamed : (List ℕ → Bool) → Request → Type 0
-ReadsNamed named (Given (Get key)) = named key ≡ true
+ReadsNamed named (Request.Statement (Get key)) = named key ≡ true
 ReadsNamed named request = Unit {0}
 
 -- if the event is a call, its request reads only named rows

@@ -1,18 +1,15 @@
 -- Moves as codes.
 --     move_of      the move of a code
 --     moves_of     the moves of blocks of codes, and of the codes after them
-use Rattle.std.specs.Prelude.{ℕ, ◌-◌, ltb, cond, List, ◌++◌, map}
-use Rattle.std.specs.List.{concat}
-use Rattle.xa_judge.specs.declared.moves.Act.TheVariants.{Statement, Disconnect}
-use Rattle.xa_judge.specs.declared.moves.Move.{Move}
-use Rattle.xa_judge.specs.declared.moves.Move.TheVariants.{Event, Effect}
+use Rattle.std.specs.{Prelude.{ℕ, ◌-◌, ltb, cond, List, ◌++◌, map}, List.concat}
+use Rattle.xa_judge.specs.declared.moves.{Act.Act, Move.{Move, TheVariants.{Event, Effect}}}
 
 -- the move of a code: 1 to 16 are the sessions' statements, 17 to 32 their DISCONNECT, and any other is the next
 -- event
 unfoldable pub move_of : ℕ → Move
 move_of code =
-    cond (ltb 0 code) (cond (ltb code 17) (Effect code Statement)
-    (cond (ltb code 33) (Effect (code - 16) Disconnect) Event)) Event
+    cond (ltb 0 code) (cond (ltb code 17) (Effect code Act.Statement)
+    (cond (ltb code 33) (Effect (code - 16) Act.Disconnect) Event)) Event
 
 -- the moves of all codes in the blocks, and then of those in the tail, in order
 abbrev pub moves_of : List (List ℕ) → List ℕ → List Move

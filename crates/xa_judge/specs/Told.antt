@@ -8,19 +8,11 @@
 --     IsToldOf         a verdict is told by passes up to what decides it;  without one there were only passes
 --     IsComplete       whatever goes on through more events goes on from one of a list
 --     IsSizeOfKept     the size of the list that is kept before an event
-use Rattle.std.specs.Prelude.{◌≡◌, ℕ, ◌+◌, ◌<◌, Option, MatchOption, List, ◌++◌, length, take}
-use Rattle.std.specs.List.{All}
+use Rattle.std.specs.{Prelude.{◌≡◌, ℕ, ◌+◌, ◌<◌, Option, MatchOption, List, ◌++◌, length, take}, List.All}
 use Rattle.xa_server.specs.State.{State}
-use Rattle.xa_judge.specs.declared.configuration.Configuration.{Configuration}
-use Rattle.xa_judge.specs.declared.event.Event.{Event}
-use Rattle.xa_judge.specs.declared.moves.Move.{Move}
-use Rattle.xa_judge.specs.declared.so_far.SoFar.{SoFar}
-use Rattle.xa_judge.specs.declared.verdict.Verdict.{Verdict}
-use Rattle.xa_judge.specs.declared.verdict.Verdict.TheVariants.{Legal, Illegal, Undecided}
-use Rattle.xa_judge.specs.Advances.{Continues}
-use Rattle.xa_judge.specs.Explained.{Config, opening_config, LeadsThrough}
-use Rattle.xa_judge.specs.Found.{Has, Reaches}
-use Rattle.xa_judge.specs.Late.{IsKept}
+use Rattle.xa_judge.specs.declared.{configuration.Configuration.Configuration, event.Event.Event, moves.Move.Move}
+use Rattle.xa_judge.specs.{declared.{so_far.SoFar.SoFar, verdict.Verdict.Verdict}, Advances.Continues}
+use Rattle.xa_judge.specs.{Explained.{Config, opening_config, LeadsThrough}, Found.{Has, Reaches}, Late.IsKept}
 
 -- one report makes `new` of the progress `old`, as `gives` says, and tells that `done` events of `all` are judged and
 -- that so many configurations are kept
@@ -56,9 +48,9 @@ pub data ArePasses {S : Type 0} (gives : S → SoFar → S → Type 0) (all : �
 
 -- how many events a verdict is about: all for LEGAL, else those up to and including the one at its place
 abbrev pub seen_for : List Event → Verdict → ℕ
-seen_for events (Legal moves) = length events
-seen_for events (Illegal place answers) = place + 1
-seen_for events (Undecided place) = place + 1
+seen_for events (Verdict.Legal moves) = length events
+seen_for events (Verdict.Illegal place answers) = place + 1
+seen_for events (Verdict.Undecided place) = place + 1
 
 -- the events are reported in passes, of which the last one goes up to this many
 pub record IsToldUpTo {S : Type 0} (gives : S → SoFar → S → Type 0) (all seen : ℕ) (old new : S) : Type 0 where

@@ -9,16 +9,10 @@
 use Rattle.std.specs.Prelude.{◌≡◌, ◌≢◌, ℕ, ◌+◌, ◌<◌, List, Some, length, take, slice_get}
 use Rattle.std.specs.List.{All, AllPairs, Contains}
 use Rattle.xa_server.specs.State.{State}
-use Rattle.xa_judge.specs.declared.answer.Answer.{Answer}
-use Rattle.xa_judge.specs.declared.client_state.ClientState.TheVariants.{Answered}
-use Rattle.xa_judge.specs.declared.event.Event.{Event}
-use Rattle.xa_judge.specs.declared.event.Event.TheVariants.{Return}
-use Rattle.xa_judge.specs.declared.event.Seen.{Seen}
-use Rattle.xa_judge.specs.declared.moves.Move.{Move}
-use Rattle.xa_judge.specs.declared.verdict.Verdict.{Verdict}
-use Rattle.xa_judge.specs.declared.verdict.Verdict.TheVariants.{Legal, Illegal, Undecided}
-use Rattle.xa_judge.specs.Explained.{Config, opening_config, LeadsThrough, Explained}
-use Rattle.xa_judge.specs.Late.{IsCounted, IsKept}
+use Rattle.xa_judge.specs.declared.{answer.Answer.Answer, client_state.ClientState.TheVariants.Answered}
+use Rattle.xa_judge.specs.declared.{event.{Event.{Event, TheVariants.Return}, Seen.Seen}, moves.Move.Move}
+use Rattle.xa_judge.specs.declared.verdict.Verdict.{Verdict, TheVariants.{Legal, Illegal, Undecided}}
+use Rattle.xa_judge.specs.{Explained.{Config, opening_config, LeadsThrough, Explained}, Late.{IsCounted, IsKept}}
 
 -- an order explains the events before this place; none explains those up to and including the one at this
 -- place, nor all

@@ -4,8 +4,7 @@ ghost use Rattle.std.specs.Option.{option_map};
 ghost use Rattle.xa_xid.specs.declared.statement.Statement.TheVariants.{Disconnect};
 ghost use Rattle.xa_server.specs.Step.{after};
 ghost use Rattle.xa_judge.specs.Explained.{answer_to, next_state, effect_of, IsSession};
-ghost use Rattle.xa_judge.specs.Found.{config_of, moved_to, IsSettledFrom};
-ghost use Rattle.xa_judge.specs.Late.{called_for, after_settling};
+ghost use Rattle.xa_judge.specs.{Found.{config_of, moved_to, IsSettledFrom}, Late.{called_for, after_settling}};
 
 use crate::answer::Answer;
 use crate::client_state::ClientState;

@@ -1,8 +1,6 @@
 //! What one more event does to the configurations that are kept.
 ghost use Rattle.std.specs.Prelude.{◌≡◌, ◌<◌, true, false, vec_len, IfOk};
-ghost use Rattle.xa_judge.specs.Explained.{Config};
-ghost use Rattle.xa_judge.specs.Found.{Has};
-ghost use Rattle.xa_judge.specs.Late.{has_unheard, IsAnyUnheard, Widens};
+ghost use Rattle.xa_judge.specs.{Explained.Config, Found.Has, Late.{has_unheard, IsAnyUnheard, Widens}};
 ghost use Rattle.xa_judge.specs.Advances.{IsAdvance, IsSeenFrom, IsCallOf, IsReturnOf, IsNoReturn};
 
 use crate::closing::{answers_in, close, observe_all, settle_all};

@@ -4,9 +4,7 @@
 //! register of its own. A record that begins without a branch is explained exactly if the statements on each such row
 //! are, and so is the rest. The `GET`, `PUT` and `DEL` of such rows are the free statements.
 ghost use Rattle.std.specs.Prelude.{◌≡◌, true, false, not, take, IfOk, IfSome};
-ghost use Rattle.xa_judge.specs.Explained.{Explained};
-ghost use Rattle.xa_judge.specs.Keys.{first_turns, HasNoBranch, IsCut, picked};
-ghost use Rattle.xa_judge.specs.Near.{named_in};
+ghost use Rattle.xa_judge.specs.{Explained.Explained, Keys.{first_turns, HasNoBranch, IsCut, picked}, Near.named_in};
 ghost use Rattle.xa_judge.specs.Verdicts.{IsVerdict};
 
 use crate::event::Event;

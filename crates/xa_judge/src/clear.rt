@@ -4,12 +4,11 @@
 //! other branch holds. In these functions `one` is the step, `xid` its branch, `rows` has the keys of the rows that it
 //! is about, and `two` is a statement of another session.
 ghost use Rattle.std.specs.Prelude.{◌≡◌, ◌≢◌, ◌<◌, ◌+◌, ◌∷◌, true, false, Some, None, List, ℕ, slice_get, length, drop};
-ghost use Rattle.std.specs.List.{list_any};
-ghost use Rattle.std.specs.Ordering.{eq_by_cmp};
+ghost use Rattle.std.specs.{List.list_any, Ordering.eq_by_cmp};
 ghost use Rattle.xa_xid.specs.Xid.{same_xid, bytes_cmp};
-ghost use Rattle.xa_judge.specs.declared.request.Request.{Request as RequestSeen};
-ghost use Rattle.xa_judge.specs.Clear.{Avoids, IsUnlisted, key_of, IsAmong, IsClearOf, IsListedAfter, EndsPrepared};
-ghost use Rattle.xa_judge.specs.Clear.{IsHeldBack, ComesAfter, IsAside, returns_in, AreCallsAside};
+ghost use Rattle.xa_judge.specs.{declared.request.Request.Request as RequestSeen, Clear.{Avoids, IsUnlisted, key_of}};
+ghost use Rattle.xa_judge.specs.Clear.{IsAmong, IsClearOf, IsListedAfter, EndsPrepared, IsHeldBack, ComesAfter};
+ghost use Rattle.xa_judge.specs.Clear.{IsAside, returns_in, AreCallsAside};
 
 use crate::event::{Event, Seen};
 use crate::hints::session_of;

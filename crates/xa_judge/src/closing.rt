@@ -2,11 +2,9 @@
 //! given.
 ghost use Rattle.std.specs.Prelude.{◌≡◌, ◌<◌, ℕ, List, Some, true, false, slice_get, vec_len, length, IfOk, OnOk};
 ghost use Rattle.std.specs.List.{All, Contains};
-ghost use Rattle.xa_judge.specs.Explained.{Config, observed};
-ghost use Rattle.xa_judge.specs.declared.answer.Answer.{Answer};
-ghost use Rattle.xa_judge.specs.Found.{Has, IsSpread, Grows, KeepsReach, ReachesPast, IsClosedBelow, IsSettledIn};
-ghost use Rattle.xa_judge.specs.Found.{IsAnsweredIn, IsAnswerAdded, IsSeenAdded, IsSeenIn};
-ghost use Rattle.xa_judge.specs.Late.{after_settling, IsReachedFrom};
+ghost use Rattle.xa_judge.specs.{Explained.{Config, observed}, declared.answer.Answer.Answer, Found.{Has, IsSpread}};
+ghost use Rattle.xa_judge.specs.Found.{Grows, KeepsReach, ReachesPast, IsClosedBelow, IsSettledIn, IsAnsweredIn};
+ghost use Rattle.xa_judge.specs.{Found.{IsAnswerAdded, IsSeenAdded, IsSeenIn}, Late.{after_settling, IsReachedFrom}};
 
 use crate::client_state::ClientState;
 use crate::configuration::Configuration;

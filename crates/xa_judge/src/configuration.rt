@@ -1,8 +1,6 @@
 //! Configurations: a state of the server, and how far each session is.
 ghost use Rattle.std.specs.Prelude.{◌≡◌, ◌<◌, ◌∷◌, ◌++◌, [], true, false, cond, Some, None, slice_get, vec_len, length};
-ghost use Rattle.std.specs.Prelude.{IfOk, IfSome};
-ghost use Rattle.std.specs.Option.{option_copied, option_map};
-ghost use Rattle.std.specs.Prelude.{replicate};
+ghost use Rattle.std.specs.{Prelude.{IfOk, IfSome, replicate}, Option.{option_copied, option_map}};
 ghost use Rattle.xa_xid.specs.declared.statement.Statement.TheVariants.{Disconnect};
 ghost use Rattle.xa_server.specs.Step.{after};
 ghost use Rattle.xa_judge.specs.Explained.{opening_config, answer_to, next_state, effect_of, IsSession};

@@ -1,7 +1,6 @@
 //! Events: what was seen at clients.
 ghost use Rattle.std.specs.Prelude.{◌≡◌};
-ghost use Rattle.xa_judge.specs.Answers.{answer_kept};
-ghost use Rattle.xa_judge.specs.Explained.{shows_answer};
+ghost use Rattle.xa_judge.specs.{Answers.answer_kept, Explained.shows_answer};
 
 use crate::answer::Answer;
 use crate::error_numbers::ErrorNumbers;

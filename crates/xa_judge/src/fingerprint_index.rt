@@ -1,7 +1,6 @@
 //! At which places of a list the configurations of each fingerprint are.
 ghost use Rattle.std.specs.Prelude.{◌≡◌, true, IfOk};
-ghost use Rattle.xa_judge.specs.Marks.{mark};
-ghost use Rattle.xa_judge.specs.Found.{config_of, IsSpread};
+ghost use Rattle.xa_judge.specs.{Marks.mark, Found.{config_of, IsSpread}};
 
 use crate::branch_records::BranchRecords;
 use crate::configuration::Configuration;

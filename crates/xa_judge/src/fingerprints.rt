@@ -1,12 +1,10 @@
 //! Fingerprints: 64-bit numbers by which configurations, keys and identifiers are told apart.
 ghost use Rattle.std.specs.Prelude.{◌≡◌, fold, map, IfOk};
 ghost use Rattle.xa_judge.specs.Marks.{with_word, with_text, with_xid, with_value, with_xids, with_state, with_error};
-ghost use Rattle.xa_judge.specs.Marks.{with_answer, with_client};
-ghost use Rattle.xa_judge.specs.Marks.{with_phase, with_owner, with_hold, with_row, with_rows, with_branch, with_key};
-ghost use Rattle.xa_judge.specs.Marks.{with_server, mark};
-ghost use Rattle.xa_judge.specs.Answers.{answer_kept};
-ghost use Rattle.xa_server.specs.Overview.{branches_of};
+ghost use Rattle.xa_judge.specs.Marks.{with_answer, with_client, with_phase, with_owner, with_hold, with_row};
+ghost use Rattle.xa_judge.specs.{Marks.{with_rows, with_branch, with_key, with_server, mark}, Answers.answer_kept};
 ghost use Rattle.xa_judge.specs.Found.{config_of};
+ghost use Rattle.xa_server.specs.Overview.{branches_of};
 
 use crate::answer::Answer;
 use crate::client_state::ClientState;

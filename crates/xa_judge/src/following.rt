@@ -1,7 +1,6 @@
 //! Checks whether moves lead through events.
 ghost use Rattle.std.specs.Prelude.{◌≡◌, ◌∷◌, [], ℕ, List, true, Some, None, ◌↔◌, IfOk, IfSome};
-ghost use Rattle.xa_judge.specs.Explained.{Config, opening_config, LeadsThrough};
-ghost use Rattle.xa_judge.specs.Found.{config_of};
+ghost use Rattle.xa_judge.specs.{Explained.{Config, opening_config, LeadsThrough}, Found.config_of};
 ghost use Rattle.xa_judge.specs.Following.{LeadsOn, Leads};
 
 use crate::configuration::Configuration;

@@ -3,14 +3,11 @@
 //! In these functions `known` is the list of configurations, and `place` one of its places. `events` are those of the
 //! record, or of its beginning, and `places` has what is known of the open call of each session, at the session's
 //! number: where it returns, or that it isn't heard of any more.
-ghost use Rattle.std.specs.Prelude.{◌≡◌, ◌<◌, true, false, None, Some, slice_get, vec_len, length};
-ghost use Rattle.std.specs.Prelude.{IfOk, OnOk};
-ghost use Rattle.xa_judge.specs.declared.configuration.Configuration.{Configuration as Found};
+ghost use Rattle.std.specs.Prelude.{◌≡◌, ◌<◌, true, false, None, Some, slice_get, vec_len, length, IfOk, OnOk};
+ghost use Rattle.xa_judge.specs.{declared.configuration.Configuration.Configuration as Found, Found.{config_of, Has}};
 ghost use Rattle.xa_judge.specs.Explained.{Config, answer_to, effect_of, observed, shows_answer, IsSession};
-ghost use Rattle.xa_judge.specs.Found.{config_of, Has};
-ghost use Rattle.xa_judge.specs.Foreseen.{hints_of, IsAllowed, ReplacesFor, ExtendsBy, HasNextFor};
-ghost use Rattle.xa_judge.specs.Late.{is_over};
-ghost use Rattle.xa_judge.specs.Foreseen.{IsExpandedFor, AreClosedFor, HasSeenFor};
+ghost use Rattle.xa_judge.specs.Foreseen.{hints_of, IsAllowed, ReplacesFor, ExtendsBy, HasNextFor, IsExpandedFor};
+ghost use Rattle.xa_judge.specs.{Foreseen.{AreClosedFor, HasSeenFor}, Late.is_over};
 
 use crate::client_state::ClientState;
 use crate::configuration::Configuration;

@@ -1,12 +1,9 @@
 //! Judges events by configurations that are kept where later returns are known.
 ghost use Rattle.std.specs.Prelude.{◌≡◌, ◌<◌, ◌≤◌, [], true, Some, List, length, drop, slice_get, IfOk, IfSome, OnOk};
 ghost use Rattle.std.specs.List.{Contains};
-ghost use Rattle.xa_judge.specs.declared.answer.Answer.{Answer as AnswerSeen};
-ghost use Rattle.xa_judge.specs.declared.event.Event.{Event as EventSeen};
-ghost use Rattle.xa_judge.specs.declared.moves.Move.{Move as Moved};
-ghost use Rattle.xa_judge.specs.Explained.{Config, opening_config, LeadsThrough};
-ghost use Rattle.xa_judge.specs.Found.{Has, IsAnsweredIn};
-ghost use Rattle.xa_judge.specs.Foreseen.{hints_of, GoesOn, GoesOnLike};
+ghost use Rattle.xa_judge.specs.declared.{answer.Answer.Answer as AnswerSeen, event.Event.Event as EventSeen};
+ghost use Rattle.xa_judge.specs.{declared.moves.Move.Move as Moved, Explained.{Config, opening_config, LeadsThrough}};
+ghost use Rattle.xa_judge.specs.{Found.{Has, IsAnsweredIn}, Foreseen.{hints_of, GoesOn, GoesOnLike}};
 ghost use Rattle.xa_judge.specs.Verdicts.{IsAnswerAfter, IsVerdict};
 
 use crate::client_state::ClientState;

@@ -4,9 +4,7 @@
 //! `later` what is known of them after it.
 ghost use Rattle.std.specs.Prelude.{◌≡◌, slice_set, IfOk, IfSome};
 ghost use Rattle.xa_judge.specs.Foreseen.{hint_in, hints_of, NotesCall, returning_in, FitsHints, IsAdvanceFor};
-ghost use Rattle.xa_judge.specs.Foreseen.{NeedsNone};
-ghost use Rattle.xa_judge.specs.Advances.{IsCallOf};
-ghost use Rattle.xa_judge.specs.Keys.{session_of as session_in};
+ghost use Rattle.xa_judge.specs.{Foreseen.NeedsNone, Advances.IsCallOf, Keys.session_of as session_in};
 
 use crate::advance::none_unheard;
 use crate::configuration::Configuration;

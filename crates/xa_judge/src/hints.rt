@@ -2,12 +2,9 @@
 //! that of each session, at the session's number.
 ghost use Rattle.std.specs.Prelude.{◌≡◌, true, false, ℕ, Some, None, List, slice_get, slice_set, length, IfOk, IfSome};
 ghost use Rattle.std.specs.Option.{option_copied};
-ghost use Rattle.xa_judge.specs.Foreseen.{hint_in, hint_of, hints_of, fact_of, seen_in, FitsHints, NotesCall};
+ghost use Rattle.xa_judge.specs.Foreseen.{hint_in, hint_of, hints_of, fact_of, seen_in, FitsHints, NotesCall, GoesOn};
 ghost use Rattle.xa_judge.specs.declared.configuration.Configuration.{Configuration as Found};
-ghost use Rattle.xa_judge.specs.declared.event.Event.{Event as EventSeen};
-ghost use Rattle.xa_judge.specs.Explained.{Config};
-ghost use Rattle.xa_judge.specs.Found.{Has};
-ghost use Rattle.xa_judge.specs.Foreseen.{GoesOn};
+ghost use Rattle.xa_judge.specs.{declared.event.Event.Event as EventSeen, Explained.Config, Found.Has};
 ghost use Rattle.xa_judge.specs.Keys.{session_of as session_in};
 
 use crate::event::{Event, Seen};

@@ -1,7 +1,6 @@
 //! Judges a record: which ways to a verdict are tried, and in which order.
 ghost use Rattle.std.specs.Prelude.{length, IfOk, IfSome};
-ghost use Rattle.xa_judge.specs.Told.{IsToldUpTo, IsToldOf, seen_for};
-ghost use Rattle.xa_judge.specs.Verdicts.{IsVerdict};
+ghost use Rattle.xa_judge.specs.{Told.{IsToldUpTo, IsToldOf, seen_for}, Verdicts.IsVerdict};
 
 use crate::by_keys::judge_by_keys;
 use crate::event::Event;

@@ -1,8 +1,7 @@
 //! Servers that are kept as the requests that they carried out.
 ghost use Rattle.std.specs.Prelude.{◌≡◌, true, IfOk, OnOk, IfSome};
 ghost use Rattle.xa_server.specs.Overview.{keys_about as keys_about_statement};
-ghost use Rattle.xa_judge.specs.Explained.{answer_to, next_state};
-ghost use Rattle.xa_judge.specs.Kept.{state_since, state_past};
+ghost use Rattle.xa_judge.specs.{Explained.{answer_to, next_state}, Kept.{state_since, state_past}};
 
 use crate::answer::Answer;
 use crate::done::Done;
@@ -35,8 +34,7 @@ pub struct KeptServer {
 }
 
 impl Model for KeptServer {
-    ghost use Rattle.xa_server.specs.State.{State};
-    ghost use Rattle.xa_server.specs.Coding.{coded_state};
+    ghost use Rattle.xa_server.specs.{State.State, Coding.coded_state};
     ghost use Rattle.xa_judge.specs.Kept.{state_since, state_past};
 
     ghost Value = { State };

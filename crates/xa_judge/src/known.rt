@@ -3,9 +3,8 @@
 ghost use Rattle.std.specs.Prelude.{◌≡◌, ◌∷◌, ◌++◌, ◌≢◌, ◌<◌, ℕ, true, false, Option, Some, slice_get, length, vec_len};
 ghost use Rattle.std.specs.Prelude.{IfOk, OnOk};
 ghost use Rattle.xa_judge.specs.declared.configuration.Configuration.{Configuration as Found};
-ghost use Rattle.xa_judge.specs.Explained.{Config, IsSession, effect_of};
-ghost use Rattle.xa_judge.specs.Found.{config_of, IsOpening, Has, Grows, AddsUnlessThere, IsEffectAt};
-ghost use Rattle.xa_judge.specs.Found.{IsExpandedBelow, AddsOnly};
+ghost use Rattle.xa_judge.specs.{Explained.{Config, IsSession, effect_of}, Found.{config_of, IsOpening, Has, Grows}};
+ghost use Rattle.xa_judge.specs.Found.{AddsUnlessThere, IsEffectAt, IsExpandedBelow, AddsOnly};
 ghost use Rattle.xa_judge.specs.Late.{call_is_answered, is_over};
 
 use crate::configuration::Configuration;

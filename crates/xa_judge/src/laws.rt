@@ -1,8 +1,7 @@
 //! What holds of all records: a law, stated as the contract of a function that does nothing.
 ghost use Rattle.std.specs.Prelude.{ℕ, List, take};
 ghost use Rattle.xa_server.specs.State.{State};
-ghost use Rattle.xa_judge.specs.declared.event.Event.{Event};
-ghost use Rattle.xa_judge.specs.Explained.{Explained};
+ghost use Rattle.xa_judge.specs.{declared.event.Event.Event, Explained.Explained};
 
 /// States that an explained record is explained up to each of its events. Does nothing when it is called.
 ///

@@ -7,14 +7,11 @@
 //!
 //! The server with all rows is called full. One is near it if it has the same branches, and the same committed values
 //! of the rows whose keys are in `keys`.
-ghost use Rattle.std.specs.Prelude.{◌≡◌, ◌+◌, ◌<◌, ◌^◌, ◌++◌, ℕ, true, false, length, IfOk, IfSome, OnOk};
-ghost use Rattle.std.specs.List.{All};
-ghost use Rattle.xa_server.specs.State.{State, association_of};
-ghost use Rattle.xa_server.specs.Step.{after};
+ghost use Rattle.std.specs.{Prelude.{◌≡◌, ◌+◌, ◌<◌, ◌^◌, ◌++◌, ℕ, true, false, length, IfOk, IfSome, OnOk}, List.All};
+ghost use Rattle.xa_server.specs.{State.{State, association_of}, Step.after};
 ghost use Rattle.xa_server.specs.declared.association.Association.{Association};
-ghost use Rattle.xa_judge.specs.Explained.{answer_to, next_state, shows_answer, IsSession};
+ghost use Rattle.xa_judge.specs.{Explained.{answer_to, next_state, shows_answer, IsSession}, Told.{IsToldOf, seen_for}};
 ghost use Rattle.xa_judge.specs.Near.{named_in, AreNear, ReadsNamed, CallsNamed, IsLoadedTo, IsNearLater};
-ghost use Rattle.xa_judge.specs.Told.{IsToldOf, seen_for};
 ghost use Rattle.xa_judge.specs.Verdicts.{IsVerdict};
 
 use crate::alone_call::{AloneCall, alone};

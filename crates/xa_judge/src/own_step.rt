@@ -1,14 +1,10 @@
 //! What a step of a session's own branch is, and whether other sessions' open calls have nothing to do with it or are
 //! answered only after it.
 ghost use Rattle.std.specs.Prelude.{◌≡◌, ◌≢◌, true, false, Some, None, List, ℕ, slice_get, length, drop, IfOk, OnOk};
-ghost use Rattle.xa_server.specs.State.{association_of};
-ghost use Rattle.xa_server.specs.Overview.{keys_about};
+ghost use Rattle.xa_server.specs.{State.association_of, Overview.keys_about};
 ghost use Rattle.xa_server.specs.declared.association.Association.TheVariants.{Active};
-ghost use Rattle.xa_judge.specs.declared.request.Request.{Request as RequestSeen};
-ghost use Rattle.xa_judge.specs.Explained.{answer_to};
-ghost use Rattle.xa_judge.specs.Found.{config_of};
-ghost use Rattle.xa_judge.specs.Clear.{HasRow, IsOwnStep, IsReadyStep, IsAside, returns_in};
-ghost use Rattle.xa_judge.specs.Clear.{AreNotedAside};
+ghost use Rattle.xa_judge.specs.{declared.request.Request.Request as RequestSeen, Explained.answer_to, Found.config_of};
+ghost use Rattle.xa_judge.specs.Clear.{HasRow, IsOwnStep, IsReadyStep, IsAside, returns_in, AreNotedAside};
 ghost use Rattle.xa_judge.specs.Foreseen.{hint_in, hints_of};
 
 use crate::answer::Answer;

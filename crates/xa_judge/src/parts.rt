@@ -5,8 +5,7 @@
 ghost use Rattle.std.specs.Prelude.{◌≡◌, ◌≤◌, true, take, length, slice_get, IfOk, IfSome, option_copied};
 ghost use Rattle.xa_judge.specs.Keys.{is_chosen as is_chosen_turn, is_start as is_start_of, is_ending as is_ending_of};
 ghost use Rattle.xa_judge.specs.Keys.{turn_called as called_turn, turn_returned as returned_turn, turn_unknown};
-ghost use Rattle.xa_judge.specs.Keys.{turn_after, FitsRow, FitsTurn};
-ghost use Rattle.xa_judge.specs.Keys.{first_turns, IsCut, picked, count_in};
+ghost use Rattle.xa_judge.specs.Keys.{turn_after, FitsRow, FitsTurn, first_turns, IsCut, picked, count_in};
 ghost use Rattle.xa_judge.specs.Near.{named_in};
 
 use crate::event::{Event, Seen};

@@ -26,8 +26,7 @@ pub struct Path {
 
 impl Model for Path {
     ghost use Rattle.std.specs.Prelude.{List};
-    ghost use Rattle.xa_judge.specs.declared.moves.Move.{Move as MoveSeen};
-    ghost use Rattle.xa_judge.specs.Path.{moves_of};
+    ghost use Rattle.xa_judge.specs.{declared.moves.Move.Move as MoveSeen, Path.moves_of};
 
     ghost Value = { List MoveSeen };
 

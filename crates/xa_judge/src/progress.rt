@@ -1,7 +1,6 @@
 //! Tells how far judging is.
 ghost use Rattle.std.specs.Prelude.{◌+◌, ◌^◌, ◌<◌, ◌≤◌, length};
-ghost use Rattle.xa_judge.specs.declared.so_far.SoFar.{SoFar};
-ghost use Rattle.xa_judge.specs.Told.{IsReport, AreReports, IsSize};
+ghost use Rattle.xa_judge.specs.{declared.so_far.SoFar.SoFar, Told.{IsReport, AreReports, IsSize}};
 
 use crate::configuration::Configuration;
 use crate::event::Event;

@@ -1,10 +1,8 @@
 //! Requests that change nothing, and open calls for such a request that can take effect at once.
 ghost use Rattle.std.specs.Prelude.{◌≡◌, true, List, Some, slice_get, IfOk};
-ghost use Rattle.xa_server.specs.declared.association.Association.TheVariants.{Free};
-ghost use Rattle.xa_server.specs.State.{association_of};
+ghost use Rattle.xa_server.specs.{declared.association.Association.TheVariants.Free, State.association_of};
 ghost use Rattle.xa_judge.specs.Foreseen.{Hint, hint_of, refuses, is_still, AreAlike, CanSettle, IsQuiet, IsQuietFor};
-ghost use Rattle.xa_judge.specs.Explained.{Config};
-ghost use Rattle.xa_judge.specs.Found.{config_of};
+ghost use Rattle.xa_judge.specs.{Explained.Config, Found.config_of};
 
 use crate::answer::Answer;
 use crate::client_state::ClientState;

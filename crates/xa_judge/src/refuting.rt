@@ -1,10 +1,8 @@
 //! Refutes a return: none of the answers that its call can have is shown there.
 ghost use Rattle.std.specs.Prelude.{◌≡◌, ◌<◌, true, false, Some, slice_get, length, take, IfOk, IfSome};
 ghost use Rattle.std.specs.List.{All, Contains};
-ghost use Rattle.xa_judge.specs.declared.answer.Answer.{Answer as AnswerSeen};
-ghost use Rattle.xa_judge.specs.declared.client_state.ClientState.TheVariants.{Answered};
-ghost use Rattle.xa_judge.specs.Explained.{shows_answer};
-ghost use Rattle.xa_judge.specs.Verdicts.{IsAnswerAfter, IsVerdict};
+ghost use Rattle.xa_judge.specs.{declared.answer.Answer.Answer as AnswerSeen, Verdicts.{IsAnswerAfter, IsVerdict}};
+ghost use Rattle.xa_judge.specs.{declared.client_state.ClientState.TheVariants.Answered, Explained.shows_answer};
 
 use crate::answer::Answer;
 use crate::client_state::ClientState;

@@ -1,8 +1,6 @@
 //! What an event does to a configuration.
-ghost use Rattle.std.specs.Prelude.{◌≡◌, ◌<◌, ◌∷◌, ◌++◌, [], slice_get, vec_len, IfOk, IfSome};
-ghost use Rattle.std.specs.Option.{option_map};
-ghost use Rattle.xa_judge.specs.Explained.{observed, with_client};
-ghost use Rattle.xa_judge.specs.Found.{config_of};
+ghost use Rattle.std.specs.{Prelude.{◌≡◌, ◌<◌, ◌∷◌, ◌++◌, [], slice_get, vec_len, IfOk, IfSome}, Option.option_map};
+ghost use Rattle.xa_judge.specs.{Explained.{observed, with_client}, Found.config_of};
 
 use crate::client_state::ClientState;
 use crate::configuration::Configuration;

@@ -17,8 +17,7 @@ pub struct SharedAnswer {
 }
 
 impl Model for SharedAnswer {
-    ghost use Rattle.xa_judge.specs.declared.answer.Answer.{Answer as AnswerSeen};
-    ghost use Rattle.xa_judge.specs.Answers.{answer_kept};
+    ghost use Rattle.xa_judge.specs.{declared.answer.Answer.Answer as AnswerSeen, Answers.answer_kept};
 
     ghost Value = { AnswerSeen };
 

@@ -1,9 +1,7 @@
 //! Steps of a session's branch take effect at once, if until they return each call of another session has nothing to do
 //! with them or is answered only after them.
 ghost use Rattle.std.specs.Prelude.{◌≡◌, false, drop, IfOk};
-ghost use Rattle.xa_judge.specs.Found.{config_of};
-ghost use Rattle.xa_judge.specs.Clear.{IsSteppedFor};
-ghost use Rattle.xa_judge.specs.Foreseen.{fact_of, hints_of, KeepsEnds};
+ghost use Rattle.xa_judge.specs.{Found.config_of, Clear.IsSteppedFor, Foreseen.{fact_of, hints_of, KeepsEnds}};
 
 use crate::clear::are_calls_aside;
 use crate::client_state::ClientState;

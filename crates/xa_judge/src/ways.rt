@@ -1,8 +1,7 @@
 //! The ways to a verdict that tell how far they are, each by itself; and the telling afterwards for a way that
 //! doesn't.
 ghost use Rattle.std.specs.Prelude.{◌+◌, ◌^◌, ◌<◌, length, IfOk, IfSome};
-ghost use Rattle.xa_judge.specs.Told.{AreReports, IsToldOf, IsSizeOfKept, seen_for};
-ghost use Rattle.xa_judge.specs.Verdicts.{IsVerdict};
+ghost use Rattle.xa_judge.specs.{Told.{AreReports, IsToldOf, IsSizeOfKept, seen_for}, Verdicts.IsVerdict};
 
 use crate::advance::{Advance, see_event};
 use crate::event::Event;

@@ -1,7 +1,6 @@
 -- Scripts whose comments are left blank, line by line.
 use Rattle.std.proofs.Common.{◌≡◌, ℕ, ◌==◌, Bool, true, false, List, [], ◌∷◌, ◌++◌, length, refl, ap, sym, ◌∙◌}
-use Rattle.std.proofs.Common.{append_assoc, append-nil, arith}
-use Rattle.std.proofs.lemmas.Grind.{common_steps}
+use Rattle.std.proofs.{Common.{append_assoc, append-nil, arith}, lemmas.Grind.common_steps}
 use Rattle.std.specs.Prelude.{if◌then◌else◌}
 use Rattle.xa_xid.specs.Bytes.{unblank}
 use Rattle.xa_lines.specs.Script.{lines_of, is_empty_line, is_comment_line}

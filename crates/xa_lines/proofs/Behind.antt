@@ -1,31 +1,22 @@
 -- What stands behind an answer is what is to stand there.
-use Rattle.std.proofs.Common.{◌≡◌, ◌≢◌, ◌⊎◌, ◌++◌, ◌∙◌, ℕ, Bool, ◌||◌, ◌&&◌, List, [], true, false, not, subst}
-use Rattle.std.proofs.Common.{Result, Ok, Err, refl, ap, sym, append-nil, inl, inr, codes, decimal}
+use Rattle.std.proofs.Common.{◌≡◌, ◌≢◌, ◌⊎◌, ◌++◌, ◌∙◌, ℕ, Bool, ◌||◌, ◌&&◌, List, [], true, false, not, subst, Result}
+use Rattle.std.proofs.Common.{Ok, Err, refl, ap, sym, append-nil, inl, inr, codes, decimal}
 use Rattle.std.specs.Prelude.{IfOk, OnOk, OnErr, MatchResult}
-use Rattle.xa_xid.specs.declared.statement.Statement.{Statement}
-use Rattle.xa_xid.specs.declared.statement.Statement.TheVariants.{Start, End, Prepare, Commit, Rollback, Recover}
-use Rattle.xa_xid.specs.declared.statement.Statement.TheVariants.{Unsupported, Get, Put, Del, Disconnect}
+use Rattle.xa_xid.specs.declared.statement.Statement.{Statement, TheVariants.{Start, End, Prepare, Commit, Rollback}}
+use Rattle.xa_xid.specs.declared.statement.Statement.TheVariants.{Recover, Unsupported, Get, Put, Del, Disconnect}
 use Rattle.xa_statement.specs.Reading.{read_of}
 use Rattle.xa_server.specs.State.{State, association_of, is_known, is_prepared, value_within}
-use Rattle.xa_lines.specs.Printed.{answer_text, converts, reply_text, syntax_text}
-use Rattle.xa_lines.specs.Script.{Line, Blank, Bad, Given, line_of, is_comment_line}
-use Rattle.xa_lines.specs.Received.{Whole, TooLong}
-use Rattle.xa_lines.specs.Transcript.{answer_of, answer_to, state_after_line, state_then}
-use Rattle.xa_server.specs.Replies.{ok_if, refused_if, reply_to, table}
-use Rattle.xa_server.specs.Step.{enters, is_list, is_recover, makes_record}
-use Rattle.xa_server.specs.declared.association.Association.{Association}
-use Rattle.xa_server.specs.declared.association.Association.TheVariants.{Free, Active, Idle}
-use Rattle.xa_server.specs.Locks.{is_held_against, is_locked_against}
-use Rattle.xa_server.specs.declared.reply.Reply.{Reply}
-use Rattle.xa_server.specs.declared.reply.Reply.TheVariants.{Ok as Accepted, Value, Refused}
-use Rattle.xa_server.specs.declared.xa_error.XaError.{XaError}
+use Rattle.xa_server.specs.{Replies.{ok_if, refused_if, reply_to, table}, declared.association.Association.Association}
+use Rattle.xa_server.specs.{Step.{enters, is_list, is_recover, makes_record}, declared.xa_error.XaError.XaError}
+use Rattle.xa_server.specs.declared.{association.Association.TheVariants.{Free, Active, Idle}, reply.Reply.Reply}
 use Rattle.xa_server.specs.declared.xa_error.XaError.TheVariants.{Nota, Rmfail, Dupid, RowLocked}
-use Rattle.xa_server.specs.declared.xa_error.BranchState.TheVariants.{Prepared}
-use Rattle.xa_lines.specs.Statements.{IsAnswerTo, IsStatementAnswer, MayBeRefused, refused_text}
-use Rattle.xa_lines.specs.Listing.{listing}
-use Rattle.xa_lines.proofs.Listed.{key_listed}
+use Rattle.xa_server.specs.{declared.xa_error.BranchState.BranchState, Locks.{is_held_against, is_locked_against}}
+use Rattle.xa_lines.specs.Printed.{answer_text, converts, reply_text, syntax_text}
+use Rattle.xa_lines.specs.{Script.{Line, Blank, Bad, Given, line_of, is_comment_line}, Received.{Whole, TooLong}}
+use Rattle.xa_lines.specs.Transcript.{answer_of, answer_to, state_after_line, state_then}
+use Rattle.xa_lines.specs.{Statements.{IsAnswerTo, IsStatementAnswer, MayBeRefused, refused_text}, Listing.listing}
 use Rattle.xa_lines.specs.Shown.{keys_asked, keys_of_read, listing_after, StandsBehind, IsAnswerShown, IsShown}
-use Rattle.xa_lines.specs.Shown.{comment_text, unshown_text}
+use Rattle.xa_lines.{specs.Shown.{comment_text, unshown_text}, proofs.Listed.key_listed}
 
 -- what may answer a session's statement, as its text was read, may answer a session's line with that text
 pub given_answer : (old new : State) (session : ℕ) (statement : List ℕ) (read : Result Statement ℕ) (text : List ℕ)
@@ -77,7 +68,7 @@ refused_if-list false error reply none = none
 table-list : (state : State) (association : Association) (statement : Statement)
     → is_list (table state association statement) ≡ is_recover statement
 unfolding table
-table-list state Free (Start xid) = refused_if-list (is_known state xid) Dupid Accepted refl
+table-list state Free (Start xid) = refused_if-list (is_known state xid) Dupid Reply.Ok refl
 table-list state (Active own) (Start xid) = refl
 table-list state (Idle own) (Start xid) = refl
 table-list state Free (End xid) = refl
@@ -90,7 +81,7 @@ table-list state Free (Commit xid false) = ok_if-list _ _
 table-list state (Active own) (Commit xid false) = refl
 table-list state (Idle own) (Commit xid false) = refl
 table-list state Free (Commit xid true) =
-    refused_if-list (not (is_prepared state xid)) Nota (Refused (Rmfail Prepared)) refl
+    refused_if-list (not (is_prepared state xid)) Nota (Reply.Refused (Rmfail BranchState.Prepared)) refl
 table-list state (Active own) (Commit xid true) = refl
 table-list state (Idle own) (Commit xid true) = ok_if-list _ _
 table-list state Free (Rollback xid) = ok_if-list _ _
@@ -104,15 +95,15 @@ table-list state (Active own) Unsupported = refl
 table-list state (Idle own) Unsupported = refl
 table-list state Free (Get key) = refl
 table-list state (Active own) (Get key) =
-    refused_if-list (is_locked_against state (Active own) key) RowLocked (Value (value_within state own key)) refl
+    refused_if-list (is_locked_against state (Active own) key) RowLocked (Reply.Value (value_within state own key)) refl
 table-list state (Idle own) (Get key) = refl
-table-list state Free (Put key value) = refused_if-list (is_held_against state Free key) RowLocked Accepted refl
+table-list state Free (Put key value) = refused_if-list (is_held_against state Free key) RowLocked Reply.Ok refl
 table-list state (Active own) (Put key value) =
-    refused_if-list (is_held_against state (Active own) key) RowLocked Accepted refl
+    refused_if-list (is_held_against state (Active own) key) RowLocked Reply.Ok refl
 table-list state (Idle own) (Put key value) = refl
-table-list state Free (Del key) = refused_if-list (is_held_against state Free key) RowLocked Accepted refl
+table-list state Free (Del key) = refused_if-list (is_held_against state Free key) RowLocked Reply.Ok refl
 table-list state (Active own) (Del key) =
-    refused_if-list (is_held_against state (Active own) key) RowLocked Accepted refl
+    refused_if-list (is_held_against state (Active own) key) RowLocked Reply.Ok refl
 table-list state (Idle own) (Del key) = refl
 table-list state Free Disconnect = refl
 table-list state (Active own) Disconnect = refl

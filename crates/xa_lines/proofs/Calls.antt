@@ -1,15 +1,12 @@
 -- Calls on a reader or a writer, one after another.
 use Rattle.std.proofs.Common.{◌≡◌, ℕ, zero, suc, ◌+◌, ◌-◌, ◌<◌, ◌≤◌, List, [], ◌++◌, length, take, drop, refl, sym, ap}
 use Rattle.std.proofs.Common.{◌∙◌, subst, append_assoc, append-nil, inl, inr, arith}
-use Rattle.std.proofs.lemmas.List.{length-take, take_rest, take-append-drop}
-use Rattle.std.proofs.Math.Seq.{take-add}
+use Rattle.std.proofs.{lemmas.List.{length-take, take_rest, take-append-drop}, Math.Seq.take-add}
 use Rattle.std.specs.Prelude.{Result, Ok, Err, IfErr, OnOk, MatchResult}
 use Rattle.xa_lines.specs.Calls.{Carries, HasRead, HasReadAll, FailsReading, StopsReading, HasWritten, IsWrittenBut}
-use Rattle.xa_lines.specs.Calls.{StopsWriting, Completes, Stops}
-use Rattle.xa_lines.specs.Limits.{script_reads}
+use Rattle.xa_lines.specs.{Calls.{StopsWriting, Completes, Stops}, Limits.script_reads}
 use Rattle.xa_lines.specs.Transcript.{transcript, StopsAnswering, StopsRun}
-use Rattle.xa_lines.specs.declared.script_fault.ScriptFault.{ScriptFault}
-use Rattle.xa_lines.specs.declared.script_fault.ScriptFault.TheVariants.{Read, Write, NoMemory}
+use Rattle.xa_lines.specs.declared.script_fault.ScriptFault.{ScriptFault, TheVariants.{Read, Write, NoMemory}}
 
 module _ {S : Type 0} (passes : S → List ℕ → S → Type 0) where
   -- without a call no byte passes, and the stream stays as it is

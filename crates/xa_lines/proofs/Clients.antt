@@ -1,16 +1,13 @@
 -- The lemmas of `Under`, for a client of which it is known what has passed (`Some`), or isn't (`None`): then nothing is
 -- to be shown. A client can't change from one to the other.
 use Rattle.std.proofs.Common.{◌≡◌, ℕ, ◌==◌, ◌≤◌, ◌+◌, ◌-◌, ◌^◌, true, false, Option, Some, None, Result, Ok, Err, List}
-use Rattle.std.proofs.Common.{[], ◌∷◌, length, take}
-use Rattle.std.proofs.Common.{sym, subst, ◌∙◌, inl, inr, arith}
+use Rattle.std.proofs.Common.{[], ◌∷◌, length, take, sym, subst, ◌∙◌, inl, inr, arith}
 use Rattle.std.specs.Prelude.{OnOk, OnErr, IfErr, IfSome}
 use Rattle.xa_lines.specs.Received.{Received, Whole, longer, is_nothing}
 use Rattle.xa_lines.specs.Exchange.{Exchange, IsFresh, CanBeTold, WritesText, Flushes, Receives}
 use Rattle.xa_lines.specs.Served.{AwaitsMore, IsServed, IsCutOff, AfterServing}
 use Rattle.xa_lines.specs.UnderWay.{IsUnderWay, UnderWay, IsReady, IsAllAnswered}
-use Rattle.xa_lines.specs.declared.stage.Stage.TheVariants.{Open, Ended}
-use Rattle.xa_lines.specs.declared.script_fault.ScriptFault.{ScriptFault}
-use Rattle.xa_lines.specs.declared.script_fault.ScriptFault.TheVariants.{Read, Write}
+use Rattle.xa_lines.specs.declared.{stage.Stage.TheVariants.{Open, Ended}, script_fault.ScriptFault.ScriptFault}
 use Rattle.xa_lines.proofs.Under as under
 
 -- if a text was given without a fault to a client that more may be said to, more may still be said to it
@@ -141,7 +138,7 @@ module _ {S : Type 0} (Begins : S → Type 0) (Answers : S → Received → List
   -- a read failed in a conversation that was ready for more: it is left as a fault Read leaves it
   pub receive_err : {E : Type 0} (reads : ℕ) (old new : Option Exchange) (e : E) (piece : List ℕ) (line : Received)
       (server : S) → Receives old new (Err e) piece
-      → Ready reads old line server → IfSome new (AfterServing Begins Answers Read)
+      → Ready reads old line server → IfSome new (AfterServing Begins Answers ScriptFault.Read)
   receive_err reads None None e piece line server h r = tt
   receive_err reads None (Some new) e piece line server h r = absurd h
   receive_err reads (Some old) None e piece line server h r = absurd h
@@ -202,7 +199,7 @@ module _ {S : Type 0} (Begins : S → Type 0) (Answers : S → Received → List
 
   -- all lines were answered, and the last flush failed: the conversation is left as that fault, Write, leaves it
   pub served_err : {A : Type 0} (old new : Option Exchange) (result : Result A ScriptFault)
-      → IfErr result (λ fault. fault ≡ Write) → Flushes old new result
+      → IfErr result (λ fault. fault ≡ ScriptFault.Write) → Flushes old new result
       → IfSome old (IsAllAnswered Begins Answers)
       → IfErr result (λ fault. IfSome new (AfterServing Begins Answers fault))
   served_err old new (Ok x) of_write f all = tt
@@ -214,7 +211,7 @@ module _ {S : Type 0} (Begins : S → Type 0) (Answers : S → Received → List
       subst P (sym of_write) (under.unserved Begins Answers old new f.0 f.1 all)
 
   -- a conversation that is cut off is as a fault Write leaves it
-  pub write_fault : (o : Option Exchange) (fault : ScriptFault) → fault ≡ Write → IsBegunAt o
+  pub write_fault : (o : Option Exchange) (fault : ScriptFault) → fault ≡ ScriptFault.Write → IsBegunAt o
       → IfSome o (AfterServing Begins Answers fault)
   write_fault o fault is begun = let P : ScriptFault → Type 0 = λ f. IfSome o (AfterServing Begins Answers f) in
       subst P (sym is) begun
@@ -222,7 +219,7 @@ module _ {S : Type 0} (Begins : S → Type 0) (Answers : S → Received → List
   -- after 2^64-1 reads a conversation that is ready for more is as a fault Read leaves it
   pub spent : (reads : ℕ) (o : Option Exchange) (line : Received) (server : S) → 2 ^ 64 - 1 ≤ reads
       → Ready reads o line server
-      → IfSome o (AfterServing Begins Answers Read)
+      → IfSome o (AfterServing Begins Answers ScriptFault.Read)
   spent reads None line server all r = tt
   spent reads (Some e) line server all r =
       let a = under.ready_answered Begins Answers reads e line server r in let counted = r.1.counted in
@@ -231,7 +228,7 @@ module _ {S : Type 0} (Begins : S → Type 0) (Answers : S → Received → List
   -- a conversation that is cut off is as a fault Write leaves it that is passed on
   pub passed_on : {A : Type 0} (o : Option Exchange) (answer : Result A ScriptFault) (passed fault : ScriptFault)
       → answer ≡ Err passed → passed ≡ fault
-      → fault ≡ Write → IsBegunAt o → IfErr answer (λ f. IfSome o (AfterServing Begins Answers f))
+      → fault ≡ ScriptFault.Write → IsBegunAt o → IfErr answer (λ f. IfSome o (AfterServing Begins Answers f))
   passed_on {A} o answer passed fault is same of_write begun =
       let P : Result A ScriptFault → Type 0 = λ r. IfErr r (λ f. IfSome o (AfterServing Begins Answers f)) in
       subst P (sym is) (write_fault o passed (same ∙ of_write) begun)

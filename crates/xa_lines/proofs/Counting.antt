@@ -1,9 +1,7 @@
 -- How many elements come before the first that passes a test, as `position` finds it.
 use Rattle.std.proofs.Common.{◌≡◌, ℕ, ◌≤◌, ltb, Bool, not, cond, Option, Some, None, List, length, arith}
-use Rattle.std.specs.List.{position_or_len}
+use Rattle.std.{proofs.lemmas.{Grind.common_steps, List.Sums.prefix_len-le-length}, specs.List.position_or_len}
 use Rattle.std.specs.Option.{unwrap_or}
-use Rattle.std.proofs.lemmas.Grind.{common_steps}
-use Rattle.std.proofs.lemmas.List.Sums.{prefix_len-le-length}
 
 -- the place that `position` gives, or else the length, is the number of elements before the first that passes the test
 pub from_position : (test : ℕ → Bool) (xs : List ℕ) (r : Option ℕ)

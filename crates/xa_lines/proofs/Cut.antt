@@ -1,15 +1,10 @@
 -- Cutting what is received into lines.
 use Rattle.std.proofs.Common.{◌≡◌, ◌≤◌, ◌<◌, ℕ, ◌==◌, Bool, true, false, cond, List, [], ◌∷◌, ◌++◌, length, refl, sym}
-use Rattle.std.proofs.Common.{ap, ◌∙◌, append_assoc, append-nil}
-use Rattle.std.proofs.Common.{nat_le, arith, length-append}
-use Rattle.std.proofs.lemmas.Bool.Decides.{nat_tests}
-use Rattle.std.specs.Prelude.{All}
-use Rattle.std.specs.List.{flat_map}
-use Rattle.std.proofs.lemmas.List.Elements.{All-nil, All-head, All-tail, All-push}
-use Rattle.std.proofs.lemmas.Grind.{flat_map-append}
-use Rattle.xa_lines.specs.Script.{lines_of}
-use Rattle.xa_lines.specs.Received.{Whole, TooLong, received_line, longer, is_nothing, HasNoFeed, with_feed}
-use Rattle.xa_lines.specs.Received.{IsCutIntoLines}
+use Rattle.std.proofs.Common.{ap, ◌∙◌, append_assoc, append-nil, nat_le, arith, length-append}
+use Rattle.std.proofs.lemmas.{Bool.Decides.nat_tests, List.Elements.{All-nil, All-head, All-tail, All-push}}
+use Rattle.std.{proofs.lemmas.Grind.flat_map-append, specs.{Prelude.All, List.flat_map}}
+use Rattle.xa_lines.specs.{Script.lines_of, Received.{Whole, TooLong, received_line, longer, is_nothing, HasNoFeed}}
+use Rattle.xa_lines.specs.Received.{with_feed, IsCutIntoLines}
 
 -- if a text is a line without a line feed, a line feed and a rest, its lines are that line and the lines of the rest
 lines_of-feed : (line rest : List ℕ) → HasNoFeed line → lines_of (line ++ 10 ∷ rest) ≡ line ∷ lines_of rest

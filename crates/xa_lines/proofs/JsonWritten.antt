@@ -1,16 +1,11 @@
 -- Lines as objects of JSON: what has been written and what is left, and which form fits a line.
 use Rattle.std.proofs.Common.{◌≡◌, ℕ, ◌+◌, ◌<◌, ◌==◌, Bool, true, false, List, [], ◌∷◌, ◌++◌, length, take, get_or}
-use Rattle.std.proofs.Common.{drop, map, codes, Bor, ◌≤◌, refl, ap, sym, ◌∙◌, arith}
-use Rattle.std.proofs.Common.{append_assoc, append-nil}
-use Rattle.std.proofs.lemmas.Grind.{common_steps}
-use Rattle.std.proofs.lemmas.List.{take_more, drop_more, drop_all}
-use Rattle.std.proofs.lemmas.Str.{encodes-append}
+use Rattle.std.proofs.Common.{drop, map, codes, Bor, ◌≤◌, refl, ap, sym, ◌∙◌, arith, append_assoc, append-nil}
+use Rattle.std.proofs.lemmas.{Grind.common_steps, List.{take_more, drop_more, drop_all}, Str.encodes-append}
 use Rattle.std.specs.Prelude.{encode_utf8, encode_utf8_all, if◌then◌else◌}
-use Rattle.json.specs.Token.{Token, begin_object, end_object}
-use Rattle.json.specs.Print.{print}
-use Rattle.xa_lines.specs.Script.{lines_of, is_empty_line}
-use Rattle.xa_lines.specs.Objects.{mark_of, part_fits_as, left_as, parts_fit, part_tokens_as, parts_tokens, fits}
-use Rattle.xa_lines.specs.Objects.{first_fit, form_for, object_line, objects_of}
+use Rattle.json.specs.{Token.{Token, begin_object, end_object}, Print.print}
+use Rattle.xa_lines.specs.{Script.{lines_of, is_empty_line}, Objects.{mark_of, part_fits_as, left_as, parts_fit}}
+use Rattle.xa_lines.specs.Objects.{part_tokens_as, parts_tokens, fits, first_fit, form_for, object_line, objects_of}
 
 -- the loop over characters: after one more is encoded, all characters up to it are
 pub characters_more : (text old new : List ℕ) (index : ℕ) → index < length text

@@ -1,9 +1,6 @@
 -- When a listing is empty.
-use Rattle.std.proofs.Common.{◌≡◌, ◌≢◌, ◌++◌, ◌∷◌, ◌∙◌, ℕ, List, [], refl, ap}
-use Rattle.std.specs.List.{flat_map}
-use Rattle.xa_server.specs.declared.overview.BranchEntry.{BranchEntry}
-use Rattle.xa_server.specs.Overview.{branches_of}
-use Rattle.xa_server.specs.State.{State}
+use Rattle.std.{proofs.Common.{◌≡◌, ◌≢◌, ◌++◌, ◌∷◌, ◌∙◌, ℕ, List, [], refl, ap}, specs.List.flat_map}
+use Rattle.xa_server.specs.{declared.overview.BranchEntry.BranchEntry, Overview.branches_of, State.State}
 use Rattle.xa_lines.specs.Listing.{branch_lines, row_line, listing}
 
 -- a listing without a branch and a row is empty

@@ -1,7 +1,6 @@
 -- Printing the rows of XA RECOVER one after another.
 use Rattle.std.proofs.Common.{◌≡◌, ℕ, ◌+◌, ◌<◌, Bool, List, [], ◌∷◌, ◌++◌, length, get_or, take, refl, sym, ◌∙◌, ap}
-use Rattle.std.proofs.Common.{append_assoc, append-nil, codes}
-use Rattle.std.proofs.lemmas.List.{take_more}
+use Rattle.std.proofs.{Common.{append_assoc, append-nil, codes}, lemmas.List.take_more}
 use Rattle.xa_xid.specs.declared.xid.Xid.{Xid}
 use Rattle.xa_lines.specs.Printed.{row_text, rows_text}
 

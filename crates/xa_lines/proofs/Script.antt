@@ -1,14 +1,10 @@
 -- Cutting a script into lines, and reading a line.
 use Rattle.std.proofs.Common.{◌≡◌, ℕ, ◌+◌, ◌<◌, ◌==◌, Bool, true, false, not, cond, Some, None, List, [], ◌∷◌, length}
-use Rattle.std.proofs.Common.{take, drop, refl, ap, sym, ◌∙◌, arith}
-use Rattle.std.proofs.Common.{suc}
+use Rattle.std.proofs.{Common.{take, drop, refl, ap, sym, ◌∙◌, arith, suc}, lemmas.{List.drop-drop, Grind.common_steps}}
 use Rattle.std.specs.List.{prefix_len}
-use Rattle.std.proofs.lemmas.List.{drop-drop}
-use Rattle.std.proofs.lemmas.Grind.{common_steps}
 use Rattle.xa_xid.specs.Bytes.{unblank}
 use Rattle.xa_lines.specs.Script.{Blank, Bad, Given, lines_of, with_first, line_of, line_given, filled_line, first_word}
-use Rattle.xa_lines.specs.Script.{after_word}
-use Rattle.xa_lines.specs.Script.{session_named, is_empty_line}
+use Rattle.xa_lines.specs.Script.{after_word, session_named, is_empty_line}
 
 -- how many bytes stand before the first line feed
 abbrev pub first_length : List ℕ → ℕ

@@ -1,23 +1,15 @@
 -- What the sequential server told.
 use Rattle.std.proofs.Common.{◌≡◌, ℕ, Bool, true, false, cond, nat_le, Option, Some, None, Result, Ok, Err, List, []}
-use Rattle.std.proofs.Common.{◌∷◌, ◌++◌, length, refl, sym, ap, ◌∙◌}
-use Rattle.std.proofs.Common.{inl, inr, append_assoc, append-nil, arith, codes, decimal, lit<}
-use Rattle.std.proofs.lemmas.Fmt.{decimal_digit}
-use Rattle.std.specs.Prelude.{All, OnOk, IfErr, IfSome}
-use Rattle.std.proofs.lemmas.List.Elements.{All-head, All-tail}
-use Rattle.std.proofs.lemmas.Bool.Decides.{nat_tests}
+use Rattle.std.proofs.Common.{◌∷◌, ◌++◌, length, refl, sym, ap, ◌∙◌, inl, inr, append_assoc, append-nil, arith, codes}
+use Rattle.std.proofs.{Common.{decimal, lit<}, lemmas.{Fmt.decimal_digit, List.Elements.{All-head, All-tail}}}
+use Rattle.std.{proofs.lemmas.Bool.Decides.nat_tests, specs.Prelude.{All, OnOk, IfErr, IfSome}}
 use Rattle.xa_server.specs.State.{State, no_state}
 use Rattle.xa_lines.specs.Script.{Line, Blank, Bad, Given, line_of, lines_of}
-use Rattle.xa_lines.specs.Transcript.{answer_of, state_after_line, run_text}
-use Rattle.xa_lines.specs.Printed.{answer_text, syntax_text}
+use Rattle.xa_lines.specs.{Transcript.{answer_of, state_after_line, run_text}, Printed.{answer_text, syntax_text}}
 use Rattle.xa_lines.specs.declared.script_fault.ScriptFault.{ScriptFault}
-use Rattle.xa_lines.specs.declared.script_fault.ScriptFault.TheVariants.{Read, TooLong as ScriptTooLong, Write}
-use Rattle.xa_lines.specs.declared.script_fault.ScriptFault.TheVariants.{NoMemory, Full, GateShut, ThreadRefused}
-use Rattle.xa_lines.specs.Received.{Received, Whole, TooLong, received_line}
-use Rattle.xa_lines.specs.Exchange.{Exchange}
-use Rattle.xa_lines.specs.Served.{AnswersAll, AreAnswers, IsServed, AfterServing}
-use Rattle.xa_lines.specs.Statements.{said, refused_text, HoldsNothing, IsRefusal, IsLineAnswer, text_of, state_of}
-use Rattle.xa_lines.specs.Statements.{served_text, IsToldAll}
+use Rattle.xa_lines.specs.{Received.{Received, Whole, TooLong, received_line}, Exchange.Exchange}
+use Rattle.xa_lines.specs.{Served.{AnswersAll, AreAnswers, IsServed, AfterServing}, Statements.{said, refused_text}}
+use Rattle.xa_lines.specs.Statements.{HoldsNothing, IsRefusal, IsLineAnswer, text_of, state_of, served_text, IsToldAll}
 use Rattle.xa_lines.specs.Statements.{AfterFaultOfStatements, IsShort}
 
 -- what a line is answered, and the state after it; the mark says whether memory is refused for its statement
@@ -95,11 +87,11 @@ served_ok (Err e) o s = tt
 -- a fault of serving leaves what a fault of statements leaves
 after_fault : (fault : ScriptFault) (exchange : Exchange) → AfterServing HoldsNothing IsLineAnswer fault exchange
     → AfterFaultOfStatements fault exchange
-after_fault Read exchange a =
+after_fault ScriptFault.Read exchange a =
     let t = all_told a.0.lines exchange.told a.0.answers in
     (record { lines = a.0.lines; begun = a.0.begun; marks = t.0; cut = a.0.cut; told = t.1 }, a.1)
-after_fault ScriptTooLong exchange a = a
-after_fault Write exchange a =
+after_fault ScriptFault.TooLong exchange a = a
+after_fault ScriptFault.Write exchange a =
     let t = part_told a.0.lines a.0.later (exchange.given ++ a.0.unsaid) a.0.answers in (
       record {
         marks = t.0;
@@ -109,10 +101,10 @@ after_fault Write exchange a =
       },
       a.1,
     )
-after_fault NoMemory exchange a = a
-after_fault Full exchange a = a
-after_fault GateShut exchange a = a
-after_fault ThreadRefused exchange a = a
+after_fault ScriptFault.NoMemory exchange a = a
+after_fault ScriptFault.Full exchange a = a
+after_fault ScriptFault.GateShut exchange a = a
+after_fault ScriptFault.ThreadRefused exchange a = a
 
 -- after Err a fault of serving leaves what a fault of statements leaves
 pub served_fault : {A : Type 0} (result : Result A ScriptFault) (o : Option Exchange)

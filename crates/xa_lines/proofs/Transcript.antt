@@ -1,11 +1,7 @@
 -- Writing a transcript answer by answer.
-use Rattle.std.specs.Result.{OnErr}
-use Rattle.std.proofs.Common.{Result, Ok, Err, ◌≡◌, ℕ, ◌==◌, true, Option, List, [], ◌∷◌, ◌++◌, length, take, drop}
-use Rattle.std.proofs.Common.{refl, sym, ap, ◌∙◌, subst, append_assoc}
-use Rattle.std.proofs.Common.{append-nil, arith}
-use Rattle.std.proofs.lemmas.List.{take_at, take-append-drop}
-use Rattle.std.proofs.lemmas.Grind.{common_steps}
-use Rattle.std.specs.Io.KnownBytes.{Appends}
+use Rattle.std.{specs.{Result.OnErr, Io.KnownBytes.Appends}, proofs.Common.{Result, Ok, Err, ◌≡◌, ℕ, ◌==◌, true}}
+use Rattle.std.proofs.Common.{Option, List, [], ◌∷◌, ◌++◌, length, take, drop, refl, sym, ap, ◌∙◌, subst, append_assoc}
+use Rattle.std.proofs.{Common.{append-nil, arith}, lemmas.{List.{take_at, take-append-drop}, Grind.common_steps}}
 use Rattle.std.proofs.KnownBytes.{Appends-trans, Appends-nil}
 use Rattle.xa_server.specs.State.{State}
 use Rattle.xa_lines.specs.Script.{lines_of, line_of}

@@ -1,8 +1,6 @@
 -- Tries to write a text.
 use Rattle.std.proofs.Common.{◌≡◌, ℕ, suc, ◌+◌, ◌-◌, List, [], ◌++◌, length, take, drop, refl, sym, ap, ◌∙◌, subst}
-use Rattle.std.proofs.Common.{arith}
-use Rattle.std.proofs.lemmas.List.{take_rest, take-append-drop}
-use Rattle.std.proofs.Math.Seq.{take-add}
+use Rattle.std.proofs.{Common.arith, lemmas.List.{take_rest, take-append-drop}, Math.Seq.take-add}
 use Rattle.xa_lines.specs.Trying.{IsTry, Tries, IsLastTry, StopsTrying}
 
 module _ {S : Type 0} (takes : S → List ℕ → S → Type 0) (interrupts : S → S → Type 0) where

@@ -1,20 +1,13 @@
 -- A conversation, byte by byte and answer by answer. It is under way if all whole lines that don't wait are answered.
 use Rattle.std.proofs.Common.{◌≡◌, ℕ, ◌==◌, true, false, List, [], ◌∷◌, ◌++◌, length, take, drop, refl, sym, ap, subst}
-use Rattle.std.proofs.Common.{◌∙◌, append_assoc, append-nil, ◌≤◌, ◌+◌}
-use Rattle.std.proofs.Common.{arith, length-append}
-use Rattle.std.proofs.lemmas.List.{length-take}
-use Rattle.std.proofs.lemmas.Bool.Decides.{nat_tests}
-use Rattle.std.proofs.lemmas.List.{take-append-drop}
-use Rattle.xa_lines.specs.Script.{lines_of}
+use Rattle.std.proofs.Common.{◌∙◌, append_assoc, append-nil, ◌≤◌, ◌+◌, arith, length-append}
+use Rattle.std.proofs.lemmas.{List.{length-take, take-append-drop}, Bool.Decides.nat_tests}
+use Rattle.xa_lines.specs.{Script.lines_of, Exchange.{Exchange, IsFresh, with_received}}
 use Rattle.xa_lines.specs.Received.{Received, Whole, received_line, longer, is_nothing, IsCutIntoLines}
-use Rattle.xa_lines.specs.Exchange.{Exchange, IsFresh, with_received}
 use Rattle.xa_lines.specs.Served.{AnswersAll, AreAnswers, IsAnswerSoFar, AwaitsMore, IsServed, IsCutOff}
-use Rattle.xa_lines.specs.UnderWay.{IsUnderWay, IsReady, IsAllAnswered}
-use Rattle.xa_lines.specs.declared.stage.Stage.{Stage}
-use Rattle.xa_lines.specs.declared.stage.Stage.TheVariants.{Open, Ended, Deaf, Mute}
+use Rattle.xa_lines.specs.{UnderWay.{IsUnderWay, IsReady, IsAllAnswered}, declared.stage.Stage.Stage}
 use Rattle.xa_lines.proofs.Cut.{cut_none, cut_more, cut_feed, lines_of-cut, lines_of-cut_feed, lines_of-some}
-use Rattle.xa_lines.proofs.Cut.{lines_of-nothing, nothing_begun}
-use Rattle.xa_lines.proofs.Cut.{received_line-nothing, received_line-longer}
+use Rattle.xa_lines.proofs.Cut.{lines_of-nothing, nothing_begun, received_line-nothing, received_line-longer}
 
 -- if there were no more reads than bytes received, there still aren't after a read that gives at least one byte
 longer_received : (reads n : ℕ) (received piece : List ℕ) → (n == 0) ≡ false → n ≤ length piece
@@ -49,7 +42,7 @@ module _ {S : Type 0} (Begins : S → Type 0) (Answers : S → Received → List
 
   -- a conversation in which nothing has passed, with a server that has just begun, is ready for more
   pub fresh : (exchange : Exchange) (line : Received) (server : S) → IsFresh exchange → line ≡ Whole [] → Begins server
-      → IsReady Begins Answers Open 0 exchange line server
+      → IsReady Begins Answers Stage.Open 0 exchange line server
   fresh exchange line server none nothing begins =
       let P : List ℕ → Type 0 = λ xs. AnswersAll Answers server [] xs server in (
         none.2 ∙ sym none.1,
@@ -115,7 +108,7 @@ module _ {S : Type 0} (Begins : S → Type 0) (Answers : S → Received → List
   -- the next byte, a line feed, ends the line, and giving its answer failed after a part: the conversation is cut off
   pub begun_answer : (stage : Stage) (reads : ℕ) (exchange new : Exchange) (waiting answer : List ℕ) (n : ℕ)
       (line : Received) (server after : S)
-      → new ≡ record exchange { given = exchange.given ++ take n answer; stage = Mute }
+      → new ≡ record exchange { given = exchange.given ++ take n answer; stage = Stage.Mute }
       → Answers server line answer after
       → IsUnderWay Begins Answers stage reads exchange (10 ∷ waiting) line server → IsCutOff Begins Answers new
   begun_answer stage reads exchange new waiting answer n line server after is now u =
@@ -147,10 +140,10 @@ module _ {S : Type 0} (Begins : S → Type 0) (Answers : S → Received → List
   pub received : (reads : ℕ) (exchange new : Exchange) (n : ℕ) (piece : List ℕ) (line : Received) (server : S)
       → (n == 0) ≡ false → n ≤ length piece
       → new ≡ with_received exchange n piece
-      → IsUnderWay Begins Answers Open reads exchange [] line server
-      → IsUnderWay Begins Answers Open (reads + 1) new (take n piece) line server
+      → IsUnderWay Begins Answers Stage.Open reads exchange [] line server
+      → IsUnderWay Begins Answers Stage.Open (reads + 1) new (take n piece) line server
   received reads exchange new n piece line server some within is u =
-      let P : Exchange → Type 0 = λ e. IsUnderWay Begins Answers Open (reads + 1) e (take n piece) line server in
+      let P : Exchange → Type 0 = λ e. IsUnderWay Begins Answers Stage.Open (reads + 1) e (take n piece) line server in
       subst P (sym is) (record {
         done = u.done;
         lines = u.lines;
@@ -169,10 +162,10 @@ module _ {S : Type 0} (Begins : S → Type 0) (Answers : S → Received → List
   pub received_end : (reads : ℕ) (exchange new : Exchange) (n : ℕ) (piece : List ℕ) (line : Received) (server : S)
       → (n == 0) ≡ true
       → new ≡ with_received exchange n piece
-      → IsUnderWay Begins Answers Open reads exchange [] line server
-      → IsUnderWay Begins Answers Ended reads new [] line server
+      → IsUnderWay Begins Answers Stage.Open reads exchange [] line server
+      → IsUnderWay Begins Answers Stage.Ended reads new [] line server
   received_end reads exchange new n piece line server none is u =
-      let P : Exchange → Type 0 = λ e. IsUnderWay Begins Answers Ended reads e [] line server in
+      let P : Exchange → Type 0 = λ e. IsUnderWay Begins Answers Stage.Ended reads e [] line server in
       let zero_is : n ≡ 0 = grind (arith, nat_tests) in
       let same : exchange.received ++ take n piece ≡ exchange.received =
       ap (λ k. exchange.received ++ take k piece) zero_is ∙ append-nil exchange.received in
@@ -208,19 +201,19 @@ module _ {S : Type 0} (Begins : S → Type 0) (Answers : S → Received → List
 
   -- in a conversation that is ready for more, all whole lines are answered, and the client was told so
   pub ready_answered : (reads : ℕ) (exchange : Exchange) (line : Received) (server : S)
-      → IsReady Begins Answers Open reads exchange line server
+      → IsReady Begins Answers Stage.Open reads exchange line server
       → AwaitsMore Begins Answers exchange
   ready_answered reads exchange line server r =
-      (r.1.stage_is, so_far Open reads exchange exchange.told line server r.0 r.1)
+      (r.1.stage_is, so_far Stage.Open reads exchange exchange.told line server r.0 r.1)
 
   -- if a read failed in a conversation that was ready for more, all whole lines are answered, and the client is deaf
   pub deaf : (reads : ℕ) (exchange new : Exchange) (line : Received) (server : S)
-      → new ≡ record exchange { stage = Deaf }
-      → IsReady Begins Answers Open reads exchange line server
-      → IsAnswerSoFar Begins Answers new.received new.told × (new.stage ≡ Deaf)
+      → new ≡ record exchange { stage = Stage.Deaf }
+      → IsReady Begins Answers Stage.Open reads exchange line server
+      → IsAnswerSoFar Begins Answers new.received new.told × (new.stage ≡ Stage.Deaf)
   deaf reads exchange new line server is r =
-      let P : Exchange → Type 0 = λ e. IsAnswerSoFar Begins Answers e.received e.told × (e.stage ≡ Deaf) in
-      subst P (sym is) (so_far Open reads exchange exchange.told line server r.0 r.1, refl)
+      let P : Exchange → Type 0 = λ e. IsAnswerSoFar Begins Answers e.received e.told × (e.stage ≡ Stage.Deaf) in
+      subst P (sym is) (so_far Stage.Open reads exchange exchange.told line server r.0 r.1, refl)
 
   -- if all that was given was flushed when no byte waited, the conversation is ready for more
   pub flushed : (stage : Stage) (reads : ℕ) (exchange new : Exchange) (line : Received) (server : S)
@@ -248,7 +241,7 @@ module _ {S : Type 0} (Begins : S → Type 0) (Answers : S → Received → List
 
   -- if a flush failed when no byte waited, the conversation is cut off
   pub unflushed : (stage : Stage) (reads : ℕ) (exchange new : Exchange) (told : List ℕ) (line : Received) (server : S)
-      → new ≡ record exchange { told = told; stage = Mute }
+      → new ≡ record exchange { told = told; stage = Stage.Mute }
       → IsUnderWay Begins Answers stage reads exchange [] line server → IsCutOff Begins Answers new
   unflushed stage reads exchange new told line server is u =
       let P : Exchange → Type 0 = λ e. IsCutOff Begins Answers e in
@@ -267,7 +260,7 @@ module _ {S : Type 0} (Begins : S → Type 0) (Answers : S → Received → List
 
   -- if the client has ended, and nothing of a further line has come, all lines are answered
   pub end_nothing : (reads : ℕ) (exchange : Exchange) (line : Received) (server : S) → is_nothing line ≡ true
-      → IsUnderWay Begins Answers Ended reads exchange [] line server → IsAllAnswered Begins Answers exchange
+      → IsUnderWay Begins Answers Stage.Ended reads exchange [] line server → IsAllAnswered Begins Answers exchange
   end_nothing reads exchange line server none u =
       let none_begun : u.begun ≡ [] = nothing_begun u.begun (ap is_nothing (sym u.held) ∙ none) in
       let all : lines_of exchange.received ≡ u.lines =
@@ -282,7 +275,7 @@ module _ {S : Type 0} (Begins : S → Type 0) (Answers : S → Received → List
 
   -- if something of a further line has come when the client ended, the lines are the whole ones and that one
   all_lines : (reads : ℕ) (exchange : Exchange) (line : Received) (server : S) → is_nothing line ≡ false
-      → (u : IsUnderWay Begins Answers Ended reads exchange [] line server)
+      → (u : IsUnderWay Begins Answers Stage.Ended reads exchange [] line server)
       → lines_of exchange.received ≡ u.lines ++ u.begun ∷ []
   all_lines reads exchange line server some u =
       ap lines_of u.parts ∙ lines_of-cut u.done u.lines u.begun [] u.cut
@@ -293,7 +286,7 @@ module _ {S : Type 0} (Begins : S → Type 0) (Answers : S → Received → List
   pub end_answered : (reads : ℕ) (exchange new : Exchange) (answer : List ℕ) (line : Received) (server after : S)
       → is_nothing line ≡ false
       → new ≡ record exchange { given = exchange.given ++ answer } → Answers server line answer after
-      → IsUnderWay Begins Answers Ended reads exchange [] line server → IsAllAnswered Begins Answers new
+      → IsUnderWay Begins Answers Stage.Ended reads exchange [] line server → IsAllAnswered Begins Answers new
   end_answered reads exchange new answer line server after some is now u =
       let P : Exchange → Type 0 = λ e. IsAllAnswered Begins Answers e in
       let Q : Received → Type 0 = λ l. Answers server l answer after in
@@ -309,8 +302,8 @@ module _ {S : Type 0} (Begins : S → Type 0) (Answers : S → Received → List
   -- the client has ended, and giving the answer to the last line failed after a part: the conversation is cut off
   pub end_begun : (reads : ℕ) (exchange new : Exchange) (answer : List ℕ) (n : ℕ) (line : Received) (server after : S)
       → is_nothing line ≡ false
-      → new ≡ record exchange { given = exchange.given ++ take n answer; stage = Mute }
-      → Answers server line answer after → IsUnderWay Begins Answers Ended reads exchange [] line server
+      → new ≡ record exchange { given = exchange.given ++ take n answer; stage = Stage.Mute }
+      → Answers server line answer after → IsUnderWay Begins Answers Stage.Ended reads exchange [] line server
       → IsCutOff Begins Answers new
   end_begun reads exchange new answer n line server after some is now u =
       let P : Exchange → Type 0 = λ e. IsCutOff Begins Answers e in
@@ -345,7 +338,7 @@ module _ {S : Type 0} (Begins : S → Type 0) (Answers : S → Received → List
       subst P (sym is) (all.0, refl, all.1)
 
   -- if all lines are answered, and the last flush failed, the conversation is cut off
-  pub unserved : (exchange new : Exchange) (told : List ℕ) → new ≡ record exchange { told = told; stage = Mute }
+  pub unserved : (exchange new : Exchange) (told : List ℕ) → new ≡ record exchange { told = told; stage = Stage.Mute }
       → IsAllAnswered Begins Answers exchange
       → IsCutOff Begins Answers new
   unserved exchange new told is all =

@@ -1,10 +1,7 @@
 -- What was read, and what was written.
 use Rattle.std.proofs.Common.{◌≡◌, ℕ, ◌+◌, ◌-◌, ◌<◌, ◌≤◌, ◌∙◌, Option, Some, None, List, [], ◌++◌, append-nil, length}
-use Rattle.std.proofs.Common.{take, drop, arith, length-append, sym, subst}
-use Rattle.std.proofs.lemmas.List.{length-take, take_rest}
-use Rattle.std.proofs.Math.Seq.{take-add}
-use Rattle.std.specs.Io.KnownBytes.{Appends, Keeps}
-use Rattle.std.proofs.KnownBytes.{Appends-trans}
+use Rattle.std.proofs.{Common.{take, drop, arith, length-append, sym, subst}, lemmas.List.{length-take, take_rest}}
+use Rattle.std.{proofs.{Math.Seq.take-add, KnownBytes.Appends-trans}, specs.Io.KnownBytes.{Appends, Keeps}}
 
 -- if a text and so many bytes of a piece are together longer than is allowed, so is the text with those bytes at its
 -- end

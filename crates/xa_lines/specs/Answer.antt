@@ -3,8 +3,7 @@
 --     HasRoom         an answer has room for more of them
 use Rattle.std.specs.Prelude.{ℕ, ◌+◌, ◌≤◌, List, vec_len, vec_capacity}
 use Rattle.arrayvec.specs.ArrayVec.{array_vec_len}
-use Rattle.xa_lines.specs.declared.answer.Answer.{Answer}
-use Rattle.xa_lines.specs.declared.answer.Answer.TheVariants.{Text, Short}
+use Rattle.xa_lines.specs.declared.answer.Answer.{Answer, TheVariants.{Text, Short}}
 
 -- the bytes of an answer
 abbrev pub bytes_of : Answer → List ℕ

@@ -13,8 +13,6 @@
 -- called again.
 use Rattle.std.specs.Prelude.{◌≡◌, ◌⊎◌, ℕ, zero, suc, ◌<◌, ◌≤◌, List, [], ◌++◌, length}
 use Rattle.xa_lines.specs.declared.script_fault.ScriptFault.{ScriptFault}
-use Rattle.xa_lines.specs.declared.script_fault.ScriptFault.TheVariants.{Read, TooLong, Write, NoMemory, Full, GateShut}
-use Rattle.xa_lines.specs.declared.script_fault.ScriptFault.TheVariants.{ThreadRefused}
 
 -- so many calls one after another, each of which passes at least one byte, pass these bytes in all
 unfoldable pub Carries : {S : Type 0} → (S → List ℕ → S → Type 0) → ℕ → S → List ℕ → S → Type 0
@@ -55,17 +53,17 @@ pub record FailsReading {S : Type 0} (gives : S → List ℕ → S → Type 0) (
 -- were spent; it is longer; or there was no memory, though all reads gave something and it isn't known to be longer
 abbrev pub StopsReading : {S : Type 0} → (S → List ℕ → S → Type 0) → (S → S → Type 0) → (reads most : ℕ) → ScriptFault
     → S → S → Type 0
-StopsReading gives fails reads most Read old new =
+StopsReading gives fails reads most ScriptFault.Read old new =
     FailsReading gives fails reads most old new ⊎ ((text : List ℕ) × (length text ≤ most)
     × Carries gives reads old text new)
-StopsReading gives fails reads most TooLong old new =
+StopsReading gives fails reads most ScriptFault.TooLong old new =
     (text : List ℕ) × (most < length text) × HasRead gives reads old text new
-StopsReading gives fails reads most NoMemory old new =
+StopsReading gives fails reads most ScriptFault.NoMemory old new =
     (text : List ℕ) × (length text ≤ most) × HasRead gives reads old text new
-StopsReading gives fails reads most Write old new = ⊥
-StopsReading gives fails reads most Full old new = ⊥
-StopsReading gives fails reads most GateShut old new = ⊥
-StopsReading gives fails reads most ThreadRefused old new = ⊥
+StopsReading gives fails reads most ScriptFault.Write old new = ⊥
+StopsReading gives fails reads most ScriptFault.Full old new = ⊥
+StopsReading gives fails reads most ScriptFault.GateShut old new = ⊥
+StopsReading gives fails reads most ScriptFault.ThreadRefused old new = ⊥
 
 -- writes took these bytes, and none failed
 abbrev pub HasWritten : {S : Type 0} → (S → List ℕ → S → Type 0) → S → List ℕ → S → Type 0
@@ -115,4 +113,4 @@ abbrev pub Stops : {R W : Type 0} → (R → List ℕ → R → Type 0) → (R �
 Stops gives fails takes refuses reads most IsText IsOfText fault old new before after =
     (StopsReading gives fails reads most fault old new × (after ≡ before))
     ⊎ (((script : List ℕ) × HasReadAll gives reads old script new × IsOfText script fault × (after ≡ before))
-    ⊎ ((fault ≡ Write) × FailsWriting gives takes refuses reads IsText old new before after))
+    ⊎ ((fault ≡ ScriptFault.Write) × FailsWriting gives takes refuses reads IsText old new before after))

@@ -8,8 +8,7 @@
 --     faults_next, refuses_next   whether it faults where it is used next
 --     takes_next                  how many of so many bytes a writer takes next, at most
 use Rattle.std.specs.Prelude.{ℕ, Bool, ◌==◌, ◌&&◌, not, cond, List}
-use Rattle.xa_lines.specs.declared.cut_reader.CutReader.{CutReader}
-use Rattle.xa_lines.specs.declared.cut_writer.CutWriter.{CutWriter}
+use Rattle.xa_lines.specs.declared.{cut_reader.CutReader.CutReader, cut_writer.CutWriter.CutWriter}
 
 -- the bytes that a reader has yet to give
 abbrev pub left_in : CutReader → List ℕ

@@ -6,8 +6,7 @@
 --     CanBeTold          nothing has failed, so more may be said
 -- A client that doesn't say what has passed is promised nothing; one that doesn't say it now won't say it later.
 use Rattle.std.specs.Prelude.{◌≡◌, ◌⊎◌, ℕ, ◌==◌, cond, Option, Some, None, Result, MatchResult, List, [], ◌++◌, take, ⊤}
-use Rattle.xa_lines.specs.declared.stage.Stage.{Stage}
-use Rattle.xa_lines.specs.declared.stage.Stage.TheVariants.{Open, Ended, Deaf, Mute}
+use Rattle.xa_lines.specs.declared.stage.Stage.{Stage, TheVariants.{Open, Ended, Deaf, Mute}}
 
 -- what has passed between a client and the program
 pub record Exchange : Type 0 where

@@ -5,24 +5,17 @@
 --     branch_lines    a branch, and the rows that it holds
 --     row_line        the committed value of a row
 --     listing         every branch, and these rows
-use Rattle.std.specs.Prelude.{ℕ, Option, Some, None, List, [], ◌++◌, codes, decimal}
-use Rattle.std.specs.List.{flat_map}
-use Rattle.xa_xid.specs.Xid.{Text}
-use Rattle.xa_xid.specs.XidText.{part_text, xid_text}
-use Rattle.xa_server.specs.declared.branch.Phase.{Phase}
-use Rattle.xa_server.specs.declared.branch.Phase.TheVariants.{Active, Idle, Prepared}
-use Rattle.xa_server.specs.declared.hold.Hold.{Hold}
-use Rattle.xa_server.specs.declared.hold.Hold.TheVariants.{Shared, Put, Delete}
-use Rattle.xa_server.specs.declared.hold.HeldRow.{HeldRow}
-use Rattle.xa_server.specs.declared.overview.BranchEntry.{BranchEntry}
-use Rattle.xa_server.specs.Overview.{branches_of, rows_of}
-use Rattle.xa_server.specs.State.{State, committed_value}
+use Rattle.std.specs.{Prelude.{ℕ, Option, Some, None, List, [], ◌++◌, codes, decimal}, List.flat_map}
+use Rattle.xa_xid.specs.{Xid.Text, XidText.{part_text, xid_text}}
+use Rattle.xa_server.specs.declared.{branch.Phase.Phase, hold.Hold.{Hold, TheVariants.{Shared, Put, Delete}}}
+use Rattle.xa_server.specs.declared.{hold.HeldRow.HeldRow, overview.BranchEntry.BranchEntry}
+use Rattle.xa_server.specs.{Overview.{branches_of, rows_of}, State.{State, committed_value}}
 
 -- the words for a branch's phase
 abbrev pub phase_text : Phase → List ℕ
-phase_text Active = codes " ACTIVE"
-phase_text Idle = codes " IDLE"
-phase_text Prepared = codes " PREPARED"
+phase_text Phase.Active = codes " ACTIVE"
+phase_text Phase.Idle = codes " IDLE"
+phase_text Phase.Prepared = codes " PREPARED"
 
 -- the words for a branch's owner; none for a PREPARED branch, which has no owner
 abbrev pub owner_text : Option ℕ → List ℕ

@@ -13,16 +13,11 @@
 --     object_line      the object of a line
 --     objects_of       the objects of lines
 use Rattle.std.specs.Prelude.{ℕ, Bool, true, false, ◌==◌, ◌||◌, if◌then◌else◌, nat_eq, Option, Some, None, Ok, Err}
-use Rattle.std.specs.Prelude.{List, [], ◌∷◌, ◌++◌}
-use Rattle.std.specs.Prelude.{codes, decimal, drop, encode_utf8_all}
-use Rattle.std.specs.Option.{is_some}
+use Rattle.std.specs.{Prelude.{List, [], ◌∷◌, ◌++◌, codes, decimal, drop, encode_utf8_all}, Option.is_some}
 use Rattle.std.specs.Cmp.Lexicographic.{pointwise}
-use Rattle.json.specs.Token.{Token, begin_object, end_object, key, string, number}
-use Rattle.json.specs.Print.{print}
-use Rattle.xa_xid.specs.Literal.{Reading}
-use Rattle.xa_xid.specs.Number.{number_ahead}
-use Rattle.xa_lines.specs.Script.{lines_of, first_word, after_word, is_empty_line}
-use Rattle.xa_lines.specs.declared.json_mark.Mark.{Mark}
+use Rattle.json.specs.{Token.{Token, begin_object, end_object, key, string, number}, Print.print}
+use Rattle.xa_xid.specs.{Literal.Reading, Number.number_ahead}
+use Rattle.xa_lines.specs.{Script.{lines_of, first_word, after_word, is_empty_line}, declared.json_mark.Mark.Mark}
 use Rattle.xa_lines.specs.declared.json_mark.Mark.TheVariants.{Word, Number, Any, Rest, Statement, Undecided}
 
 -- the text behind its first word and the blank after that

@@ -6,15 +6,9 @@
 --     answer_text     the line of an answer
 use Rattle.std.specs.Prelude.{ℕ, Bool, true, false, Some, None, List, [], ◌∷◌, ◌++◌, length, codes, decimal}
 use Rattle.hex.specs.Hex.{encode_lower}
-use Rattle.xa_xid.specs.XidText.{part_text}
-use Rattle.xa_xid.specs.declared.xid.Xid.{Xid}
-use Rattle.xa_xid.specs.declared.statement.Statement.{Statement}
-use Rattle.xa_xid.specs.declared.statement.Statement.TheVariants.{Start, End, Prepare, Commit, Rollback, Recover}
-use Rattle.xa_xid.specs.declared.statement.Statement.TheVariants.{Unsupported, Get, Put, Del, Disconnect}
-use Rattle.xa_server.specs.declared.reply.Reply.{Reply}
-use Rattle.xa_server.specs.declared.reply.Reply.TheVariants.{Ok as Accepted, Value, Recovered, Refused}
-use Rattle.xa_server.specs.declared.xa_error.XaError.{XaError}
-use Rattle.xa_server.specs.Errors.{number_of, sqlstate_of, message_of}
+use Rattle.xa_xid.specs.{XidText.part_text, declared.{xid.Xid.Xid, statement.Statement.Statement}}
+use Rattle.xa_server.specs.declared.reply.Reply.{Reply, TheVariants.{Ok as Accepted, Value, Recovered, Refused}}
+use Rattle.xa_server.specs.{declared.xa_error.XaError.XaError, Errors.{number_of, sqlstate_of, message_of}}
 
 -- the bytes of a recovered identifier: as they are, or with CONVERT XID as `0x` and two hexadecimal digits for each,
 -- in lower case (manual, XA RECOVER; `0x` alone for no byte is our own)
@@ -53,17 +47,17 @@ syntax_text place = codes "ERROR 1064 (42000): syntax fault at byte " ++ decimal
 
 -- whether identifiers are printed in digits: only for XA RECOVER CONVERT XID
 abbrev pub converts : Statement → Bool
-converts (Start xid) = false
-converts (End xid) = false
-converts (Prepare xid) = false
-converts (Commit xid one_phase) = false
-converts (Rollback xid) = false
-converts (Recover convert) = convert
-converts Unsupported = false
-converts (Get key) = false
-converts (Put key value) = false
-converts (Del key) = false
-converts Disconnect = false
+converts (Statement.Start xid) = false
+converts (Statement.End xid) = false
+converts (Statement.Prepare xid) = false
+converts (Statement.Commit xid one_phase) = false
+converts (Statement.Rollback xid) = false
+converts (Statement.Recover convert) = convert
+converts Statement.Unsupported = false
+converts (Statement.Get key) = false
+converts (Statement.Put key value) = false
+converts (Statement.Del key) = false
+converts Statement.Disconnect = false
 
 -- who is answered, what, and the end of the line
 abbrev pub answer_text : List ℕ → List ℕ → List ℕ

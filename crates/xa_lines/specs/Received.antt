@@ -7,8 +7,7 @@
 --     held_by         the line that has come in part
 use Rattle.std.specs.Prelude.{◌≡◌, ℕ, nat_le, ◌==◌, Bool, true, false, cond, List, [], ◌∷◌, ◌++◌, length, All}
 use Rattle.std.specs.List.{flat_map}
-use Rattle.xa_lines.specs.declared.TheConstants.{LINE_BYTES}
-use Rattle.xa_lines.specs.declared.begun_line.BegunLine.{BegunLine}
+use Rattle.xa_lines.specs.declared.{TheConstants.LINE_BYTES, begun_line.BegunLine.BegunLine}
 
 -- a line, as far as it is kept
 pub data Received : Type 0 where

@@ -1,9 +1,7 @@
 -- A client for tests.
 --     exchange_of     what has passed with it
 use Rattle.std.specs.Prelude.{take}
-use Rattle.xa_lines.specs.Cut.{taken_by}
-use Rattle.xa_lines.specs.Exchange.{Exchange}
-use Rattle.xa_lines.specs.declared.recorded.Recorded.{Recorded}
+use Rattle.xa_lines.specs.{Cut.taken_by, Exchange.Exchange, declared.recorded.Recorded.Recorded}
 
 -- what has passed between this client and the program
 abbrev pub exchange_of : Recorded → Exchange

@@ -7,14 +7,10 @@
 --     number_of_word  the number that a word is
 --     is_comment_line a line is a comment
 use Rattle.std.specs.Prelude.{ℕ, ◌+◌, ◌-◌, nat_le, ◌==◌, Bool, true, false, not, ◌&&◌, cond, if◌then◌else◌, Option}
-use Rattle.std.specs.Prelude.{Some, None, Ok, Err, List, [], ◌∷◌, take, drop}
-use Rattle.std.specs.List.{prefix_len}
-use Rattle.xa_xid.specs.Bytes.{belongs, unblank}
-use Rattle.xa_xid.specs.Literal.{Reading}
-use Rattle.xa_xid.specs.Number.{number_ahead}
+use Rattle.std.specs.{Prelude.{Some, None, Ok, Err, List, [], ◌∷◌, take, drop}, List.prefix_len}
+use Rattle.xa_xid.specs.{Bytes.{belongs, unblank}, Literal.Reading, Number.number_ahead}
 use Rattle.xa_xid.specs.declared.byte_class.ByteClass.TheVariants.{Blank as BlankByte}
 use Rattle.xa_lines.specs.declared.lines.ScriptLine.{ScriptLine}
-use Rattle.xa_lines.specs.declared.lines.ScriptLine.TheVariants.{Blank as BlankLine, Bad as BadLine, Given as GivenLine}
 
 -- whether a text has no byte, or any list no element
 abbrev pub is_empty_line : {A : Type 0} → List A → Bool
@@ -100,6 +96,6 @@ line_of line = cond (is_empty_line (unblank line)) Blank (filled_line (unblank l
 
 -- what a line that was read says
 abbrev pub line_seen : ScriptLine → Line
-line_seen BlankLine = Blank
-line_seen BadLine = Bad
-line_seen (GivenLine session statement) = Given session statement.now
+line_seen ScriptLine.Blank = Blank
+line_seen ScriptLine.Bad = Bad
+line_seen (ScriptLine.Given session statement) = Given session statement.now

@@ -7,13 +7,8 @@
 --     IsCutOff        the answers are begun, and saying them failed
 --     AfterServing    what a fault leaves
 use Rattle.std.specs.Prelude.{◌≡◌, ◌⊎◌, ◌≤◌, ℕ, ◌-◌, ◌^◌, List, [], ◌∷◌, ◌++◌, length}
-use Rattle.xa_lines.specs.Script.{lines_of}
-use Rattle.xa_lines.specs.declared.script_fault.ScriptFault.{ScriptFault}
-use Rattle.xa_lines.specs.declared.script_fault.ScriptFault.TheVariants.{Read, TooLong as ScriptTooLong, Write}
-use Rattle.xa_lines.specs.declared.script_fault.ScriptFault.TheVariants.{NoMemory, Full, GateShut, ThreadRefused}
-use Rattle.xa_lines.specs.Received.{Received, received_line, IsCutIntoLines}
-use Rattle.xa_lines.specs.Exchange.{Exchange, IsFresh}
-use Rattle.xa_lines.specs.declared.stage.Stage.TheVariants.{Open, Ended, Deaf, Mute}
+use Rattle.xa_lines.specs.{Script.lines_of, declared.{script_fault.ScriptFault.ScriptFault, stage.Stage.Stage}}
+use Rattle.xa_lines.specs.{Received.{Received, received_line, IsCutIntoLines}, Exchange.{Exchange, IsFresh}}
 
 -- from old on, the server may answer these lines with this text, one after another, and is then new
 unfoldable pub AnswersAll : {S : Type 0} → (S → Received → List ℕ → S → Type 0) → S → List (List ℕ) → List ℕ → S
@@ -42,12 +37,12 @@ pub record IsAnswerSoFar {S : Type 0} (Begins : S → Type 0) (Answers : S → R
 -- more may be received: all whole lines are answered, and the client was told so
 abbrev pub AwaitsMore : {S : Type 0} → (S → Type 0) → (S → Received → List ℕ → S → Type 0) → Exchange → Type 0
 AwaitsMore Begins Answers exchange =
-    (exchange.stage ≡ Open) × IsAnswerSoFar Begins Answers exchange.received exchange.told
+    (exchange.stage ≡ Stage.Open) × IsAnswerSoFar Begins Answers exchange.received exchange.told
 
 -- nothing more is to be received: all lines are answered, and the client was told so
 abbrev pub IsServed : {S : Type 0} → (S → Type 0) → (S → Received → List ℕ → S → Type 0) → Exchange → Type 0
 IsServed Begins Answers exchange =
-    (exchange.stage ≡ Ended) × (exchange.told ≡ exchange.given)
+    (exchange.stage ≡ Stage.Ended) × (exchange.told ≡ exchange.given)
     × AreAnswers Begins Answers (lines_of exchange.received) exchange.told
 
 -- what was given begins the answers to the lines that were received
@@ -62,19 +57,19 @@ pub record IsBegunAnswer {S : Type 0} (Begins : S → Type 0) (Answers : S → R
 -- the answers are begun, and a write or a flush failed
 abbrev pub IsCutOff : {S : Type 0} → (S → Type 0) → (S → Received → List ℕ → S → Type 0) → Exchange → Type 0
 IsCutOff Begins Answers exchange =
-    IsBegunAnswer Begins Answers exchange.received exchange.given × (exchange.stage ≡ Mute)
+    IsBegunAnswer Begins Answers exchange.received exchange.given × (exchange.stage ≡ Stage.Mute)
 
 -- what a fault leaves. After a read fault all whole lines are answered, and a read has failed (Deaf), or at least
 -- 2^64 - 1 bytes were received; a write fault comes only where a write or a flush failed (Mute), and the answers are
 -- begun; without memory nothing has passed. No other fault occurs
 abbrev pub AfterServing : {S : Type 0} → (S → Type 0) → (S → Received → List ℕ → S → Type 0) → ScriptFault → Exchange
     → Type 0
-AfterServing Begins Answers Read exchange =
+AfterServing Begins Answers ScriptFault.Read exchange =
     IsAnswerSoFar Begins Answers exchange.received exchange.told
-    × ((exchange.stage ≡ Deaf) ⊎ (2 ^ 64 - 1 ≤ length exchange.received))
-AfterServing Begins Answers Write exchange = IsCutOff Begins Answers exchange
-AfterServing Begins Answers NoMemory exchange = IsFresh exchange
-AfterServing Begins Answers ScriptTooLong exchange = ⊥
-AfterServing Begins Answers Full exchange = ⊥
-AfterServing Begins Answers GateShut exchange = ⊥
-AfterServing Begins Answers ThreadRefused exchange = ⊥
+    × ((exchange.stage ≡ Stage.Deaf) ⊎ (2 ^ 64 - 1 ≤ length exchange.received))
+AfterServing Begins Answers ScriptFault.Write exchange = IsCutOff Begins Answers exchange
+AfterServing Begins Answers ScriptFault.NoMemory exchange = IsFresh exchange
+AfterServing Begins Answers ScriptFault.TooLong exchange = ⊥
+AfterServing Begins Answers ScriptFault.Full exchange = ⊥
+AfterServing Begins Answers ScriptFault.GateShut exchange = ⊥
+AfterServing Begins Answers ScriptFault.ThreadRefused exchange = ⊥

@@ -9,13 +9,9 @@
 use Rattle.std.specs.Prelude.{◌≡◌, ◌≢◌, ◌⊎◌, ℕ, Bool, true, false, List, [], ◌++◌, codes, Result, Ok, Err}
 use Rattle.xa_xid.specs.declared.statement.Statement.{Statement}
 use Rattle.xa_statement.specs.Reading.{read_of}
-use Rattle.xa_server.specs.Overview.{keys_about}
-use Rattle.xa_server.specs.State.{State, no_state}
-use Rattle.xa_lines.specs.Script.{Line, Blank, Bad, Given, line_of, is_comment_line}
-use Rattle.xa_lines.specs.Received.{Received, Whole, TooLong}
-use Rattle.xa_lines.specs.Statements.{IsAnswerTo}
-use Rattle.xa_lines.specs.Listing.{listing}
-use Rattle.xa_lines.specs.declared.shown.Shown.{Shown}
+use Rattle.xa_server.specs.{Overview.keys_about, State.{State, no_state}}
+use Rattle.xa_lines.specs.{Script.{Line, Blank, Bad, Given, line_of, is_comment_line}, declared.shown.Shown.Shown}
+use Rattle.xa_lines.specs.{Received.{Received, Whole, TooLong}, Statements.IsAnswerTo, Listing.listing}
 
 -- a comment is repeated, behind two blanks
 abbrev pub comment_text : List ℕ → List ℕ

@@ -11,18 +11,12 @@ use Rattle.std.specs.Prelude.{◌≡◌, ◌⊎◌, ◌≤◌, ℕ, ◌-◌, ◌
 use Rattle.std.specs.Prelude.{length, codes, decimal}
 use Rattle.xa_xid.specs.declared.statement.Statement.{Statement}
 use Rattle.xa_statement.specs.Reading.{read_of}
-use Rattle.xa_server.specs.State.{State, no_state}
-use Rattle.xa_server.specs.Step.{may_take_memory}
-use Rattle.xa_lines.specs.Script.{Line, Blank, Bad, Given, line_of, lines_of}
-use Rattle.xa_lines.specs.Printed.{answer_text}
+use Rattle.xa_server.specs.{State.{State, no_state}, Step.may_take_memory}
+use Rattle.xa_lines.specs.{Script.{Line, Blank, Bad, Given, line_of, lines_of}, Printed.answer_text}
 use Rattle.xa_lines.specs.Transcript.{answer_of, answer_to, state_after_line, state_then}
-use Rattle.xa_lines.specs.declared.script_fault.ScriptFault.{ScriptFault}
-use Rattle.xa_lines.specs.declared.script_fault.ScriptFault.TheVariants.{Read, TooLong as ScriptTooLong, Write}
-use Rattle.xa_lines.specs.declared.script_fault.ScriptFault.TheVariants.{NoMemory, Full, GateShut, ThreadRefused}
+use Rattle.xa_lines.specs.declared.{script_fault.ScriptFault.ScriptFault, stage.Stage.TheVariants.{Ended, Deaf, Mute}}
+use Rattle.xa_lines.specs.{declared.TheConstants.LINE_BYTES, Exchange.{Exchange, IsFresh}}
 use Rattle.xa_lines.specs.Received.{Received, Whole, TooLong, received_line, IsCutIntoLines}
-use Rattle.xa_lines.specs.Exchange.{Exchange, IsFresh}
-use Rattle.xa_lines.specs.declared.stage.Stage.TheVariants.{Ended, Deaf, Mute}
-use Rattle.xa_lines.specs.declared.TheConstants.{LINE_BYTES}
 
 -- what a line says; one that is too long is a bad one (own rule)
 abbrev pub said : Received → Line
@@ -121,14 +115,15 @@ pub record IsToldInPart (received text : List ℕ) : Type 0 where
 -- 2^64 - 1 bytes were received; a write fault comes only where a write or a flush failed (Mute), and the answers are
 -- begun; without memory nothing has passed. No other fault occurs
 abbrev pub AfterFaultOfStatements : ScriptFault → Exchange → Type 0
-AfterFaultOfStatements Read exchange =
+AfterFaultOfStatements ScriptFault.Read exchange =
     IsToldSoFar exchange.received exchange.told × ((exchange.stage ≡ Deaf) ⊎ (2 ^ 64 - 1 ≤ length exchange.received))
-AfterFaultOfStatements Write exchange = IsToldInPart exchange.received exchange.given × (exchange.stage ≡ Mute)
-AfterFaultOfStatements NoMemory exchange = IsFresh exchange
-AfterFaultOfStatements ScriptTooLong exchange = ⊥
-AfterFaultOfStatements Full exchange = ⊥
-AfterFaultOfStatements GateShut exchange = ⊥
-AfterFaultOfStatements ThreadRefused exchange = ⊥
+AfterFaultOfStatements ScriptFault.Write exchange = IsToldInPart exchange.received exchange.given ×
+    (exchange.stage ≡ Mute)
+AfterFaultOfStatements ScriptFault.NoMemory exchange = IsFresh exchange
+AfterFaultOfStatements ScriptFault.TooLong exchange = ⊥
+AfterFaultOfStatements ScriptFault.Full exchange = ⊥
+AfterFaultOfStatements ScriptFault.GateShut exchange = ⊥
+AfterFaultOfStatements ScriptFault.ThreadRefused exchange = ⊥
 
 -- the line has no more bytes than are kept
 abbrev pub IsShort : List ℕ → Type 0

@@ -9,18 +9,13 @@
 --     StopsAnswering, StopsRun       why the writing of answers, and a run, ended early
 --     IsWrittenUpTo                  a part of a text was written, and this is left of it
 use Rattle.std.specs.Prelude.{◌≡◌, ◌⊎◌, ℕ, ◌<◌, Option, List, [], ◌∷◌, ◌++◌, length, take, codes, decimal, IfSome}
-use Rattle.std.specs.Prelude.{Result, Ok, Err}
-use Rattle.std.specs.Io.KnownBytes.{Keeps, Appends, Consumes}
+use Rattle.std.specs.{Prelude.{Result, Ok, Err}, Io.KnownBytes.{Keeps, Appends, Consumes}}
 use Rattle.xa_xid.specs.declared.statement.Statement.{Statement}
-use Rattle.xa_server.specs.State.{State, no_state}
-use Rattle.xa_server.specs.Replies.{reply_to}
-use Rattle.xa_server.specs.Step.{after}
-use Rattle.xa_lines.specs.declared.script_fault.ScriptFault.{ScriptFault}
-use Rattle.xa_lines.specs.declared.script_fault.ScriptFault.TheVariants.{Read, TooLong, Write, NoMemory, Full, GateShut}
-use Rattle.xa_lines.specs.declared.script_fault.ScriptFault.TheVariants.{ThreadRefused}
+use Rattle.xa_server.specs.{State.{State, no_state}, Replies.reply_to, Step.after}
+use Rattle.xa_lines.specs.declared.script_fault.ScriptFault.{ScriptFault, TheVariants.{Read, TooLong, Write, NoMemory}}
+use Rattle.xa_lines.specs.declared.script_fault.ScriptFault.TheVariants.{Full, GateShut, ThreadRefused}
 use Rattle.xa_lines.specs.Calls.{HasReadAll, StopsReading, IsWrittenBut, StopsWriting}
-use Rattle.xa_lines.specs.Limits.{script_bytes, script_reads}
-use Rattle.xa_lines.specs.Script.{Line, Blank, Bad, Given, line_of, lines_of}
+use Rattle.xa_lines.specs.{Limits.{script_bytes, script_reads}, Script.{Line, Blank, Bad, Given, line_of, lines_of}}
 use Rattle.xa_lines.specs.Printed.{reply_text, syntax_text, converts, answer_text}
 use Rattle.xa_statement.specs.Reading.{read_of}
 

@@ -3,12 +3,8 @@
 --     IsAllAnswered           none waits, and nothing more is to be received
 --     IsReady                 none waits, and the client was told all
 use Rattle.std.specs.Prelude.{◌≡◌, ◌≤◌, ℕ, length, Option, Some, None, List, [], ◌++◌, ⊤}
-use Rattle.xa_lines.specs.Received.{Received, received_line, IsCutIntoLines}
-use Rattle.xa_lines.specs.Exchange.{Exchange}
-use Rattle.xa_lines.specs.Served.{AnswersAll, AreAnswers}
-use Rattle.xa_lines.specs.Script.{lines_of}
-use Rattle.xa_lines.specs.declared.stage.Stage.TheVariants.{Ended}
-use Rattle.xa_lines.specs.declared.stage.Stage.{Stage}
+use Rattle.xa_lines.specs.{Received.{Received, received_line, IsCutIntoLines}, Exchange.Exchange}
+use Rattle.xa_lines.specs.{Served.{AnswersAll, AreAnswers}, Script.lines_of, declared.stage.Stage.Stage}
 
 -- but for the bytes that wait, what was received is cut into lines, all of which are answered, and a line that has
 -- begun; there are no fewer bytes than reads so far
@@ -43,4 +39,4 @@ IsReady Begins Answers stage reads exchange line server =
 -- all lines are answered, and nothing more is to be received
 abbrev pub IsAllAnswered : {S : Type 0} → (S → Type 0) → (S → Received → List ℕ → S → Type 0) → Exchange → Type 0
 IsAllAnswered Begins Answers exchange =
-    (exchange.stage ≡ Ended) × AreAnswers Begins Answers (lines_of exchange.received) exchange.given
+    (exchange.stage ≡ Stage.Ended) × AreAnswers Begins Answers (lines_of exchange.received) exchange.given

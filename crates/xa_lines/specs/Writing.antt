@@ -2,13 +2,9 @@
 --     AfterWriting      what a fault of writing a text leaves in the writer
 --     AppendsObjects, AppendsObjectsPrefix    the writer got these objects;  or a prefix of them
 --     AfterObjects      what a fault of a job with `--json` leaves in the writer
-use Rattle.std.specs.Prelude.{ℕ, Option, Some, List, []}
-use Rattle.std.specs.Io.KnownBytes.{Keeps, Appends}
-use Rattle.xa_lines.specs.Script.{lines_of}
-use Rattle.xa_lines.specs.Transcript.{AppendsPrefix}
-use Rattle.xa_lines.specs.declared.script_fault.ScriptFault.{ScriptFault}
-use Rattle.xa_lines.specs.declared.script_fault.ScriptFault.TheVariants.{Write}
-use Rattle.xa_lines.specs.Objects.{objects_of}
+use Rattle.std.specs.{Prelude.{ℕ, Option, Some, List, []}, Io.KnownBytes.{Keeps, Appends}}
+use Rattle.xa_lines.specs.{Script.lines_of, Transcript.AppendsPrefix, declared.script_fault.ScriptFault.ScriptFault}
+use Rattle.xa_lines.specs.{declared.script_fault.ScriptFault.TheVariants.Write, Objects.objects_of}
 
 -- what a fault of writing a text leaves: a prefix of the text if a write failed, else nothing
 abbrev pub AfterWriting : List ℕ → ScriptFault → Option (List ℕ) → Option (List ℕ) → Type 0

@@ -18,8 +18,7 @@ pub struct BegunLine {
 }
 
 impl BegunLine {
-    ghost use Rattle.xa_lines.specs.Answer.{bytes_of};
-    ghost use Rattle.xa_lines.specs.Received.{held_by, longer, is_nothing, Whole};
+    ghost use Rattle.xa_lines.specs.{Answer.bytes_of, Received.{held_by, longer, is_nothing, Whole}};
 
     /// Returns a line of which nothing has been received, with room for 65,536 bytes.
     ///

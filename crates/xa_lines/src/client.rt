@@ -1,6 +1,5 @@
 //! A client of a server of lines.
-ghost use Rattle.std.specs.Prelude.{◌≡◌, ◌<◌, Option, Some, None, length, IfSome};
-ghost use Rattle.std.specs.Io.{ReadsAtMost};
+ghost use Rattle.std.specs.{Prelude.{◌≡◌, ◌<◌, Option, Some, None, length, IfSome}, Io.ReadsAtMost};
 
 use crate::LineServer;
 use std::io;
@@ -10,8 +9,7 @@ use std::io;
 /// The server has to send, and flush, the answers to all whole lines before it receives more.
 /// Own rule: docs/COMMANDS.md#serve.
 pub trait Client<S: LineServer> {
-    ghost use Rattle.xa_lines.specs.Exchange.{Exchange, Receives, WritesText, Flushes, CanBeTold};
-    ghost use Rattle.xa_lines.specs.Served.{AwaitsMore};
+    ghost use Rattle.xa_lines.specs.{Exchange.{Exchange, Receives, WritesText, Flushes, CanBeTold}, Served.AwaitsMore};
 
     // What has passed between client and server so far, if that is known.
     ghost exchange: { Self → Option Exchange } = { λ _. None };

@@ -1,8 +1,7 @@
 //! Scripts whose comments are left blank.
 ghost use Rattle.std.specs.Prelude.{◌≡◌, ◌++◌, ◌∷◌, OnOk, IfOk};
 ghost use Rattle.xa_lines.specs.Script.{lines_of};
-ghost use Rattle.xa_lines.specs.Uncommented.{begins_commented, bare_line, bare_lines};
-ghost use Rattle.xa_lines.specs.Uncommented.{uncommented as uncommented_text};
+ghost use Rattle.xa_lines.specs.Uncommented.{begins_commented, bare_line, bare_lines, uncommented as uncommented_text};
 
 use crate::{is_comment, split_line};
 use std::alloc::Global;

@@ -3,12 +3,9 @@
 //! This loop isn't `run_script`'s: a run ends if memory runs out, so that none of its answers depends on memory,
 //! while a conversation answers `ERROR 1037` and goes on, and limits the length of a line.
 ghost use Rattle.std.specs.Prelude.{◌≡◌, ◌≤◌, ◌∷◌, [], ℕ, List, IfErr, IfSome, OnOk, OnErr};
-ghost use Rattle.xa_lines.specs.Answer.{bytes_of};
-ghost use Rattle.xa_lines.specs.Received.{held_by, Whole};
+ghost use Rattle.xa_lines.specs.{Answer.bytes_of, Received.{held_by, Whole}, Served.{IsServed, IsCutOff, AfterServing}};
 ghost use Rattle.xa_lines.specs.Exchange.{Exchange, IsFresh, CanBeTold, WritesText, Flushes};
-ghost use Rattle.xa_lines.specs.Served.{IsServed, IsCutOff, AfterServing};
-ghost use Rattle.xa_lines.specs.declared.stage.Stage.{Stage};
-ghost use Rattle.xa_lines.specs.UnderWay.{UnderWay, IsAllAnswered};
+ghost use Rattle.xa_lines.specs.{declared.stage.Stage.Stage, UnderWay.{UnderWay, IsAllAnswered}};
 
 use crate::begun_line::BegunLine;
 use crate::{Client, LineServer, ScriptFault};

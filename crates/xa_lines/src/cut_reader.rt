@@ -1,8 +1,6 @@
 //! A reader for tests.
 ghost use Rattle.std.specs.Prelude.{◌≡◌, ◌||◌, ◌<◌, ◌≤◌, ◌-◌, ◌+◌, ◌^◌, min, ◌↔◌, false, true, length, Some, IsTrue};
-ghost use Rattle.std.specs.Prelude.{IsErr, IfOk, OnErr, OnOk};
-ghost use Rattle.std.specs.Io.{ReadsAtMost};
-ghost use Rattle.std.specs.Io.KnownBytes.{ReadConsumes};
+ghost use Rattle.std.specs.{Prelude.{IsErr, IfOk, OnErr, OnOk}, Io.{ReadsAtMost, KnownBytes.ReadConsumes}};
 
 use std::io;
 use std::io::{ErrorKind, Read};

@@ -1,8 +1,6 @@
 //! A writer for tests.
 ghost use Rattle.std.specs.Prelude.{◌≡◌, ◌||◌, ◌<◌, ◌≤◌, ◌-◌, ◌+◌, ◌^◌, min, false, true, [], length, Some, Ok, IsTrue};
-ghost use Rattle.std.specs.Prelude.{IfOk, IsErr, OnErr, OnOk};
-ghost use Rattle.std.specs.Io.{WritesAtMost};
-ghost use Rattle.std.specs.Io.KnownBytes.{WriteAppends};
+ghost use Rattle.std.specs.{Prelude.{IfOk, IsErr, OnErr, OnOk}, Io.{WritesAtMost, KnownBytes.WriteAppends}};
 
 use std::alloc::Global;
 use std::io;

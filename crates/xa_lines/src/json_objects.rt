@@ -1,7 +1,6 @@
 //! Writes lines as objects.
 ghost use Rattle.std.specs.Prelude.{◌≡◌, ◌++◌, IfOk};
-ghost use Rattle.xa_lines.specs.Script.{lines_of};
-ghost use Rattle.xa_lines.specs.Objects.{object_line, objects_of};
+ghost use Rattle.xa_lines.specs.{Script.lines_of, Objects.{object_line, objects_of}};
 
 use crate::json_forms::form_of;
 use crate::json_parts::write_parts;

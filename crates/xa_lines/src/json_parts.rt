@@ -1,8 +1,7 @@
 //! Writes the parts of a line as members of an object.
 ghost use Rattle.std.specs.Prelude.{◌≡◌, ◌++◌, ◌∷◌, [], drop, length, OnOk, encode_utf8_all};
 ghost use Rattle.json.specs.Token.{key};
-ghost use Rattle.xa_lines.specs.Script.{lines_of};
-ghost use Rattle.xa_lines.specs.Objects.{part_tokens_as, parts_tokens, number_tokens, text_tokens};
+ghost use Rattle.xa_lines.specs.{Script.lines_of, Objects.{part_tokens_as, parts_tokens, number_tokens, text_tokens}};
 
 use crate::json_characters::characters;
 use crate::json_mark::{Mark, mark_of};

@@ -1,7 +1,6 @@
 //! The words of a line.
 ghost use Rattle.std.specs.Prelude.{◌≡◌, ◌∷◌};
-ghost use Rattle.xa_lines.specs.Script.{first_word};
-ghost use Rattle.xa_lines.specs.Objects.{behind_first, begins_statement as begins, left_as};
+ghost use Rattle.xa_lines.specs.{Script.first_word, Objects.{behind_first, begins_statement as begins, left_as}};
 
 use crate::json_mark::Mark;
 use crate::split_word;

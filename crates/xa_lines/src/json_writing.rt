@@ -1,9 +1,6 @@
 //! Writes what a job writes as objects of JSON.
-ghost use Rattle.std.specs.Prelude.{◌≡◌, Ok, IfOk, IfErr, OnOk};
-ghost use Rattle.std.specs.Io.KnownBytes.{Appends};
-ghost use Rattle.xa_lines.specs.Script.{lines_of};
-ghost use Rattle.xa_lines.specs.Objects.{objects_of};
-ghost use Rattle.xa_lines.specs.Writing.{AfterWriting};
+ghost use Rattle.std.specs.{Prelude.{◌≡◌, Ok, IfOk, IfErr, OnOk}, Io.KnownBytes.Appends};
+ghost use Rattle.xa_lines.specs.{Script.lines_of, Objects.objects_of, Writing.AfterWriting};
 
 use crate::json_objects::objects_text;
 use crate::{ScriptFault, write_whole};

@@ -1,9 +1,7 @@
 //! A law of everything that is served, as the contract of a function that does nothing.
 ghost use Rattle.std.specs.Prelude.{◌≡◌, ℕ, [], List, All};
 ghost use Rattle.xa_server.specs.State.{no_state};
-ghost use Rattle.xa_lines.specs.Script.{lines_of};
-ghost use Rattle.xa_lines.specs.Transcript.{transcript};
-ghost use Rattle.xa_lines.specs.Statements.{IsShort, served_text};
+ghost use Rattle.xa_lines.specs.{Script.lines_of, Transcript.transcript, Statements.{IsShort, served_text}};
 
 /// States that what is served for a script is its transcript, byte by byte, if memory is refused for no statement and
 /// no line has more than 65,536 bytes. Does nothing when it is called.

@@ -2,11 +2,9 @@
 ghost use Rattle.std.specs.Prelude.{◌≡◌, ◌≤◌, ◌+◌, ◌++◌, codes, decimal, vec_len, vec_capacity, true, Ok, IfOk, OnOk};
 ghost use Rattle.std.specs.Prelude.{OnErr};
 ghost use Rattle.xa_statement.specs.Reading.{read_of};
-ghost use Rattle.xa_server.specs.Replies.{reply_to};
-ghost use Rattle.xa_server.specs.Step.{after, enters as enters_at, may_take_memory};
+ghost use Rattle.xa_server.specs.{Replies.reply_to, Step.{after, enters as enters_at, may_take_memory}};
 ghost use Rattle.xa_lines.specs.Printed.{answer_text, reply_text, syntax_text, converts as converts_of};
-ghost use Rattle.xa_lines.specs.Script.{line_of};
-ghost use Rattle.xa_lines.specs.Transcript.{answer_of, answer_to, state_after_line, state_then};
+ghost use Rattle.xa_lines.specs.{Script.line_of, Transcript.{answer_of, answer_to, state_after_line, state_then}};
 
 use crate::lines::{ScriptLine, read_line};
 use crate::print::{push_number, push_reply, push_syntax_fault};

@@ -9,8 +9,7 @@ use std::alloc::Global;
 /// A contract sees how it may begin, and how it may answer a line.
 /// Own rule: docs/COMMANDS.md#serve.
 pub trait LineServer {
-    ghost use Rattle.xa_lines.specs.Received.{Received, Whole, TooLong};
-    ghost use Rattle.xa_lines.specs.Answer.{bytes_of};
+    ghost use Rattle.xa_lines.specs.{Received.{Received, Whole, TooLong}, Answer.bytes_of};
 
     // The server may begin like this.
     ghost begins: { Self → Type 0 };

@@ -2,8 +2,7 @@
 ghost use Rattle.std.specs.Prelude.{◌≡◌, ◌≤◌, ◌<◌, ◌∷◌, ◌==◌, not, length, IsTrue, MatchOption, None, Some};
 ghost use Rattle.std.specs.List.{prefix_len};
 ghost use Rattle.xa_lines.specs.Script.{is_no_blank, first_word, after_word, session_named, line_of, lines_of};
-ghost use Rattle.xa_lines.specs.Script.{line_seen};
-ghost use Rattle.xa_lines.specs.Script.{is_comment_line, number_of_word};
+ghost use Rattle.xa_lines.specs.Script.{line_seen, is_comment_line, number_of_word};
 
 use xa_xid::{ByteClass, SessionNo, number_of, skip_blanks};
 

@@ -1,6 +1,5 @@
 //! Prints what a server holds.
-ghost use Rattle.std.specs.Prelude.{◌≡◌, ◌++◌, IfOk, codes};
-ghost use Rattle.std.specs.List.{flat_map};
+ghost use Rattle.std.specs.{Prelude.{◌≡◌, ◌++◌, IfOk, codes}, List.flat_map};
 ghost use Rattle.xa_xid.specs.XidText.{part_text};
 ghost use Rattle.xa_server.specs.Overview.{branches_of};
 ghost use Rattle.xa_lines.specs.Listing.{phase_text, owner_text, branch_line, hold_text, hold_line, branch_lines};

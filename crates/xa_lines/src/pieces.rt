@@ -1,8 +1,6 @@
 //! Readers and writers whose calls a contract can name one by one.
-ghost use Rattle.std.specs.Prelude.{◌≡◌, ℕ, List, take, IfErr, MatchResult};
-ghost use Rattle.std.specs.Io.{ReadsAtMost, WritesAtMost};
-ghost use Rattle.std.specs.Io.KnownBytes.{Appends, Consumes, Keeps, ReadConsumes, WriteAppends};
-ghost use Rattle.std.specs.IoError.{error_kind};
+ghost use Rattle.std.specs.{Prelude.{◌≡◌, ℕ, List, take, IfErr, MatchResult}, Io.{ReadsAtMost, WritesAtMost}};
+ghost use Rattle.std.specs.{Io.KnownBytes.{Appends, Consumes, Keeps, ReadConsumes, WriteAppends}, IoError.error_kind};
 
 use std::io;
 use std::io::{ErrorKind, Read, Write};

@@ -1,8 +1,7 @@
 //! Prints replies.
 ghost use Rattle.std.specs.Prelude.{◌≡◌, ◌≤◌, ◌++◌, OnOk, IfOk, length, decimal, codes};
 ghost use Rattle.hex.specs.Hex.{encode_lower};
-ghost use Rattle.xa_xid.specs.Limits.{text_bytes};
-ghost use Rattle.xa_xid.specs.XidText.{part_text};
+ghost use Rattle.xa_xid.specs.{Limits.text_bytes, XidText.part_text};
 ghost use Rattle.xa_lines.specs.Printed.{row_data, row_text, rows_text, error_text, reply_text, syntax_text};
 
 use itoa::Buffer;

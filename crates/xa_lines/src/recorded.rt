@@ -1,6 +1,5 @@
 //! A client for tests.
-ghost use Rattle.std.specs.Prelude.{◌≡◌, ◌+◌, ◌<◌, ◌≤◌, false, length, Some, IfOk, IsErr, OnOk};
-ghost use Rattle.std.specs.Io.{ReadsAtMost};
+ghost use Rattle.std.specs.{Prelude.{◌≡◌, ◌+◌, ◌<◌, ◌≤◌, false, length, Some, IfOk, IsErr, OnOk}, Io.ReadsAtMost};
 ghost use Rattle.std.specs.Io.KnownBytes.{ReadConsumes};
 ghost use Rattle.xa_lines.specs.Cut.{left_in, piece_of, reads_left_in, goes_on_behind, taken_by, room_in};
 ghost use Rattle.xa_lines.specs.Cut.{goes_on_writing};
@@ -31,8 +30,7 @@ pub struct Recorded<'a> {
 }
 
 impl<'a> Recorded<'a> {
-    ghost use Rattle.xa_lines.specs.Recorded.{exchange_of};
-    ghost use Rattle.xa_lines.specs.Exchange.{IsFresh};
+    ghost use Rattle.xa_lines.specs.{Recorded.exchange_of, Exchange.IsFresh};
 
     /// Returns a client that sends these bytes, at most `piece` at a time. It fails at each read after the
     /// first `reads`, and takes `room` bytes in all.
@@ -84,8 +82,7 @@ impl<'a> Recorded<'a> {
 }
 
 impl<'a, S: LineServer> Client<S> for Recorded<'a> {
-    ghost use Rattle.xa_lines.specs.Recorded.{exchange_of};
-    ghost use Rattle.xa_lines.specs.Exchange.{Receives, WritesText, Flushes};
+    ghost use Rattle.xa_lines.specs.{Recorded.exchange_of, Exchange.{Receives, WritesText, Flushes}};
 
     ghost exchange = { λ client. Some (exchange_of client) };
 

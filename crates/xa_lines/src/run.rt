@@ -1,9 +1,7 @@
 //! Runs a script.
 ghost use Rattle.std.specs.Prelude.{◌≡◌, ◌≤◌, ◌<◌, ◌++◌, ℕ, List, length, take, vec_len, IfOk, IfErr, OnOk, OnErr};
-ghost use Rattle.std.specs.Prelude.{IfSome, ◌≢◌, Err};
-ghost use Rattle.std.specs.Io.KnownBytes.{Appends, Consumes, IsAtEnd, Keeps};
-ghost use Rattle.xa_lines.specs.Calls.{HasReadAll, StopsReading, HasWritten};
-ghost use Rattle.xa_lines.specs.Limits.{script_bytes, script_reads};
+ghost use Rattle.std.specs.{Prelude.{IfSome, ◌≢◌, Err}, Io.KnownBytes.{Appends, Consumes, IsAtEnd, Keeps}};
+ghost use Rattle.xa_lines.specs.{Calls.{HasReadAll, StopsReading, HasWritten}, Limits.{script_bytes, script_reads}};
 ghost use Rattle.xa_lines.specs.Transcript.{AppendsPrefix, ConsumesMoreThan, AfterFault, IsOfRun, IsOfReading};
 ghost use Rattle.xa_lines.specs.Transcript.{StopsAnswering, StopsRun, transcript};
 

@@ -1,11 +1,8 @@
 //! Answers statements as serving does. If memory is refused the answer says so. Of the answers only that to a list
 //! takes memory. Carrying a statement out may take some, too.
 ghost use Rattle.std.specs.Prelude.{◌≡◌, ◌≤◌, ◌+◌, false, Ok, Err, IfOk, OnOk, OnErr, vec_len, vec_capacity};
-ghost use Rattle.xa_server.specs.Replies.{reply_to};
-ghost use Rattle.xa_server.specs.Step.{enters as enters_at, is_list};
-ghost use Rattle.xa_lines.specs.Answer.{bytes_of, HasRoom};
-ghost use Rattle.xa_lines.specs.Script.{Given};
-ghost use Rattle.xa_lines.specs.Transcript.{answer_to, state_then};
+ghost use Rattle.xa_server.specs.{Replies.reply_to, Step.{enters as enters_at, is_list}};
+ghost use Rattle.xa_lines.specs.{Answer.{bytes_of, HasRoom}, Script.Given, Transcript.{answer_to, state_then}};
 ghost use Rattle.xa_lines.specs.Statements.{IsStatementAnswer, IsAnswerTo};
 
 use crate::Answer;

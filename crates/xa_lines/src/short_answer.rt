@@ -1,9 +1,7 @@
 //! Answers that take no memory.
 ghost use Rattle.std.specs.Prelude.{◌≡◌, ◌≤◌, ◌+◌, ◌++◌, ℕ, length, codes, vec_len, vec_capacity, IfOk, MatchResult};
-ghost use Rattle.xa_lines.specs.Answer.{bytes_of, HasRoom};
-ghost use Rattle.xa_lines.specs.Printed.{answer_text, syntax_text};
-ghost use Rattle.xa_lines.specs.Statements.{refused_text};
-ghost use Rattle.xa_lines.specs.Shown.{unshown_text};
+ghost use Rattle.xa_lines.specs.{Answer.{bytes_of, HasRoom}, Printed.{answer_text, syntax_text}};
+ghost use Rattle.xa_lines.specs.{Statements.refused_text, Shown.unshown_text};
 
 use crate::Answer;
 use arrayvec::ArrayVec;

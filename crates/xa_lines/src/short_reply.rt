@@ -2,8 +2,7 @@
 ghost use Rattle.std.specs.Prelude.{◌≡◌, ◌≤◌, ◌+◌, ◌++◌, Bool, false, length, codes, decimal};
 ghost use Rattle.arrayvec.specs.ArrayVec.{array_vec_len};
 ghost use Rattle.hex.specs.Hex.{encode_lower};
-ghost use Rattle.xa_xid.specs.Limits.{text_bytes};
-ghost use Rattle.xa_xid.specs.XidText.{part_text};
+ghost use Rattle.xa_xid.specs.{Limits.text_bytes, XidText.part_text};
 ghost use Rattle.xa_server.specs.Step.{is_list};
 ghost use Rattle.xa_lines.specs.Answer.{bytes_of, HasRoom};
 ghost use Rattle.xa_lines.specs.Printed.{answer_text, error_text, reply_text, syntax_text};

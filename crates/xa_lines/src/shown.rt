@@ -4,11 +4,8 @@
 //! answer is therefore given without it.
 ghost use Rattle.std.specs.Prelude.{◌≡◌, ◌≢◌, ◌++◌, ℕ, [], true, false, List, ◌⊎◌, Ok, Err, IfOk, IfErr, IfSome, OnOk};
 ghost use Rattle.xa_statement.specs.Reading.{read_of};
-ghost use Rattle.xa_lines.specs.Script.{Bad, Given, line_of};
-ghost use Rattle.xa_lines.specs.Answer.{bytes_of, HasRoom};
-ghost use Rattle.xa_lines.specs.Exchange.{IsFresh};
-ghost use Rattle.xa_lines.specs.Served.{IsServed, AfterServing};
-ghost use Rattle.xa_lines.specs.Listing.{listing};
+ghost use Rattle.xa_lines.specs.{Script.{Bad, Given, line_of}, Answer.{bytes_of, HasRoom}, Exchange.IsFresh};
+ghost use Rattle.xa_lines.specs.{Served.{IsServed, AfterServing}, Listing.listing};
 ghost use Rattle.xa_lines.specs.Shown.{comment_text, unshown_text, StandsBehind, IsAnswerShown, BeginsEmpty, Shows};
 
 use crate::served_answer::{serve_read, serve_unread};

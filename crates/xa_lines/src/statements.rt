@@ -1,8 +1,6 @@
 //! The sequential server as a server of lines.
 ghost use Rattle.std.specs.Prelude.{◌≡◌, IfErr, IfSome, OnOk};
-ghost use Rattle.xa_lines.specs.Answer.{bytes_of};
-ghost use Rattle.xa_lines.specs.Exchange.{IsFresh};
-ghost use Rattle.xa_lines.specs.Statements.{IsToldAll, AfterFaultOfStatements};
+ghost use Rattle.xa_lines.specs.{Answer.bytes_of, Exchange.IsFresh, Statements.{IsToldAll, AfterFaultOfStatements}};
 
 use crate::served_answer::serve_given;
 use crate::short_answer::bad_line;

@@ -1,11 +1,8 @@
 //! A client over streams.
 ghost use Rattle.std.specs.Prelude.{◌≡◌, ◌≢◌, ◌⊎◌, [], take, MatchResult, IfOk, IfErr, OnOk, OnErr};
-ghost use Rattle.std.specs.Io.{ReadsAtMost, WritesAtMost};
-ghost use Rattle.std.specs.Io.KnownBytes.{Appends, Keeps, ReadConsumes, WriteAppends};
-ghost use Rattle.std.specs.Io.Buffered.{writer_buffer, writer_contents};
-ghost use Rattle.std.specs.IoError.{error_kind};
-ghost use Rattle.xa_lines.specs.Transcript.{AppendsPrefix};
-ghost use Rattle.xa_lines.specs.Trying.{IsTry, HasTried, StopsTrying};
+ghost use Rattle.std.specs.Io.{ReadsAtMost, WritesAtMost, KnownBytes.{Appends, Keeps, ReadConsumes, WriteAppends}};
+ghost use Rattle.std.specs.{Io.Buffered.{writer_buffer, writer_contents}, IoError.error_kind};
+ghost use Rattle.xa_lines.specs.{Transcript.AppendsPrefix, Trying.{IsTry, HasTried, StopsTrying}};
 
 use crate::{Client, LineServer, PieceReader, PieceWriter};
 use std::io;

@@ -1,42 +1,26 @@
 -- Which statements calls add in the stores.
 use Rattle.std.proofs.Common.{◌≡◌, ◌⊎◌, ℕ, Bool, true, false, List, [], ◌∷◌, ◌++◌, map, refl, ap, sym, ◌∙◌, subst, inl}
-use Rattle.std.proofs.Common.{inr, append-nil, append_assoc, Result, Ok, Err}
-use Rattle.std.specs.Prelude.{slice_get, Option, All, Contains}
-use Rattle.std.proofs.lemmas.List.{map-append}
+use Rattle.std.proofs.{Common.{inr, append-nil, append_assoc, Result, Ok, Err}, lemmas.List.map-append}
 use Rattle.std.proofs.lemmas.List.Elements.{All-nil, All-cons, All-append, All-head, All-tail, All-contains}
 use Rattle.std.proofs.lemmas.List.Elements.{Contains-append_left, Contains-append_cases}
+use Rattle.std.specs.Prelude.{slice_get, Option, All, Contains}
 use Rattle.xa_words.specs.Entry.{Entry}
-use Rattle.xa_xid.specs.declared.xid.Xid.{Xid}
-use Rattle.xa_xid.specs.declared.statement.Statement.{Statement}
+use Rattle.xa_xid.specs.declared.{xid.Xid.Xid, statement.Statement.Statement}
 use Rattle.xa_xid.specs.declared.statement.Statement.TheVariants.{Start, End, Prepare, Commit, Rollback, Disconnect}
-use Rattle.xa_server.specs.Step.{enters}
-use Rattle.xa_server.specs.declared.reply.Reply.{Reply}
-use Rattle.xa_session.specs.Answer.{entry_of}
-use Rattle.xa_session.specs.Replay.{state_at}
-use Rattle.xa_session.specs.View.{SessionView}
-use Rattle.xa_coordinator.specs.Agreement.{AddsStatements}
-use Rattle.xa_coordinator.specs.Branch.{IsBranchOf}
-use Rattle.xa_coordinator.specs.Decisions.{is_decided}
-use Rattle.xa_coordinator.specs.Outcomes.{branch_of, finish_statement, ends_in, lists_store, IsClosed, Settles}
-use Rattle.xa_coordinator.specs.Outcomes.{SettlesIn, IsVoted, IsEnded, EndsAs, VotesAs}
-use Rattle.xa_coordinator.specs.Participants.{takes_part}
-use Rattle.xa_coordinator.specs.Recovery.{IsDisconnected, SettlesOne, foreign, committed, rolled_back, missing, Settled}
-use Rattle.xa_coordinator.specs.Recovery.{nothing, one_more, IsRecovered}
-use Rattle.xa_coordinator.specs.Stores.{AtStore, EachStore, ChangesAt}
+use Rattle.xa_server.specs.{Step.enters, declared.reply.Reply.Reply}
+use Rattle.xa_session.specs.{Answer.entry_of, Replay.state_at, View.SessionView}
+use Rattle.xa_coordinator.specs.{Agreement.AddsStatements, Branch.IsBranchOf, Decisions.is_decided, Outcomes.branch_of}
+use Rattle.xa_coordinator.specs.Outcomes.{finish_statement, ends_in, lists_store, IsClosed, Settles, SettlesIn, IsVoted}
+use Rattle.xa_coordinator.specs.{Outcomes.{IsEnded, EndsAs, VotesAs}, Participants.takes_part, Recovery.IsDisconnected}
+use Rattle.xa_coordinator.specs.Recovery.{SettlesOne, foreign, committed, rolled_back, missing, Settled, nothing}
+use Rattle.xa_coordinator.specs.{Recovery.{one_more, IsRecovered}, Stores.{AtStore, EachStore, ChangesAt}}
 use Rattle.xa_coordinator.specs.Told.{IsUndone, IsUndoneBehind, IsStopped, IsMissing, IsUnfinished}
 use Rattle.xa_coordinator.specs.Work.{MayBe, MayStart, was_open, was_started, IsReplied, IsWorked, IsCut, WorksAs}
-use Rattle.xa_coordinator.specs.declared.branches.OpenBranch.{OpenBranch}
-use Rattle.xa_coordinator.specs.declared.closing.Closing.{Closing}
-use Rattle.xa_coordinator.specs.declared.decisions.Decision.{Decision}
-use Rattle.xa_coordinator.specs.declared.ending.Ending.{Ending}
+use Rattle.xa_coordinator.specs.declared.{branches.OpenBranch.OpenBranch, closing.Closing.Closing}
+use Rattle.xa_coordinator.specs.declared.{decisions.Decision.Decision, ending.Ending.Ending, fault.Cause.Cause}
 use Rattle.xa_coordinator.specs.declared.ending.Ending.TheVariants.{Committed, RolledBack, Hazard, Unfinished}
-use Rattle.xa_coordinator.specs.declared.fault.Cause.{Cause}
-use Rattle.xa_coordinator.specs.declared.fault.WorkFault.{WorkFault}
-use Rattle.xa_coordinator.specs.declared.fault.WorkFault.TheVariants.{Session, Refused, Lost}
-use Rattle.xa_coordinator.specs.declared.report.Tally.{Tally}
-use Rattle.xa_coordinator.specs.declared.transaction.Transaction.{Transaction}
-use Rattle.xa_coordinator.specs.declared.vote.Vote.{Vote}
-use Rattle.xa_coordinator.specs.declared.vote.Vote.TheVariants.{Ready, OnePhase, No, Nothing}
+use Rattle.xa_coordinator.specs.declared.fault.WorkFault.{WorkFault, TheVariants.{Session, Refused, Lost}}
+use Rattle.xa_coordinator.specs.declared.{report.Tally.Tally, transaction.Transaction.Transaction, vote.Vote.Vote}
 use Rattle.xa_coordinator.proofs.Walk.{at_weaker, at_same, from_ends, only_at}
 
 -- a session added statements of this kind alone
@@ -304,23 +288,23 @@ module _ {S : Type 0} (view : S → SessionView) (kind : ℕ → Statement → T
       → ((store : ℕ) → kind store (End (branch_of transaction store)))
       → ((store : ℕ) → kind store (Prepare (branch_of transaction store))) → VotesAs view transaction vote old new
       → EachStore view (λ store. AddsOnly (kind store)) old new
-  vote_adds transaction (Ready prepared) old new ends prepares is store =
+  vote_adds transaction (Vote.Ready prepared) old new ends prepares is store =
       at_weaker view store _ (AddsOnly (kind store))
       (λ a b. voted (kind store) (branch_of transaction store) (takes_part transaction.participants store) a b
       (ends store) (prepares store)) old new
       (is.2 store)
-  vote_adds transaction (OnePhase prepared) old new ends prepares is store =
+  vote_adds transaction (Vote.OnePhase prepared) old new ends prepares is store =
       at_weaker view store _ (AddsOnly (kind store))
       (λ a b. ended (kind store) (branch_of transaction store) (takes_part transaction.participants store) a b
       (ends store)) old new (is.2 store)
-  vote_adds transaction (No prepared last cause) old new ends prepares is store =
+  vote_adds transaction (Vote.No prepared last cause) old new ends prepares is store =
       from_ends view _ (λ other. AddsOnly (kind other)) last _ old new is.2
       (λ other a b. voted (kind other) (branch_of transaction other) (takes_part transaction.participants other) a b
       (ends other) (prepares other))
       (λ a b left. stopped (kind last) true (Prepare (branch_of transaction last))
       (branch_of transaction last) cause a b (ends last) left)
       (λ other a. adds_none (kind other) a) store
-  vote_adds transaction Nothing old new ends prepares is store =
+  vote_adds transaction Vote.Nothing old new ends prepares is store =
       at_same view store (AddsOnly (kind store)) (λ a. adds_none (kind store) a) old new
       (ap (λ list. slice_get list store) is.1)
 

@@ -1,30 +1,17 @@
 -- A manager whose sessions hold the other clients' beside them: its calls leave those alone, but for AT and SHOW.
-use Rattle.std.proofs.Common.{◌≡◌, ◌∙◌, ◌+◌, ℕ, suc, List, [], ◌∷◌, ◌++◌, length, map, refl, ap, sym}
-use Rattle.std.proofs.Common.{subst, Result, Ok, Err, inl, inr, ⊎_elim, arith}
-use Rattle.std.specs.Prelude.{true, IfOk}
-use Rattle.xa_xid.specs.declared.statement.Statement.{Statement}
-use Rattle.xa_xid.specs.declared.statement.Statement.TheVariants.{Recover as RecoverStatement}
+use Rattle.std.proofs.Common.{◌≡◌, ◌∙◌, ◌+◌, ℕ, suc, List, [], ◌∷◌, ◌++◌, length, map, refl, ap, sym, subst, Result, Ok}
+use Rattle.std.{proofs.Common.{Err, inl, inr, ⊎_elim, arith}, specs.Prelude.{true, IfOk}}
+use Rattle.xa_xid.specs.declared.statement.Statement.{Statement, TheVariants.Recover as RecoverStatement}
 use Rattle.xa_server.specs.declared.reply.Reply.{Reply}
-use Rattle.xa_session.specs.View.{SessionView, StaysOfLog}
-use Rattle.xa_session.specs.declared.answer.Answer.{Answer}
-use Rattle.xa_session.specs.declared.fault.Fault.{Fault}
-use Rattle.xa_coordinator.specs.Beside.{IsLeftAlone, HoldsAsBefore, IsAnsweredSo}
-use Rattle.xa_coordinator.specs.Fusing.{limited}
-use Rattle.xa_coordinator.specs.Stores.{AtStore, EachStore, ChangesAt}
-use Rattle.xa_coordinator.specs.declared.decisions.Decision.{Decision}
+use Rattle.xa_session.specs.{View.{SessionView, StaysOfLog}, declared.{answer.Answer.Answer, fault.Fault.Fault}}
+use Rattle.xa_coordinator.specs.{Beside.{IsLeftAlone, HoldsAsBefore, IsAnsweredSo}, Fusing.limited}
+use Rattle.xa_coordinator.specs.{Stores.{AtStore, EachStore, ChangesAt}, declared.decisions.Decision.Decision}
 use Rattle.xa_coordinator.specs.declared.fused.Fused.{Fused}
 use Rattle.xa_coordinator.proofs.Walk.{Reached, reached_next, reached_weaker, at_then, at_same, only_at}
-use Rattle.xa_manager.specs.declared.call.Call.{Call}
-use Rattle.xa_manager.specs.declared.call.Call.TheVariants.{Silent, Unread, Begin, Work, Prepare, Decide, Finish}
-use Rattle.xa_manager.specs.declared.call.Call.TheVariants.{Abandon, Fail, Stop, Recover, At, Show}
-use Rattle.xa_manager.specs.declared.response.Response.{Response}
-use Rattle.xa_manager.specs.declared.stage.Stage.{Stage}
-use Rattle.xa_manager.specs.Beside.{within, others_of, LeavesAlone, CarriesBeside, PerformsBeside}
-use Rattle.xa_manager.specs.Carried.{WholeManager, SpeaksAlone, Carries}
-use Rattle.xa_manager.specs.Said.{IsGiven, IsListed, reply_of}
-use Rattle.xa_manager.specs.Whole.{Performs}
-use Rattle.xa_manager.proofs.Passes.{map_within}
-use Rattle.xa_manager.proofs.Said.{get_before, get_last}
+use Rattle.xa_manager.specs.declared.{call.Call.Call, response.Response.Response, stage.Stage.Stage}
+use Rattle.xa_manager.specs.{Beside.{within, others_of, LeavesAlone, CarriesBeside, PerformsBeside}, Whole.Performs}
+use Rattle.xa_manager.specs.{Carried.{WholeManager, SpeaksAlone, Carries}, Said.{IsGiven, IsListed, reply_of}}
+use Rattle.xa_manager.proofs.{Passes.map_within, Said.{get_before, get_last}}
 
 -- `view` sees the coordinator's session of a value, `other` the other client's in it; using the first leaves the
 -- second as it was (`steady`)
@@ -75,29 +62,29 @@ module _ {S : Type 0} (view other : S → SessionView) (steady : (old new : S) �
     -- a call other than AT and SHOW that was carried out left the other clients' sessions, held by the coordinator's,
     -- as they were
     carried_beside : (call : Call) (response : Response) → ((store : ℕ) (statement : Statement)
-        → call ≡ At store statement → ⊥) → (call ≡ Show → ⊥)
+        → call ≡ Call.At store statement → ⊥) → (call ≡ Call.Show → ⊥)
         → Carries (limited view) nobody old call response new → CarriesBeside view other nobody old call response new
-    carried_beside Silent response not_at not_show is = (is, unchanged_others old is.1 refl)
-    carried_beside (Unread place) response not_at not_show is = absurd is
-    carried_beside Begin response not_at not_show is =
+    carried_beside Call.Silent response not_at not_show is = (is, unchanged_others old is.1 refl)
+    carried_beside (Call.Unread place) response not_at not_show is = absurd is
+    carried_beside Call.Begin response not_at not_show is =
         (is, ⊎_elim (λ begun. unchanged_others _ begun.stands refl) (λ spent. unchanged_others _ spent.stands refl) is)
-    carried_beside (Work number store statement) response not_at not_show is = (is, spoken _ _ is.alone)
-    carried_beside (Prepare number) response not_at not_show is = (is, spoken _ _ is.alone)
-    carried_beside (Decide number) response not_at not_show is =
+    carried_beside (Call.Work number store statement) response not_at not_show is = (is, spoken _ _ is.alone)
+    carried_beside (Call.Prepare number) response not_at not_show is = (is, spoken _ _ is.alone)
+    carried_beside (Call.Decide number) response not_at not_show is =
         (is, ⊎_elim (λ done. unchanged_others _ done.2 refl) (λ closed. unchanged_others _ closed.2 refl) is.outcome)
-    carried_beside (Finish number) response not_at not_show is = (is, spoken _ _ is.ends.alone)
-    carried_beside (Abandon number) response not_at not_show is = (is, spoken _ _ is.ends.alone)
-    carried_beside (Fail store calls) response not_at not_show is =
+    carried_beside (Call.Finish number) response not_at not_show is = (is, spoken _ _ is.ends.alone)
+    carried_beside (Call.Abandon number) response not_at not_show is = (is, spoken _ _ is.ends.alone)
+    carried_beside (Call.Fail store calls) response not_at not_show is =
         (is, others_within old.sessions new.sessions is.limited.within)
-    carried_beside Stop response not_at not_show is = (is, others_within old.sessions new.sessions is.within)
-    carried_beside Recover response not_at not_show is = (is, spoken _ _ is.alone)
-    carried_beside (At store statement) response not_at not_show is = absurd (not_at store statement refl)
-    carried_beside Show response not_at not_show is = absurd (not_show refl)
+    carried_beside Call.Stop response not_at not_show is = (is, others_within old.sessions new.sessions is.within)
+    carried_beside Call.Recover response not_at not_show is = (is, spoken _ _ is.alone)
+    carried_beside (Call.At store statement) response not_at not_show is = absurd (not_at store statement refl)
+    carried_beside Call.Show response not_at not_show is = absurd (not_show refl)
 
     -- a call other than AT and SHOW that was refused or carried out was so also where the coordinator's sessions hold
     -- the other clients'
     pub performed_beside : (call : Call) (response : Response)
-        → ((store : ℕ) (statement : Statement) → call ≡ At store statement → ⊥) → (call ≡ Show → ⊥)
+        → ((store : ℕ) (statement : Statement) → call ≡ Call.At store statement → ⊥) → (call ≡ Call.Show → ⊥)
         → Performs view nobody old call response new → PerformsBeside view other nobody old call response new
     performed_beside call response not_at not_show performs =
         ⊎_elim (λ refused. inl refused) (λ carries. inr (carried_beside call response not_at not_show carries)) performs

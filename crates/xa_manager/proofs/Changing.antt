@@ -1,22 +1,15 @@
 -- What changes committed values.
-use Rattle.std.proofs.Common.{◌≡◌, ◌⊎◌, ℕ, refl, ap, ◌∙◌, inl, inr, Some, None}
-use Rattle.std.specs.Prelude.{slice_get, Option}
+use Rattle.std.{proofs.Common.{◌≡◌, ◌⊎◌, ℕ, refl, ap, ◌∙◌, inl, inr, Some, None}, specs.Prelude.{slice_get, Option}}
 use Rattle.std.specs.Option.{option_map_or}
-use Rattle.std.specs.FinMap as map
 use Rattle.xa_words.specs.Entry.{Entry}
-use Rattle.xa_xid.specs.declared.xid.Xid.{Xid}
-use Rattle.xa_xid.specs.declared.statement.Statement.{Statement}
-use Rattle.xa_xid.specs.declared.statement.Statement.TheVariants.{Start, End, Prepare, Commit, Rollback, Recover}
-use Rattle.xa_xid.specs.declared.statement.Statement.TheVariants.{Unsupported, Get, Put, Del, Disconnect}
-use Rattle.xa_server.specs.State.{Branch, State, association_of}
-use Rattle.xa_server.specs.Step.{after, effect, with_branch, with_changed}
-use Rattle.xa_server.specs.declared.association.Association.{Association}
-use Rattle.xa_server.specs.declared.association.Association.TheVariants.{Free, Active, Idle}
-use Rattle.xa_server.proofs.Changes.{outcome}
+use Rattle.xa_xid.specs.declared.{xid.Xid.Xid, statement.Statement.Statement}
+use Rattle.xa_server.specs.{State.{Branch, State, association_of}, Step.{after, effect, with_branch, with_changed}}
+use Rattle.xa_server.{specs.declared.association.Association.Association, proofs.Changes.outcome}
 use Rattle.xa_session.proofs.Replaying.{state_at-next}
 use Rattle.xa_coordinator.specs.Lasting.{history_of}
 use Rattle.xa_manager.specs.declared.counted_store.CountedStore.{CountedStore}
 use Rattle.xa_manager.specs.Atomic.{ChangesRows, KeepsRowsOr, state_before}
+use Rattle.std.specs.FinMap as map
 
 -- changing a branch changes no row
 changed_rows : (state : State) (xid : Xid) (change : Branch → Branch)
@@ -32,25 +25,25 @@ changed_rows state xid change = by (map.get state.branches xid)
 effect_rows : (state : State) (session : ℕ) (association : Association) (statement : Statement)
     → ((effect state session association statement).rows ≡ state.rows) ⊎ ChangesRows association statement
 unfolding effect
-effect_rows state session association (Start xid) = inl refl
-effect_rows state session association (End xid) = inl (changed_rows state xid _)
-effect_rows state session association (Prepare xid) = inl (changed_rows state xid _)
-effect_rows state session association (Commit xid one_phase) = inr tt
-effect_rows state session association (Rollback xid) = inl refl
-effect_rows state session association (Recover convert) = inl refl
-effect_rows state session association Unsupported = inl refl
-effect_rows state session Free (Get key) = inl refl
-effect_rows state session (Active own) (Get key) = inl (changed_rows state own _)
-effect_rows state session (Idle own) (Get key) = inl refl
-effect_rows state session Free (Put key value) = inr refl
-effect_rows state session (Active own) (Put key value) = inl (changed_rows state own _)
-effect_rows state session (Idle own) (Put key value) = inl refl
-effect_rows state session Free (Del key) = inr refl
-effect_rows state session (Active own) (Del key) = inl (changed_rows state own _)
-effect_rows state session (Idle own) (Del key) = inl refl
-effect_rows state session Free Disconnect = inl refl
-effect_rows state session (Active own) Disconnect = inl refl
-effect_rows state session (Idle own) Disconnect = inl refl
+effect_rows state session association (Statement.Start xid) = inl refl
+effect_rows state session association (Statement.End xid) = inl (changed_rows state xid _)
+effect_rows state session association (Statement.Prepare xid) = inl (changed_rows state xid _)
+effect_rows state session association (Statement.Commit xid one_phase) = inr tt
+effect_rows state session association (Statement.Rollback xid) = inl refl
+effect_rows state session association (Statement.Recover convert) = inl refl
+effect_rows state session association Statement.Unsupported = inl refl
+effect_rows state session Association.Free (Statement.Get key) = inl refl
+effect_rows state session (Association.Active own) (Statement.Get key) = inl (changed_rows state own _)
+effect_rows state session (Association.Idle own) (Statement.Get key) = inl refl
+effect_rows state session Association.Free (Statement.Put key value) = inr refl
+effect_rows state session (Association.Active own) (Statement.Put key value) = inl (changed_rows state own _)
+effect_rows state session (Association.Idle own) (Statement.Put key value) = inl refl
+effect_rows state session Association.Free (Statement.Del key) = inr refl
+effect_rows state session (Association.Active own) (Statement.Del key) = inl (changed_rows state own _)
+effect_rows state session (Association.Idle own) (Statement.Del key) = inl refl
+effect_rows state session Association.Free Statement.Disconnect = inl refl
+effect_rows state session (Association.Active own) Statement.Disconnect = inl refl
+effect_rows state session (Association.Idle own) Statement.Disconnect = inl refl
 
 -- a statement changes committed values only if it is of a kind that does; a refused one changes nothing
 after_rows : (state : State) (session : ℕ) (statement : Statement)

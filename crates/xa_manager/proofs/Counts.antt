@@ -1,14 +1,9 @@
 -- The calls that lines make, the stops in them, and the limits at a stop.
-use Rattle.std.proofs.Common.{◌≡◌, ◌<◌, ◌≤◌, ◌+◌, ◌-◌, ◌∙◌, ℕ, zero, suc, min, max, List, [], ◌∷◌, ◌++◌, Some}
-use Rattle.std.proofs.Common.{length, drop, get_or, map, All}
-use Rattle.std.proofs.Common.{refl, ap, sym, subst, arith, add-one}
-use Rattle.std.specs.Prelude.{if◌then◌else◌}
-use Rattle.std.specs.Prelude.{slice_get, sum, true, false, Bool}
-use Rattle.std.proofs.lemmas.Grind.{common_steps}
-use Rattle.std.proofs.lemmas.List.{drop_more, drop_all}
-use Rattle.std.proofs.lemmas.List.Elements.{All-push, All-append}
-use Rattle.xa_manager.specs.declared.call.Call.{Call}
-use Rattle.xa_manager.specs.declared.stop.Stop.{Stop}
+use Rattle.std.proofs.Common.{◌≡◌, ◌<◌, ◌≤◌, ◌+◌, ◌-◌, ◌∙◌, ℕ, zero, suc, min, max, List, [], ◌∷◌, ◌++◌, Some, length}
+use Rattle.std.proofs.{Common.{drop, get_or, map, All, refl, ap, sym, subst, arith, add-one}, lemmas.Grind.common_steps}
+use Rattle.std.proofs.lemmas.List.{drop_more, drop_all, Elements.{All-push, All-append}}
+use Rattle.std.specs.Prelude.{if◌then◌else◌, slice_get, sum, true, false, Bool}
+use Rattle.xa_manager.specs.declared.{call.Call.Call, stop.Stop.Stop}
 use Rattle.xa_manager.specs.Stops.{differences, is_own, stops_below, stop_count, stops_at, stops_from, limits_for}
 
 -- what holds of each item by its place, counted from a number, and of one more at the place after them, holds of all

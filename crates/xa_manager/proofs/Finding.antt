@@ -1,30 +1,23 @@
 -- How a prepared branch of a history is ended, what an XA PREPARE leaves, and what a commit does to the rows.
 use Rattle.std.proofs.Common.{◌≡◌, ◌⊎◌, ◌≤◌, ℕ, zero, suc, Bool, true, false, cond, List, [], ◌∷◌, length, refl, ap}
 use Rattle.std.proofs.Common.{sym, ◌∙◌, subst, inl, inr, Some, None, arith}
-use Rattle.std.specs.Prelude.{slice_get, Option, not, ◌&&◌}
-use Rattle.std.specs.Option.{option_map, option_map_or}
-use Rattle.std.specs.FinMap as map
+use Rattle.std.specs.{Prelude.{slice_get, Option, not, ◌&&◌}, Option.{option_map, option_map_or}}
 use mathlib.Core.Bool.{true≢false}
-use Rattle.xa_xid.specs.Xid.{same_xid}
-use Rattle.xa_xid.specs.declared.xid.Xid.{Xid}
-use Rattle.xa_xid.specs.declared.statement.Statement.{Statement}
-use Rattle.xa_xid.specs.declared.statement.Statement.TheVariants.{Start, End, Prepare, Commit, Rollback, Recover}
-use Rattle.xa_xid.specs.declared.statement.Statement.TheVariants.{Unsupported, Get, Put, Del, Disconnect}
+use Rattle.xa_xid.specs.{Xid.same_xid, declared.{xid.Xid.Xid, statement.Statement.{Statement, TheVariants.Start}}}
+use Rattle.xa_xid.specs.declared.statement.Statement.TheVariants.{End, Prepare, Commit, Rollback, Recover, Unsupported}
+use Rattle.xa_xid.specs.declared.statement.Statement.TheVariants.{Get, Put, Del, Disconnect}
 use Rattle.xa_xid.proofs.Orders.{xids_total, exact_xids}
 use Rattle.xa_words.specs.Entry.{Entry}
 use Rattle.xa_server.specs.State.{Branch, State, IsOpen, association_of, is_prepared, is_prepared_phase, is_known}
-use Rattle.xa_server.specs.State.{phase_at}
-use Rattle.xa_server.specs.Replies.{table, reply_to}
-use Rattle.xa_server.specs.Step.{enters, may_enter, is_refused, after, effect, committed, with_writes, with_lock}
-use Rattle.xa_server.specs.Step.{with_own_write, started_by}
-use Rattle.xa_server.specs.declared.association.Association.{Association}
-use Rattle.xa_server.specs.declared.association.Association.TheVariants.{Free, Active, Idle}
-use Rattle.xa_server.specs.declared.branch.Phase.{Phase}
-use Rattle.xa_server.specs.declared.branch.Phase.TheVariants.{Active as PhaseActive, Idle as PhaseIdle}
+use Rattle.xa_server.specs.{State.phase_at, Replies.{table, reply_to}, Step.{enters, may_enter, is_refused, after}}
+use Rattle.xa_server.specs.Step.{effect, committed, with_writes, with_lock, with_own_write, started_by}
+use Rattle.xa_server.specs.declared.association.Association.{Association, TheVariants.{Free, Active, Idle}}
+use Rattle.xa_server.specs.declared.branch.Phase.{Phase, TheVariants.{Active as PhaseActive, Idle as PhaseIdle}}
 use Rattle.xa_server.proofs.Accepted.{open_association, own_is, accepted_start, accepted_end, known_prepared}
 use Rattle.xa_server.proofs.Changes.{idle, detached, branch_after, effect-branch, accepted_done, outcome}
 use Rattle.xa_server.proofs.Maps.{same_or_apart, same_itself}
 use Rattle.xa_session.specs.Replay.{state_after, state_at}
+use Rattle.std.specs.FinMap as map
 
 -- whether the branch is there and PREPARED
 abbrev ready : Option Branch → Bool

@@ -1,28 +1,16 @@
 -- What holds of a manager before any recovery: what the coordinator added goes with how far each transaction has come.
 use Rattle.std.proofs.Common.{◌≡◌, ◌⊎◌, ◌<◌, ◌^◌, ℕ, true, false, List, length, ap, sym, ◌∙◌, subst, inl, inr, Some}
-use Rattle.std.proofs.Common.{None, arith}
+use Rattle.std.proofs.{Common.{None, arith}, lemmas.Option.{slice_get-get_or, slice_get_within}}
 use Rattle.std.specs.Prelude.{slice_get, Option, codes}
-use Rattle.std.proofs.lemmas.Option.{slice_get-get_or, slice_get_within}
-use Rattle.xa_xid.specs.declared.statement.Statement.{Statement}
-use Rattle.xa_xid.specs.declared.statement.Statement.TheVariants.{Start, End, Prepare, Commit, Rollback, Recover}
-use Rattle.xa_xid.specs.declared.statement.Statement.TheVariants.{Unsupported, Get, Put, Del, Disconnect}
+use Rattle.xa_xid.specs.declared.statement.Statement.{Statement, TheVariants.{Start, End, Prepare, Commit, Rollback}}
+use Rattle.xa_xid.specs.declared.statement.Statement.TheVariants.{Recover, Unsupported, Get, Put, Del, Disconnect}
 use Rattle.xa_session.specs.Answer.{entry_of}
-use Rattle.xa_coordinator.specs.Branch.{IsBranchOf}
-use Rattle.xa_coordinator.specs.Decisions.{is_decided}
-use Rattle.xa_coordinator.specs.Participants.{takes_part, OnlyTakesPart}
-use Rattle.xa_coordinator.specs.Stores.{EachStore}
-use Rattle.xa_coordinator.specs.Fusing.{limited}
-use Rattle.xa_coordinator.specs.declared.fused.Fused.{Fused}
-use Rattle.xa_coordinator.specs.declared.transaction.Prepared.{Prepared}
-use Rattle.xa_coordinator.specs.declared.transaction.VoteKind.TheVariants.{OnePhase as VoteKindOnePhase}
-use Rattle.xa_manager.specs.Ledger.{stage_of, IsTransactionOf}
-use Rattle.xa_manager.specs.declared.stage.Stage.{Stage}
-use Rattle.xa_manager.specs.declared.stage.Stage.TheVariants.{Working, Ready, Voted, Over}
-use Rattle.xa_manager.proofs.Stages.{Kept, AllReady}
-use Rattle.xa_manager.specs.declared.counted_store.CountedStore.{CountedStore}
-use Rattle.xa_manager.specs.Counted.{own_of}
-use Rattle.xa_manager.specs.Runs.{Managing}
-use Rattle.xa_manager.specs.Atomic.{branch_in, HasAdded, IsAlone}
+use Rattle.xa_coordinator.specs.{Branch.IsBranchOf, Decisions.is_decided, Participants.{takes_part, OnlyTakesPart}}
+use Rattle.xa_coordinator.specs.{Stores.EachStore, Fusing.limited, declared.fused.Fused.Fused}
+use Rattle.xa_coordinator.specs.declared.transaction.{Prepared.Prepared, VoteKind.VoteKind}
+use Rattle.xa_manager.specs.{Ledger.{stage_of, IsTransactionOf}, declared.stage.Stage.Stage}
+use Rattle.xa_manager.specs.{declared.counted_store.CountedStore.CountedStore, Counted.own_of, Runs.Managing}
+use Rattle.xa_manager.{specs.Atomic.{branch_in, HasAdded, IsAlone}, proofs.Stages.{Kept, AllReady}}
 use Rattle.xa_manager.proofs.Added.{AddsOnly, adds_none, added_or_there, stays_there}
 
 -- a counted store's session, with another client's beside it, that may be made to fail
@@ -34,23 +22,23 @@ Session = Fused CountedStore
 -- the stage that a decided transaction may have: its vote was Ready, or it is over
 abbrev pub MayStandDecided : Option Stage → Type 0
 MayStandDecided None = ⊥
-MayStandDecided (Some (Working transaction)) = ⊥
-MayStandDecided (Some (Ready prepared)) = Unit {0}
-MayStandDecided (Some (Voted prepared)) = ⊥
-MayStandDecided (Some Over) = Unit {0}
+MayStandDecided (Some (Stage.Working transaction)) = ⊥
+MayStandDecided (Some (Stage.Ready prepared)) = Unit {0}
+MayStandDecided (Some (Stage.Voted prepared)) = ⊥
+MayStandDecided (Some Stage.Over) = Unit {0}
 
 -- the transaction was begun, and the store takes part in it, unless it is over and so not kept
 abbrev pub TookPart : ℕ → Option Stage → Type 0
 TookPart store None = ⊥
-TookPart store (Some (Working transaction)) = takes_part transaction.participants store ≡ true
-TookPart store (Some (Ready prepared)) = takes_part prepared.transaction.participants store ≡ true
-TookPart store (Some (Voted prepared)) = takes_part prepared.transaction.participants store ≡ true
-TookPart store (Some Over) = Unit {0}
+TookPart store (Some (Stage.Working transaction)) = takes_part transaction.participants store ≡ true
+TookPart store (Some (Stage.Ready prepared)) = takes_part prepared.transaction.participants store ≡ true
+TookPart store (Some (Stage.Voted prepared)) = takes_part prepared.transaction.participants store ≡ true
+TookPart store (Some Stage.Over) = Unit {0}
 
 -- the transaction is over, and wasn't decided
 pub record IsUndecidedOver (manager : Managing) (number : ℕ) : Type 0 where
   pub undecided : is_decided manager.decisions number ≡ false
-  pub over : stage_of manager.stages number ≡ Some Over
+  pub over : stage_of manager.stages number ≡ Some Stage.Over
 
 -- what holds of a manager if the coordinator added this statement in a store: XA COMMIT is of a decided transaction's
 -- branch; with ONE PHASE it is of one that is over and undecided, of which it began no branch in another store; XA
@@ -77,15 +65,15 @@ pub record Holds (manager : Managing) : Type 0 where
   pub kept : Kept manager.stores manager.stages
   pub ready : AllReady manager.stages
   pub count : length manager.stages ≡ length manager.decisions
-  pub alone : (number : ℕ) (prepared : Prepared) → stage_of manager.stages number ≡ Some (Voted prepared)
-      → prepared.vote_kind ≡ VoteKindOnePhase
+  pub alone : (number : ℕ) (prepared : Prepared) → stage_of manager.stages number ≡ Some (Stage.Voted prepared)
+      → prepared.vote_kind ≡ VoteKind.OnePhase
       → (store : ℕ) × OnlyTakesPart prepared.transaction.participants store
   pub decided : (number : ℕ) → is_decided manager.decisions number ≡ true
       → MayStandDecided (stage_of manager.stages number)
   pub began : (number store : ℕ) (session : Session) → number < 2 ^ 64 → slice_get manager.sessions store ≡ Some session
       → HasAdded session (Start (branch_in number store)) → TookPart store (stage_of manager.stages number)
   pub prepared_ready : (number : ℕ) (prepared : Prepared) → number < 2 ^ 64
-      → stage_of manager.stages number ≡ Some (Ready prepared)
+      → stage_of manager.stages number ≡ Some (Stage.Ready prepared)
       → PreparesAll manager number
   pub prepared_decided : (number : ℕ) → number < 2 ^ 64 → is_decided manager.decisions number ≡ true
       → PreparesAll manager number
@@ -142,7 +130,7 @@ pub record GoesOn (kind : ℕ → Statement → Type 0) (old new : Managing) : T
   pub grows : Grows kind old.sessions new.sessions
   pub over : (number : ℕ) → IsUndecidedOver old number → IsUndecidedOver new number
   pub decided : (number : ℕ) → is_decided old.decisions number ≡ true → is_decided new.decisions number ≡ true
-  pub begins : (number store : ℕ) → number < 2 ^ 64 → stage_of old.stages number ≡ Some Over
+  pub begins : (number store : ℕ) → number < 2 ^ 64 → stage_of old.stages number ≡ Some Stage.Over
       → kind store (Start (branch_in number store)) → ⊥
 
 -- a branch that is the only one of its transaction stays so: no branch of what is over begins

@@ -1,58 +1,31 @@
 -- What holds of a manager through calls of which none is RECOVER.
 use Rattle.std.proofs.Common.{◌≡◌, ◌⊎◌, ◌<◌, ◌^◌, ℕ, Bool, true, false, List, [], ◌∷◌, length, map, refl, ap, sym, ◌∙◌}
-use Rattle.std.proofs.Common.{subst, inl, inr, ⊎_elim, Some, arith}
-use Rattle.std.specs.Prelude.{slice_get, Contains, codes}
-use Rattle.std.specs.Option.{option_map}
-use Rattle.std.proofs.lemmas.Bool.Decides.{eqb_tells}
-use Rattle.std.proofs.lemmas.List.{length-map}
-use Rattle.std.proofs.lemmas.List.Elements.{Contains-append_right}
+use Rattle.std.proofs.{Common.{subst, inl, inr, ⊎_elim, Some, arith}, lemmas.{Bool.Decides.eqb_tells, List.length-map}}
+use Rattle.std.{proofs.lemmas.List.Elements.Contains-append_right, specs.Prelude.{slice_get, Contains, codes}}
 use Rattle.std.proofs.lemmas.Option.{slice_get-get_or, slice_get_within, slice_get-map, same_Some}
+use Rattle.std.specs.Option.{option_map}
 use Rattle.xa_words.specs.Entry.{Entry}
-use Rattle.xa_xid.specs.declared.xid.Xid.{Xid}
-use Rattle.xa_xid.specs.declared.statement.Statement.{Statement}
-use Rattle.xa_xid.specs.declared.statement.Statement.TheVariants.{Start, End, Prepare, Commit, Rollback}
-use Rattle.xa_xid.specs.declared.statement.Statement.TheVariants.{Recover as RecoverStatement, Unsupported, Get, Put}
-use Rattle.xa_xid.specs.declared.statement.Statement.TheVariants.{Del, Disconnect}
-use Rattle.xa_session.specs.Answer.{entry_of}
-use Rattle.xa_session.specs.View.{SessionView}
-use Rattle.xa_coordinator.specs.Branch.{branch_xid, IsBranchOf}
-use Rattle.xa_coordinator.specs.Decisions.{is_decided}
+use Rattle.xa_xid.specs.declared.{xid.Xid.Xid, statement.Statement.{Statement, TheVariants.{Start, End, Prepare}}}
+use Rattle.xa_xid.specs.declared.statement.Statement.TheVariants.{Commit, Rollback, Recover as RecoverStatement}
+use Rattle.xa_xid.specs.declared.statement.Statement.TheVariants.{Unsupported, Get, Put, Del, Disconnect}
+use Rattle.xa_session.specs.{Answer.entry_of, View.SessionView}
+use Rattle.xa_coordinator.specs.{Branch.{branch_xid, IsBranchOf}, Decisions.is_decided}
 use Rattle.xa_coordinator.specs.Outcomes.{branch_of, finish_statement, finish_for, VotesAs, IsVoted}
-use Rattle.xa_coordinator.specs.Participants.{takes_part, OnlyTakesPart}
-use Rattle.xa_coordinator.specs.declared.closing.Closing.{Closing}
+use Rattle.xa_coordinator.specs.{Participants.{takes_part, OnlyTakesPart}, declared.closing.Closing.Closing}
 use Rattle.xa_coordinator.specs.declared.closing.Closing.TheVariants.{InTwoPhases, InOnePhase, RollBack}
-use Rattle.xa_coordinator.specs.declared.transaction.Prepared.{Prepared}
-use Rattle.xa_coordinator.specs.declared.transaction.Transaction.{Transaction}
-use Rattle.xa_coordinator.specs.declared.transaction.VoteKind.{VoteKind}
-use Rattle.xa_coordinator.specs.declared.transaction.VoteKind.TheVariants.{Ready as VoteKindReady}
-use Rattle.xa_coordinator.specs.declared.transaction.VoteKind.TheVariants.{OnePhase as VoteKindOnePhase}
-use Rattle.xa_coordinator.specs.declared.transaction.VoteKind.TheVariants.{No as VoteKindNo}
-use Rattle.xa_coordinator.specs.declared.vote.Vote.{Vote}
-use Rattle.xa_coordinator.specs.declared.vote.Vote.TheVariants.{Ready as VoteReady, OnePhase as VoteOnePhase}
-use Rattle.xa_coordinator.specs.declared.vote.Vote.TheVariants.{No as VoteNo, Nothing as VoteNothing}
+use Rattle.xa_coordinator.specs.declared.transaction.{Prepared.Prepared, Transaction.Transaction, VoteKind.VoteKind}
+use Rattle.xa_coordinator.specs.{declared.vote.Vote.Vote, Lasting.own_view, Fusing.limited}
 use Rattle.xa_coordinator.proofs.Listed.{number_behind_is}
-use Rattle.xa_coordinator.specs.Lasting.{own_view}
-use Rattle.xa_coordinator.specs.Fusing.{limited}
-use Rattle.xa_manager.specs.Beside.{CarriesBeside, LeavesAlone}
-use Rattle.xa_manager.specs.Calls.{takes_rows}
+use Rattle.xa_manager.specs.{Beside.{CarriesBeside, LeavesAlone}, Calls.takes_rows, declared.response.Response.Response}
 use Rattle.xa_manager.specs.Carried.{HasWorked, HasVoted, IsFinished, IsAbandoned, HasEnded, stage_after}
-use Rattle.xa_manager.specs.Ledger.{stage_of, with_stage, IsTransactionOf}
-use Rattle.xa_manager.specs.declared.call.Call.{Call}
-use Rattle.xa_manager.specs.declared.call.Call.TheVariants.{Silent, Unread, Begin, Work, Prepare as PrepareCall, Decide}
-use Rattle.xa_manager.specs.declared.call.Call.TheVariants.{Finish, Abandon, Fail, Stop, Recover, At, Show}
-use Rattle.xa_manager.specs.declared.response.Response.{Response}
-use Rattle.xa_manager.specs.declared.stage.Stage.{Stage}
-use Rattle.xa_manager.specs.declared.stage.Stage.TheVariants.{Working, Ready, Voted, Over}
-use Rattle.xa_manager.proofs.Stages.{kept_voted}
-use Rattle.xa_manager.proofs.States.{worked_kept, voted_kept, voted_ready}
-use Rattle.xa_manager.specs.declared.counted_store.CountedStore.{CountedStore}
-use Rattle.xa_manager.specs.Counted.{own_of, other_of}
-use Rattle.xa_manager.specs.Runs.{Managing, IsAnswered}
-use Rattle.xa_manager.specs.Atomic.{branch_in, HasAdded, IsPlain, IsAlone}
+use Rattle.xa_manager.specs.{Ledger.{stage_of, with_stage, IsTransactionOf}, declared.call.Call.Call}
+use Rattle.xa_manager.specs.declared.stage.Stage.{Stage, TheVariants.{Working, Ready, Voted, Over}}
+use Rattle.xa_manager.specs.{declared.counted_store.CountedStore.CountedStore, Counted.{own_of, other_of}}
+use Rattle.xa_manager.specs.{Runs.{Managing, IsAnswered}, Atomic.{branch_in, HasAdded, IsPlain, IsAlone}}
+use Rattle.xa_manager.proofs.{Stages.kept_voted, States.{worked_kept, voted_kept, voted_ready}}
 use Rattle.xa_manager.proofs.Added.{AddsOnly, adds_none, ending_adds, vote_adds, work_adds, work_keeps}
 use Rattle.xa_manager.proofs.Holding.{Session, MayStandDecided, TookPart, IsUndecidedOver, Goes, Holds, Grows}
-use Rattle.xa_manager.proofs.Holding.{grows_each}
-use Rattle.xa_manager.proofs.Holding.{grew_cases, Never, quiet}
+use Rattle.xa_manager.proofs.Holding.{grows_each, grew_cases, Never, quiet}
 use Rattle.xa_manager.proofs.Moving.{acts, begins, decides_one, stage_put}
 
 -- ---- sessions that weren't spoken to
@@ -230,30 +203,30 @@ Votes store statement = Harmless statement
 vote_alone : (before : Transaction) (vote : Vote) (old new : List Session)
     → VotesAs (limited own_of) before vote old new
     → (prepared : Prepared)
-    → stage_after vote ≡ Voted prepared → prepared.vote_kind ≡ VoteKindOnePhase
+    → stage_after vote ≡ Voted prepared → prepared.vote_kind ≡ VoteKind.OnePhase
     → (store : ℕ) × OnlyTakesPart prepared.transaction.participants store
-vote_alone before (VoteReady p) old new is prepared stage one = absurd (cc)
-vote_alone before (VoteOnePhase p) old new is prepared stage one =
+vote_alone before (Vote.Ready p) old new is prepared stage one = absurd (cc)
+vote_alone before (Vote.OnePhase p) old new is prepared stage one =
     let same : p ≡ prepared = cc in
-    let whole : prepared ≡ record { transaction = before; vote_kind = VoteKindOnePhase } = sym same ∙ is.0 in
+    let whole : prepared ≡ record { transaction = before; vote_kind = VoteKind.OnePhase } = sym same ∙ is.0 in
     subst (λ (q : Prepared). (store : ℕ) × OnlyTakesPart q.transaction.participants store) (sym whole) is.1
-vote_alone before (VoteNo p store cause) old new is prepared stage one =
+vote_alone before (Vote.No p store cause) old new is prepared stage one =
     let same : p ≡ prepared = cc in
-    let kind : p.vote_kind ≡ VoteKindNo = ap (λ (q : Prepared). q.vote_kind) is.0 in
+    let kind : p.vote_kind ≡ VoteKind.No = ap (λ (q : Prepared). q.vote_kind) is.0 in
     absurd (let e = ap (λ (q : Prepared). q.vote_kind) same in cc)
-vote_alone before VoteNothing old new is prepared stage one = absurd (cc)
+vote_alone before Vote.Nothing old new is prepared stage one = absurd (cc)
 
 -- after a vote each participant still counts as one
 vote_took : (before : Transaction) (vote : Vote) (old new : List Session) → VotesAs (limited own_of) before vote old new
     → (store : ℕ)
     → takes_part before.participants store ≡ true → TookPart store (Some (stage_after vote))
-vote_took before (VoteReady p) old new is store takes =
+vote_took before (Vote.Ready p) old new is store takes =
     ap (λ (q : Prepared). takes_part q.transaction.participants store) is.0 ∙ takes
-vote_took before (VoteOnePhase p) old new is store takes =
+vote_took before (Vote.OnePhase p) old new is store takes =
     ap (λ (q : Prepared). takes_part q.transaction.participants store) is.0 ∙ takes
-vote_took before (VoteNo p last cause) old new is store takes =
+vote_took before (Vote.No p last cause) old new is store takes =
     ap (λ (q : Prepared). takes_part q.transaction.participants store) is.0 ∙ takes
-vote_took before VoteNothing old new is store takes = tt
+vote_took before Vote.Nothing old new is store takes = tt
 
 -- a branch of which the store voted yes was prepared: its XA PREPARE is among the session's entries
 two_added : (xid : Xid) (takes : Bool) (old new : SessionView) → takes ≡ true → IsVoted xid takes old new
@@ -272,15 +245,15 @@ vote_prepares : (before : Transaction) (vote : Vote) (old new : List Session) �
     → stage_after vote ≡ Ready prepared → (store : ℕ) (session : Session) → slice_get new store ≡ Some session
     → takes_part before.participants store ≡ true
     → HasAdded session (Prepare (branch_of before store))
-vote_prepares before (VoteReady p) old new count is prepared stage store session there takes =
+vote_prepares before (Vote.Ready p) old new count is prepared stage store session there takes =
     let below : store < length old = let there = slice_get_within new store session there in
     omega (arith, there, count) in
     let was = slice_get-get_or old store session below in
     two_added (branch_of before store) (takes_part before.participants store) _ (limited own_of session) takes
     (is.2 store _ session was there)
-vote_prepares before (VoteOnePhase p) old new count is prepared stage store session there takes = absurd (cc)
-vote_prepares before (VoteNo p last cause) old new count is prepared stage store session there takes = absurd (cc)
-vote_prepares before VoteNothing old new count is prepared stage store session there takes = absurd (cc)
+vote_prepares before (Vote.OnePhase p) old new count is prepared stage store session there takes = absurd (cc)
+vote_prepares before (Vote.No p last cause) old new count is prepared stage store session there takes = absurd (cc)
+vote_prepares before Vote.Nothing old new count is prepared stage store session there takes = absurd (cc)
 
 -- a call of PREPARE keeps what holds of the manager
 pub votes : (number : ℕ) (old new : Managing) (response : Response) → HasVoted (limited own_of) number old response new
@@ -438,10 +411,10 @@ may_finish old number prepared holds voted = by (is_decided old.decisions number
         → (stage_of old.stages number ≡ Some (Ready prepared)) ⊎ (stage_of old.stages number ≡ Some (Voted prepared))
         → May old number prepared.transaction (finish_for b kind)
     by true kind decided is stage = decided
-    by false VoteKindOnePhase decided is (inl stage) = absurd (let e = holds.ready number prepared stage in cc)
-    by false VoteKindOnePhase decided is (inr stage) = (decided, holds.alone number prepared stage is)
-    by false VoteKindReady decided is stage = decided
-    by false VoteKindNo decided is stage = decided
+    by false VoteKind.OnePhase decided is (inl stage) = absurd (let e = holds.ready number prepared stage in cc)
+    by false VoteKind.OnePhase decided is (inr stage) = (decided, holds.alone number prepared stage is)
+    by false VoteKind.Ready decided is stage = decided
+    by false VoteKind.No decided is stage = decided
 
 -- a call of FINISH keeps what holds of the manager
 pub finishes : (number : ℕ) (old new : Managing) (response : Response)
@@ -484,30 +457,30 @@ abandons number old new response is holds =
 pub carried_holds : (old new : Managing) (call : Call) (response : Response) → IsPlain call
     → CarriesBeside own_of other_of own_view old call response new
     → Holds old → Holds new
-carried_holds old new Silent response plain is holds = subst Holds (sym is.0.1) holds
-carried_holds old new (Unread place) response plain is holds = absurd is.0
-carried_holds old new Begin response plain is holds =
+carried_holds old new Call.Silent response plain is holds = subst Holds (sym is.0.1) holds
+carried_holds old new (Call.Unread place) response plain is holds = absurd is.0
+carried_holds old new Call.Begin response plain is holds =
     ⊎_elim (λ begun. begins begun.transaction old new begun.named begun.stands holds)
     (λ spent. subst Holds (sym spent.stands) holds) is.0
-carried_holds old new (Work number store statement) response plain is holds =
+carried_holds old new (Call.Work number store statement) response plain is holds =
     works number store statement old new response plain is.0 holds
-carried_holds old new (PrepareCall number) response plain is holds = votes number old new response is.0 holds
-carried_holds old new (Decide number) response plain is holds =
+carried_holds old new (Call.Prepare number) response plain is holds = votes number old new response is.0 holds
+carried_holds old new (Call.Decide number) response plain is holds =
     ⊎_elim (λ done. decides_one number is.0.prepared old new is.0.ready done.2 holds)
     (λ closed. subst Holds (sym closed.2) holds) is.0.outcome
-carried_holds old new (Finish number) response plain is holds = finishes number old new response is.0 holds
-carried_holds old new (Abandon number) response plain is holds = abandons number old new response is.0 holds
-carried_holds old new (Fail store calls) response plain is holds =
+carried_holds old new (Call.Finish number) response plain is holds = finishes number old new response is.0 holds
+carried_holds old new (Call.Abandon number) response plain is holds = abandons number old new response is.0 holds
+carried_holds old new (Call.Fail store calls) response plain is holds =
     quiet old new (ap (λ (m : Managing). m.stores) is.0.stands) (ap (λ (m : Managing). m.stages) is.0.stands)
     (ap (λ (m : Managing). m.decisions) is.0.stands) (grows_within old.sessions new.sessions is.0.limited.within) holds
-carried_holds old new Stop response plain is holds =
+carried_holds old new Call.Stop response plain is holds =
     quiet old new (ap (λ (m : Managing). m.stores) is.0.stands) (ap (λ (m : Managing). m.stages) is.0.stands)
     (ap (λ (m : Managing). m.decisions) is.0.stands) (grows_within old.sessions new.sessions is.0.within) holds
-carried_holds old new Recover response plain is holds = absurd plain
-carried_holds old new (At store statement) response plain is holds =
+carried_holds old new Call.Recover response plain is holds = absurd plain
+carried_holds old new (Call.At store statement) response plain is holds =
     quiet old new (ap (λ (m : Managing). m.stores) is.stands) (ap (λ (m : Managing). m.stages) is.stands)
     (ap (λ (m : Managing). m.decisions) is.stands) (grows_alone old.sessions new.sessions is.alone) holds
-carried_holds old new Show response plain is holds =
+carried_holds old new Call.Show response plain is holds =
     quiet old new (ap (λ (m : Managing). m.stores) is.stands) (ap (λ (m : Managing). m.stages) is.stands)
     (ap (λ (m : Managing). m.decisions) is.stands) (grows_alone old.sessions new.sessions is.alone) holds
 

@@ -1,12 +1,8 @@
 -- How many calls sessions pass on while they are limited, or put into a list, one after another.
 use Rattle.std.proofs.Common.{◌≡◌, ◌<◌, ◌+◌, ℕ, zero, suc, List, [], ◌∷◌, ◌++◌, length, Some, sym, ◌∙◌, ap, subst, inl}
-use Rattle.std.proofs.Common.{inr, arith}
-use Rattle.std.specs.Prelude.{slice_get}
+use Rattle.std.{proofs.{Common.{inr, arith}, lemmas.{Bool.cases_lt, Option.slice_get-map}}, specs.Prelude.slice_get}
 use Rattle.std.specs.Option.{option_map}
-use Rattle.std.proofs.lemmas.Bool.{cases_lt}
-use Rattle.std.proofs.lemmas.Option.{slice_get-map}
-use Rattle.xa_coordinator.specs.declared.fused.Fused.{Fused}
-use Rattle.xa_coordinator.specs.Stores.{ChangesAt}
+use Rattle.xa_coordinator.specs.{declared.fused.Fused.Fused, Stores.ChangesAt}
 use Rattle.xa_manager.specs.Limits.{Passes}
 
 -- the loop over stores: one more passes on so many calls, as those below it do, and the others are as they were

@@ -1,31 +1,17 @@
 -- Calls keep what holds of a manager (`Holds`): one that moves a transaction to another stage, BEGIN, and DECIDE.
 use Rattle.std.proofs.Common.{◌≡◌, ◌≢◌, ◌⊎◌, ◌<◌, ◌+◌, ◌-◌, ◌^◌, ℕ, zero, suc, Bool, true, false, cond, List, [], ◌∷◌}
 use Rattle.std.proofs.Common.{◌++◌, length, refl, ap, sym, ◌∙◌, subst, inl, inr, Some, None, arith, length-append}
-use Rattle.std.specs.Prelude.{slice_get, slice_set, Option, ◌==◌}
-use Rattle.std.proofs.lemmas.Bool.{eqb-false, eqb-true}
-use Rattle.std.proofs.lemmas.Bool.Decides.{eqb_tells}
-use Rattle.std.proofs.lemmas.List.{length-set}
-use Rattle.std.proofs.lemmas.Option.{slice_get_within, same_Some}
-use Rattle.xa_xid.specs.declared.statement.Statement.{Statement}
-use Rattle.xa_xid.specs.declared.statement.Statement.TheVariants.{Start, Prepare}
-use Rattle.xa_coordinator.specs.Decisions.{decision_of, is_decided, decides, with_decided}
-use Rattle.xa_coordinator.specs.Participants.{OnlyTakesPart}
-use Rattle.xa_coordinator.specs.declared.decisions.Decision.{Decision}
-use Rattle.xa_coordinator.specs.declared.decisions.Decision.TheVariants.{Undecided, Decided}
-use Rattle.xa_coordinator.specs.declared.transaction.Prepared.{Prepared}
-use Rattle.xa_coordinator.specs.declared.transaction.Transaction.{Transaction}
-use Rattle.xa_coordinator.specs.declared.transaction.VoteKind.TheVariants.{Ready as VoteKindReady}
-use Rattle.xa_coordinator.specs.declared.transaction.VoteKind.TheVariants.{OnePhase as VoteKindOnePhase}
-use Rattle.xa_coordinator.proofs.Places.{get_set_same, get_set_other}
-use Rattle.xa_coordinator.proofs.DecisionsOf.{decided_kept}
-use Rattle.xa_manager.specs.Ledger.{stage_of, with_stage, transaction_in, IsTransactionOf}
-use Rattle.xa_manager.specs.declared.stage.Stage.{Stage}
-use Rattle.xa_manager.specs.declared.stage.Stage.TheVariants.{Working, Ready, Voted, Over}
-use Rattle.xa_manager.proofs.Stages.{kept_with, ready_with, kept_more, ready_more, stage_of-with, stage_of-append}
-use Rattle.xa_manager.proofs.Stages.{with_stage-length}
-use Rattle.xa_manager.proofs.States.{working_kept}
-use Rattle.xa_manager.specs.Runs.{Managing}
-use Rattle.xa_manager.specs.Atomic.{branch_in, HasAdded}
+use Rattle.std.proofs.lemmas.{Bool.{eqb-false, eqb-true, Decides.eqb_tells}, List.length-set}
+use Rattle.std.{proofs.lemmas.Option.{slice_get_within, same_Some}, specs.Prelude.{slice_get, slice_set, Option, ◌==◌}}
+use Rattle.xa_xid.specs.declared.statement.Statement.{Statement, TheVariants.{Start, Prepare}}
+use Rattle.xa_coordinator.specs.{Decisions.{decision_of, is_decided, decides, with_decided}, Participants.OnlyTakesPart}
+use Rattle.xa_coordinator.specs.declared.decisions.Decision.{Decision, TheVariants.{Undecided, Decided}}
+use Rattle.xa_coordinator.specs.declared.transaction.{Prepared.Prepared, Transaction.Transaction, VoteKind.VoteKind}
+use Rattle.xa_coordinator.proofs.{Places.{get_set_same, get_set_other}, DecisionsOf.decided_kept}
+use Rattle.xa_manager.specs.{Ledger.{stage_of, with_stage, transaction_in, IsTransactionOf}, declared.stage.Stage.Stage}
+use Rattle.xa_manager.specs.{declared.stage.Stage.TheVariants.{Working, Ready, Voted, Over}, Runs.Managing}
+use Rattle.xa_manager.{specs.Atomic.{branch_in, HasAdded}, proofs.Stages.{kept_with, ready_with, kept_more, ready_more}}
+use Rattle.xa_manager.proofs.{Stages.{stage_of-with, stage_of-append, with_stage-length}, States.working_kept}
 use Rattle.xa_manager.proofs.Holding.{Session, MayStandDecided, TookPart, Goes, PreparesAll, Holds, Grows, grows_same}
 use Rattle.xa_manager.proofs.Holding.{grew_cases, GoesOn, Never, all_go, still_prepared}
 
@@ -82,8 +68,8 @@ pub record Acts (kind : ℕ → Statement → Type 0) (number : ℕ) (was stage 
   pub grows : Grows kind old.sessions new.sessions
   pub kept : (transaction : Transaction) → transaction_in stage ≡ Some transaction
       → IsTransactionOf old.stores number transaction
-  pub ready : (prepared : Prepared) → stage ≡ Ready prepared → prepared.vote_kind ≡ VoteKindReady
-  pub alone : (prepared : Prepared) → stage ≡ Voted prepared → prepared.vote_kind ≡ VoteKindOnePhase
+  pub ready : (prepared : Prepared) → stage ≡ Ready prepared → prepared.vote_kind ≡ VoteKind.Ready
+  pub alone : (prepared : Prepared) → stage ≡ Voted prepared → prepared.vote_kind ≡ VoteKind.OnePhase
       → (store : ℕ) × OnlyTakesPart prepared.transaction.participants store
   pub decided : is_decided old.decisions number ≡ true → MayStandDecided (Some stage)
   pub took : (store : ℕ) → TookPart store (Some was) → TookPart store (Some stage)

@@ -1,10 +1,7 @@
 -- Before anything has begun.
-use Rattle.std.proofs.Common.{◌≡◌, ℕ, [], Bool, true, false, cond, refl, Option, None}
-use Rattle.xa_coordinator.specs.Decisions.{decides, decision_of, is_decided}
-use Rattle.xa_coordinator.specs.declared.decisions.Decision.{Decision}
-use Rattle.std.specs.Prelude.{◌==◌}
-use Rattle.xa_manager.specs.Ledger.{stage_of}
-use Rattle.xa_manager.specs.declared.stage.Stage.{Stage}
+use Rattle.std.{proofs.Common.{◌≡◌, ℕ, [], Bool, true, false, cond, refl, Option, None}, specs.Prelude.◌==◌}
+use Rattle.xa_coordinator.specs.{Decisions.{decides, decision_of, is_decided}, declared.decisions.Decision.Decision}
+use Rattle.xa_manager.specs.{Ledger.stage_of, declared.stage.Stage.Stage}
 
 -- before the first BEGIN no transaction has a stage
 pub none_begun : (number : ℕ) → stage_of [] number ≡ None

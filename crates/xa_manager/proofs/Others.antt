@@ -1,36 +1,21 @@
 -- What other clients add, where no call has them end a branch of the coordinator's.
 use Rattle.std.proofs.Common.{◌≡◌, ◌<◌, ℕ, Bool, true, false, List, [], ◌∷◌, length, refl, ap, sym, ◌∙◌, subst, inl}
-use Rattle.std.proofs.Common.{inr, ⊎_elim, Some, Result, Ok, Err, arith, append-nil}
-use Rattle.std.specs.Prelude.{slice_get, Contains, All}
-use Rattle.std.specs.Option.{option_map}
-use Rattle.std.proofs.lemmas.Bool.Decides.{eqb_tells}
-use Rattle.std.proofs.lemmas.List.{length-map}
-use Rattle.std.proofs.lemmas.List.Elements.{All-nil, All-cons}
+use Rattle.std.proofs.{Common.{inr, ⊎_elim, Some, Result, Ok, Err, arith, append-nil}, lemmas.Bool.Decides.eqb_tells}
+use Rattle.std.{proofs.lemmas.List.{length-map, Elements.{All-nil, All-cons}}, specs.Prelude.{slice_get, Contains, All}}
 use Rattle.std.proofs.lemmas.Option.{slice_get-get_or, slice_get_within, slice_get-map, same_Some}
+use Rattle.std.specs.Option.{option_map}
 use Rattle.decision_log.specs.declared.known.Known.{Known}
 use Rattle.xa_words.specs.Entry.{Entry}
-use Rattle.xa_xid.specs.declared.statement.Statement.{Statement}
-use Rattle.xa_xid.specs.declared.statement.Statement.TheVariants.{Recover as RecoverStatement}
-use Rattle.xa_server.specs.Step.{enters}
-use Rattle.xa_server.specs.declared.reply.Reply.{Reply}
-use Rattle.xa_session.specs.Answer.{entry_of}
-use Rattle.xa_session.specs.Replay.{state_at}
-use Rattle.xa_session.specs.View.{SessionView}
-use Rattle.xa_session.specs.declared.fault.Fault.{Fault}
+use Rattle.xa_xid.specs.declared.statement.Statement.{Statement, TheVariants.Recover as RecoverStatement}
+use Rattle.xa_server.specs.{Step.enters, declared.reply.Reply.Reply}
+use Rattle.xa_session.specs.{Answer.entry_of, Replay.state_at, View.SessionView, declared.fault.Fault.Fault}
 use Rattle.xa_session.proofs.Answering.{fails_unanswered}
 use Rattle.xa_coordinator.specs.Lasting.{own_view}
-use Rattle.xa_manager.specs.Beside.{within, others_of, CarriesBeside, HasRepliedBeside, IsShownBeside}
-use Rattle.xa_manager.specs.Said.{IsGiven}
-use Rattle.xa_manager.specs.Whole.{IsPair}
-use Rattle.xa_manager.specs.declared.call.Call.{Call}
-use Rattle.xa_manager.specs.declared.call.Call.TheVariants.{Silent, Unread, Begin, Work, Prepare, Decide, Finish}
-use Rattle.xa_manager.specs.declared.call.Call.TheVariants.{Abandon, Fail, Stop, Recover, At, Show}
-use Rattle.xa_manager.specs.declared.response.Response.{Response}
-use Rattle.xa_manager.specs.Counted.{own_of, other_of}
+use Rattle.xa_manager.specs.{Beside.{within, others_of, CarriesBeside, HasRepliedBeside, IsShownBeside}, Said.IsGiven}
+use Rattle.xa_manager.specs.{Whole.IsPair, declared.{call.Call.Call, response.Response.Response}}
+use Rattle.xa_manager.specs.{Counted.{own_of, other_of}, Atomic.{EndsNone, LeavesBranches}}
 use Rattle.xa_manager.specs.Runs.{Managing, IsAnswered, CarriesOut, none_yet, one_more, IsFresh}
-use Rattle.xa_manager.specs.Atomic.{EndsNone, LeavesBranches}
-use Rattle.xa_manager.proofs.Added.{AddsOnly, adds_none, added_or_there}
-use Rattle.xa_manager.proofs.Holding.{Session, Never}
+use Rattle.xa_manager.proofs.{Added.{AddsOnly, adds_none, added_or_there}, Holding.{Session, Never}}
 use Rattle.xa_manager.proofs.Recovering.{one_of, nothing_in, front_all, last_all}
 
 -- the other client's session added the statement
@@ -171,19 +156,20 @@ shown_leave old new response is =
 carried_leave : (old new : Managing) (call : Call) (response : Response) → LeavesBranches call
     → CarriesBeside own_of other_of own_view old call response new
     → OthersLeave old → OthersLeave new
-carried_leave old new Silent response leaves is = same_leave old new is.1
-carried_leave old new (Unread place) response leaves is = same_leave old new is.1
-carried_leave old new Begin response leaves is = same_leave old new is.1
-carried_leave old new (Work number store statement) response leaves is = same_leave old new is.1
-carried_leave old new (Prepare number) response leaves is = same_leave old new is.1
-carried_leave old new (Decide number) response leaves is = same_leave old new is.1
-carried_leave old new (Finish number) response leaves is = same_leave old new is.1
-carried_leave old new (Abandon number) response leaves is = same_leave old new is.1
-carried_leave old new (Fail store calls) response leaves is = same_leave old new is.1
-carried_leave old new Stop response leaves is = same_leave old new is.1
-carried_leave old new Recover response leaves is = same_leave old new is.1
-carried_leave old new (At store statement) response leaves is = replied_leave store statement old new response leaves is
-carried_leave old new Show response leaves is = shown_leave old new response is
+carried_leave old new Call.Silent response leaves is = same_leave old new is.1
+carried_leave old new (Call.Unread place) response leaves is = same_leave old new is.1
+carried_leave old new Call.Begin response leaves is = same_leave old new is.1
+carried_leave old new (Call.Work number store statement) response leaves is = same_leave old new is.1
+carried_leave old new (Call.Prepare number) response leaves is = same_leave old new is.1
+carried_leave old new (Call.Decide number) response leaves is = same_leave old new is.1
+carried_leave old new (Call.Finish number) response leaves is = same_leave old new is.1
+carried_leave old new (Call.Abandon number) response leaves is = same_leave old new is.1
+carried_leave old new (Call.Fail store calls) response leaves is = same_leave old new is.1
+carried_leave old new Call.Stop response leaves is = same_leave old new is.1
+carried_leave old new Call.Recover response leaves is = same_leave old new is.1
+carried_leave old new (Call.At store statement) response leaves is = replied_leave store statement old new response
+    leaves is
+carried_leave old new Call.Show response leaves is = shown_leave old new response is
 
 -- after a call that has no other client end a branch of the coordinator's, refused or carried out, they still have
 -- ended none

@@ -1,14 +1,11 @@
 -- Passes of stores, one of each, at their places, and sessions of them.
 use Rattle.std.proofs.Common.{◌≡◌, ◌∙◌, ℕ, ◌<◌, ◌+◌, Bool, List, [], ◌∷◌, ◌++◌, take, zero, suc, length, get_or, map}
-use Rattle.std.proofs.Common.{subst, sym, ap, refl, arith, None, true}
-use Rattle.std.proofs.lemmas.List.{take_more, take_all}
-use Rattle.std.proofs.lemmas.Slice.Zip.{all_zipped_more}
-use Rattle.std.specs.List.{AllZip, AllByRecursion}
+use Rattle.std.proofs.{Common.{subst, sym, ap, refl, arith, None, true}, lemmas.List.{take_more, take_all}}
+use Rattle.std.{proofs.lemmas.Slice.Zip.all_zipped_more, specs.List.{AllZip, AllByRecursion}}
 use Rattle.decision_log.specs.Known.{newcomer}
 use Rattle.xa_server.specs.State.{State, no_state}
 use Rattle.xa_session.specs.View.{SessionView}
-use Rattle.xa_store.specs.Passes.{Pass, identity_of, log_of, known_of}
-use Rattle.xa_store.specs.declared.store.Store.{Store}
+use Rattle.xa_store.specs.{Passes.{Pass, identity_of, log_of, known_of}, declared.store.Store.Store}
 use Rattle.xa_coordinator.specs.declared.fused.Fused.{Fused}
 use Rattle.xa_manager.specs.Whole.{IsPair}
 

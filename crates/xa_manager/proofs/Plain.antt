@@ -2,28 +2,20 @@
 -- every transaction whole, if no line has another client end a branch of the coordinator's.
 use Rattle.std.proofs.Common.{◌≡◌, ◌+◌, ℕ, zero, suc, Bool, true, false, List, [], ◌∷◌, ◌++◌, take, drop, map, refl}
 use Rattle.std.proofs.Common.{sym, subst, Some, None, Result, Ok, Err, append_assoc}
-use Rattle.std.specs.Prelude.{Option, All, if◌then◌else◌, bytes_eq, codes}
 use Rattle.std.proofs.lemmas.List.Elements.{All-nil, All-cons, All-append, All-take, All-drop}
-use Rattle.xa_xid.specs.declared.statement.Statement.{Statement}
+use Rattle.std.specs.Prelude.{Option, All, if◌then◌else◌, bytes_eq, codes}
+use Rattle.xa_xid.specs.{declared.statement.Statement.Statement, Bytes.unblank}
 use Rattle.xa_lines.specs.Received.{Received, Whole, TooLong, received_line}
-use Rattle.xa_xid.specs.Bytes.{unblank}
-use Rattle.xa_statement.specs.Reading.{read_of}
 use Rattle.xa_lines.specs.Script.{lines_of, is_comment_line, first_word, behind_word, number_of_word}
+use Rattle.xa_statement.specs.Reading.{read_of}
 use Rattle.xa_manager.specs.Calls.{takes_rows, lone_number, alone, numbered, work_call, at_call, with_number, work_of}
-use Rattle.xa_manager.specs.Calls.{at_of, fail_of, plain_call, call_named, filled_call, call_of}
-use Rattle.xa_manager.specs.Served.{call_said}
-use Rattle.xa_manager.specs.declared.call.Call.{Call}
-use Rattle.xa_manager.specs.declared.call.Call.TheVariants.{Silent, Unread, Begin, Work, Prepare, Decide, Finish}
-use Rattle.xa_manager.specs.declared.call.Call.TheVariants.{Abandon, Fail, Stop as StopCall, Recover, Show}
-use Rattle.xa_manager.specs.declared.response.Response.{Response}
-use Rattle.xa_manager.specs.declared.response.Response.TheVariants.{Recovered}
-use Rattle.xa_manager.specs.declared.stop.Stop.{Stop}
-use Rattle.xa_manager.specs.Runs.{IsRun}
-use Rattle.xa_manager.specs.Scripts.{taken, call_in, calls_of}
+use Rattle.xa_manager.specs.{Calls.{at_of, fail_of, plain_call, call_named, filled_call, call_of}, Served.call_said}
+use Rattle.xa_manager.specs.declared.call.Call.{Call, TheVariants.{Silent, Unread, Begin, Work, Prepare, Decide}}
+use Rattle.xa_manager.specs.declared.call.Call.TheVariants.{Finish, Abandon, Fail, Stop as StopCall, Recover, Show}
+use Rattle.xa_manager.specs.{declared.{response.Response.{Response, TheVariants.Recovered}, stop.Stop.Stop}, Runs.IsRun}
+use Rattle.xa_manager.specs.{Scripts.{taken, call_in, calls_of}, Atomic.{IsPlain, LeavesBranches, LeavesWhole}}
 use Rattle.xa_manager.specs.Stops.{fails_from, ended_calls, cut_line, limits_for, IsLeft, IsStopText, IsShown}
-use Rattle.xa_manager.specs.Atomic.{IsPlain, LeavesBranches, LeavesWhole}
-use Rattle.xa_manager.proofs.Recovering.{keeps_to_decisions}
-use Rattle.xa_manager.proofs.Standing.{all_or_none}
+use Rattle.xa_manager.proofs.{Recovering.keeps_to_decisions, Standing.all_or_none}
 
 -- ---- the call of a line
 

@@ -1,9 +1,7 @@
 -- Printing lists one element after another.
 use Rattle.std.proofs.Common.{◌≡◌, ℕ, ◌+◌, ◌<◌, ◌⊎◌, inl, inr, Bool, true, false, cond, List, [], ◌∷◌, ◌++◌, Result}
-use Rattle.std.proofs.Common.{length, get_or, take, sym, ◌∙◌, ap}
-use Rattle.std.proofs.Common.{append_assoc, append-nil, add-zero, codes, decimal, arith}
-use Rattle.std.proofs.lemmas.List.{take_more, get_or_default}
-use Rattle.std.proofs.lemmas.List.{length-take}
+use Rattle.std.proofs.Common.{length, get_or, take, sym, ◌∙◌, ap, append_assoc, append-nil, add-zero, codes, decimal}
+use Rattle.std.proofs.{Common.arith, lemmas.List.{take_more, get_or_default, length-take}}
 use Rattle.xa_server.specs.declared.reply.Reply.{Reply}
 use Rattle.xa_session.specs.declared.fault.Fault.{Fault}
 use Rattle.xa_coordinator.specs.declared.decisions.Decision.{Decision}

@@ -1,36 +1,22 @@
 -- Calls of which none is RECOVER, and a recovery that came to its end.
 use Rattle.std.proofs.Common.{◌≡◌, ◌<◌, ◌-◌, ℕ, Bool, true, false, cond, List, [], ◌∷◌, ◌++◌, length, refl, ap, sym}
 use Rattle.std.proofs.Common.{◌∙◌, subst, inl, inr, Some, None, Ok, arith, length-append}
-use Rattle.std.specs.Prelude.{slice_get, Contains, codes, All, ◌==◌, IfOk}
-use Rattle.std.proofs.lemmas.List.{get_or_append_left}
-use Rattle.std.proofs.lemmas.List.Elements.{All-contains, Contains-push}
+use Rattle.std.proofs.lemmas.List.{get_or_append_left, Elements.{All-contains, Contains-push}}
 use Rattle.std.proofs.lemmas.Option.{slice_get_within, get_or_from_slice_get}
+use Rattle.std.specs.Prelude.{slice_get, Contains, codes, All, ◌==◌, IfOk}
 use Rattle.decision_log.specs.declared.known.Known.{Known}
 use Rattle.xa_words.specs.Entry.{Entry}
 use Rattle.xa_xid.specs.declared.statement.Statement.{Statement}
-use Rattle.xa_xid.specs.declared.statement.Statement.TheVariants.{Start, End, Prepare, Commit, Rollback}
-use Rattle.xa_xid.specs.declared.statement.Statement.TheVariants.{Recover as RecoverStatement, Unsupported, Get, Put}
-use Rattle.xa_xid.specs.declared.statement.Statement.TheVariants.{Del, Disconnect}
 use Rattle.xa_session.specs.Answer.{entry_of}
-use Rattle.xa_coordinator.specs.Branch.{IsBranchOf}
-use Rattle.xa_coordinator.specs.Decisions.{decision_of, decides, is_decided}
-use Rattle.xa_coordinator.specs.Recovery.{Recovers}
-use Rattle.xa_coordinator.specs.declared.decisions.Decision.{Decision}
-use Rattle.xa_coordinator.specs.declared.report.Report.{Report}
+use Rattle.xa_coordinator.specs.{Branch.IsBranchOf, Decisions.{decision_of, decides, is_decided}, Recovery.Recovers}
+use Rattle.xa_coordinator.specs.{declared.{decisions.Decision.Decision, report.Report.Report}, Fusing.limited}
 use Rattle.xa_coordinator.proofs.DecisionsOf.{closed_decides}
-use Rattle.xa_coordinator.specs.Fusing.{limited}
-use Rattle.xa_manager.specs.Carried.{HasRecovered}
-use Rattle.xa_manager.specs.Ledger.{stage_of}
-use Rattle.xa_manager.specs.Whole.{IsPair}
-use Rattle.xa_manager.specs.declared.call.Call.{Call}
-use Rattle.xa_manager.specs.declared.call.Call.TheVariants.{Recover}
-use Rattle.xa_manager.specs.declared.response.Response.{Response}
-use Rattle.xa_manager.specs.declared.response.Response.TheVariants.{Recovered}
-use Rattle.xa_manager.specs.declared.stage.Stage.{Stage}
-use Rattle.xa_manager.specs.Counted.{own_of, other_of}
+use Rattle.xa_manager.specs.{Carried.HasRecovered, Ledger.stage_of, Whole.IsPair, declared.call.Call.Call}
+use Rattle.xa_manager.specs.declared.{call.Call.TheVariants.Recover, response.Response.Response}
+use Rattle.xa_manager.specs.declared.{response.Response.TheVariants.Recovered, stage.Stage.Stage}
+use Rattle.xa_manager.{specs.Counted.{own_of, other_of}, proofs.Added.recovered}
 use Rattle.xa_manager.specs.Runs.{Managing, IsAnswered, CarriesOut, none_yet, one_more, IsFresh, IsRun}
 use Rattle.xa_manager.specs.Atomic.{branch_in, HasAdded, IsPlain, IsAlone, GoesWith, KeepsToDecisions}
-use Rattle.xa_manager.proofs.Added.{recovered}
 use Rattle.xa_manager.proofs.Holding.{Session, IsUndecidedOver, Goes, Holds, Grows, grows_each, grew_cases}
 use Rattle.xa_manager.proofs.Holds.{answered_holds}
 
@@ -155,11 +141,11 @@ last_call old new all answers (one_more cs rs mid so_far c r n answered) told ca
 -- what a recovery may add: XA COMMIT of a decided number's branch, not with ONE PHASE, XA ROLLBACK of an undecided
 -- one's, and any other statement but XA START
 abbrev pub Recovering : List Decision → ℕ → Statement → Type 0
-Recovering decisions store (Start xid) = ⊥
-Recovering decisions store (Commit xid false) =
+Recovering decisions store (Statement.Start xid) = ⊥
+Recovering decisions store (Statement.Commit xid false) =
     (number : ℕ) × IsBranchOf (codes "c") number store xid × (is_decided decisions number ≡ true)
-Recovering decisions store (Commit xid true) = ⊥
-Recovering decisions store (Rollback xid) =
+Recovering decisions store (Statement.Commit xid true) = ⊥
+Recovering decisions store (Statement.Rollback xid) =
     (number : ℕ) × IsBranchOf (codes "c") number store xid × (is_decided decisions number ≡ false)
 Recovering decisions store statement = Unit {0}
 
@@ -167,18 +153,18 @@ Recovering decisions store statement = Unit {0}
 recovering_goes : (decisions : List Decision) (sessions : List Session) (store : ℕ) (statement : Statement)
     → Recovering decisions store statement
     → GoesWith decisions sessions store statement
-recovering_goes decisions sessions store (Start xid) is = tt
-recovering_goes decisions sessions store (End xid) is = tt
-recovering_goes decisions sessions store (Prepare xid) is = tt
-recovering_goes decisions sessions store (Commit xid true) is = absurd is
-recovering_goes decisions sessions store (Commit xid false) is = is
-recovering_goes decisions sessions store (Rollback xid) is = is
-recovering_goes decisions sessions store (RecoverStatement convert) is = tt
-recovering_goes decisions sessions store Unsupported is = tt
-recovering_goes decisions sessions store (Get key) is = tt
-recovering_goes decisions sessions store (Put key value) is = tt
-recovering_goes decisions sessions store (Del key) is = tt
-recovering_goes decisions sessions store Disconnect is = tt
+recovering_goes decisions sessions store (Statement.Start xid) is = tt
+recovering_goes decisions sessions store (Statement.End xid) is = tt
+recovering_goes decisions sessions store (Statement.Prepare xid) is = tt
+recovering_goes decisions sessions store (Statement.Commit xid true) is = absurd is
+recovering_goes decisions sessions store (Statement.Commit xid false) is = is
+recovering_goes decisions sessions store (Statement.Rollback xid) is = is
+recovering_goes decisions sessions store (Statement.Recover convert) is = tt
+recovering_goes decisions sessions store Statement.Unsupported is = tt
+recovering_goes decisions sessions store (Statement.Get key) is = tt
+recovering_goes decisions sessions store (Statement.Put key value) is = tt
+recovering_goes decisions sessions store (Statement.Del key) is = tt
+recovering_goes decisions sessions store Statement.Disconnect is = tt
 
 -- a recovery returned a report: it recovered by the decisions, the same numbers are decided, and what it added is of
 -- its kind
@@ -222,7 +208,7 @@ module _ (mid last : Managing) (report : Report) (holds : Holds mid) (well : Has
   alone number store was other session is added =
       let grew = well.grows other session is in
       elim (grew_cases (Recovering last.decisions) other mid.sessions session
-      (Start (branch_in number other)) grew added) [
+      (Statement.Start (branch_in number other)) grew added) [
         | inl before ↦ was other grew.before grew.there before
         | inr now ↦ absurd now
       ]
@@ -234,19 +220,19 @@ module _ (mid last : Managing) (report : Report) (holds : Holds mid) (well : Has
   -- a statement that went with how far transactions had come goes with the decisions after the recovery
   goes_last : (store : ℕ) (statement : Statement) → Goes mid store statement
       → GoesWith last.decisions last.sessions store statement
-  goes_last store (Start xid) is = tt
-  goes_last store (End xid) is = tt
-  goes_last store (Prepare xid) is = tt
-  goes_last store (Commit xid false) is = (is.0, is.1, well.decisions is.0 ∙ is.2)
-  goes_last store (Commit xid true) is =
+  goes_last store (Statement.Start xid) is = tt
+  goes_last store (Statement.End xid) is = tt
+  goes_last store (Statement.Prepare xid) is = tt
+  goes_last store (Statement.Commit xid false) is = (is.0, is.1, well.decisions is.0 ∙ is.2)
+  goes_last store (Statement.Commit xid true) is =
       (is.0, is.1, record { undecided = undecided is.0 is.2; alone = alone is.0 store is.3 })
-  goes_last store (Rollback xid) is = (is.0, is.1, undecided is.0 is.2)
-  goes_last store (RecoverStatement convert) is = tt
-  goes_last store Unsupported is = tt
-  goes_last store (Get key) is = tt
-  goes_last store (Put key value) is = tt
-  goes_last store (Del key) is = tt
-  goes_last store Disconnect is = tt
+  goes_last store (Statement.Rollback xid) is = (is.0, is.1, undecided is.0 is.2)
+  goes_last store (Statement.Recover convert) is = tt
+  goes_last store Statement.Unsupported is = tt
+  goes_last store (Statement.Get key) is = tt
+  goes_last store (Statement.Put key value) is = tt
+  goes_last store (Statement.Del key) is = tt
+  goes_last store Statement.Disconnect is = tt
 
   -- all that was added, before the recovery and in it, goes with the decisions, and no branch of the coordinator's is
   -- prepared

@@ -1,26 +1,15 @@
 -- Calls that were carried out, one after another.
 use Rattle.std.proofs.Common.{◌≡◌, ◌+◌, ◌∙◌, ℕ, zero, suc, List, [], ◌∷◌, ◌++◌, ◌<◌, ◌≤◌, length, take, drop, get_or}
 use Rattle.std.proofs.Common.{map, ⊎_elim, refl, ap, sym, subst, append_assoc, append-nil, arith}
-use Rattle.std.proofs.lemmas.Grind.{common_steps}
-use Rattle.std.proofs.lemmas.Bool.{false≢true}
-use Rattle.std.proofs.lemmas.List.{take_more, drop_more, length-take-le, length_push}
-use Rattle.xa_manager.specs.declared.call.Call.{Call}
-use Rattle.xa_manager.specs.declared.call.Call.TheVariants.{Silent, Unread, Begin, Work, Prepare, Decide, Finish}
-use Rattle.xa_manager.specs.declared.call.Call.TheVariants.{Abandon, Fail, Stop, Recover, At, Show}
-use Rattle.xa_manager.specs.Beside.{CarriesBeside}
-use Rattle.xa_coordinator.specs.Lasting.{own_view}
-use Rattle.xa_manager.specs.declared.response.Response.{Response}
-use Rattle.xa_manager.specs.Runs.{Managing, IsAnswered, CarriesOut, none_yet, one_more, IsFresh, HasCarried}
-use Rattle.xa_manager.specs.Runs.{is_unanswered}
-use Rattle.std.specs.Prelude.{Result, Ok, Err, IfOk, false}
-use Rattle.std.specs.List.{All}
-use Rattle.xa_server.specs.State.{State}
-use Rattle.xa_coordinator.specs.declared.fused.Fused.{Fused}
-use Rattle.xa_manager.specs.Texts.{answer_text}
-use Rattle.xa_manager.specs.declared.counted_store.CountedStore.{CountedStore}
-use Rattle.xa_manager.specs.Counted.{own_of, other_of, state_in}
-use Rattle.xa_manager.specs.Rows.{rows_text}
+use Rattle.std.{proofs.lemmas.{Grind.common_steps, Bool.false≢true}, specs.Prelude.{Result, Ok, Err, IfOk, false}}
+use Rattle.std.{proofs.lemmas.List.{take_more, drop_more, length-take-le, length_push}, specs.List.All}
+use Rattle.xa_manager.specs.{declared.{call.Call.Call, response.Response.Response}, Texts.answer_text}
+use Rattle.xa_manager.specs.{declared.counted_store.CountedStore.CountedStore, Beside.CarriesBeside, Runs.Managing}
+use Rattle.xa_manager.specs.Runs.{IsAnswered, CarriesOut, none_yet, one_more, IsFresh, HasCarried, is_unanswered}
+use Rattle.xa_manager.specs.{Counted.{own_of, other_of, state_in}, Rows.rows_text}
 use Rattle.xa_manager.specs.Stops.{fails_from, ended_calls, cut_line, IsLeft, IsWhole, IsCutShort, IsCutAt}
+use Rattle.xa_coordinator.specs.{Lasting.own_view, declared.fused.Fused.Fused}
+use Rattle.xa_server.specs.State.{State}
 
 -- equal lists of calls and responses may take the place of those that were carried out
 pub carried_as : (old new : Managing) (calls same : List Call) (responses as_well : List Response) → same ≡ calls
@@ -54,14 +43,14 @@ carried_then old mid new calls later responses more before (one_more cs rs m so_
 
 -- one limit more makes one call FAIL more, for the next store
 pub fails_snoc : (from : ℕ) (limits : List ℕ) (limit : ℕ)
-    → fails_from from (limits ++ limit ∷ []) ≡ fails_from from limits ++ Fail (from + length limits) limit ∷ []
+    → fails_from from (limits ++ limit ∷ []) ≡ fails_from from limits ++ Call.Fail (from + length limits) limit ∷ []
 unfolding fails_from
 fails_snoc from [] limit =
-    ap (λ (n : ℕ). Fail n limit ∷ []) (let e : from ≡ from + length {A = ℕ} [] = omega arith in e)
+    ap (λ (n : ℕ). Call.Fail n limit ∷ []) (let e : from ≡ from + length {A = ℕ} [] = omega arith in e)
 fails_snoc from (x ∷ xs) limit =
-    ap (λ (rest : List Call). Fail from x ∷ rest)
+    ap (λ (rest : List Call). Call.Fail from x ∷ rest)
     (fails_snoc (from + 1) xs limit
-    ∙ ap (λ (n : ℕ). fails_from (from + 1) xs ++ Fail n limit ∷ [])
+    ∙ ap (λ (n : ℕ). fails_from (from + 1) xs ++ Call.Fail n limit ∷ [])
     (let e : from + 1 + length xs ≡ from + length (x ∷ xs) = grind (arith, common_steps) in e))
 
 -- no limits make no call FAIL
@@ -71,11 +60,11 @@ fails_none = refl
 
 -- the FAILs for one limit more are those for the limits before it, and one for the store at its place
 pub fails_step : (limits : List ℕ) (store limit : ℕ) → store < length limits → limit ≡ get_or limits store 0
-    → fails_from 0 (take (store + 1) limits) ≡ fails_from 0 (take store limits) ++ Fail store limit ∷ []
+    → fails_from 0 (take (store + 1) limits) ≡ fails_from 0 (take store limits) ++ Call.Fail store limit ∷ []
 fails_step limits store limit within is =
     ap (fails_from 0) (take_more limits store 0 within ∙ ap (λ (x : ℕ). take store limits ++ x ∷ []) (sym is))
     ∙ fails_snoc 0 (take store limits) limit
-    ∙ ap (λ (n : ℕ). fails_from 0 (take store limits) ++ Fail n limit ∷ [])
+    ∙ ap (λ (n : ℕ). fails_from 0 (take store limits) ++ Call.Fail n limit ∷ [])
     (let long : length (take store limits) ≡ store = length-take-le store limits
     (let e : store ≤ length limits = omega (arith, within) in e) in
     let e : 0 + length (take store limits) ≡ store = omega (arith, long) in e)
@@ -101,7 +90,8 @@ map_twice f g (x ∷ xs) = ap (λ rest. g (f x) ∷ rest) (map_twice f g xs)
 -- the answer to RECOVER and the rows are what is left; the responses before it are those to the calls and to STOP
 pub recovered : (stores : ℕ) (script told : List Call) (mid stopped last : Managing) (first second : Response)
     (kept : List CountedStore) (text : List ℕ)
-    → (before : HasCarried stores told mid) → IsAnswered mid Stop first stopped → IsAnswered stopped Recover second last
+    → (before : HasCarried stores told mid) → IsAnswered mid Call.Stop first stopped → IsAnswered stopped Call.Recover
+    second last
     → is_unanswered second ≡ false
     → All (λ (s : Fused CountedStore). s.inner.starved ≡ false) last.sessions
     → kept ≡ map (λ (s : Fused CountedStore). s.inner) last.sessions
@@ -109,7 +99,7 @@ pub recovered : (stores : ℕ) (script told : List Call) (mid stopped last : Man
     → (left : IsLeft stores script (ended_calls told) text) × (left.responses ≡ before.responses ++ first ∷ [])
 recovered stores script told mid stopped last first second kept text before stops recovers answered fed are is =
     let one = carried_more before.first mid stopped told (told
-    ++ Stop ∷ []) before.responses Stop first before.carried stops refl in (
+    ++ Call.Stop ∷ []) before.responses Call.Stop first before.carried stops refl in (
       record {
         responses = before.responses ++ first ∷ [];
         response = second;
@@ -117,9 +107,9 @@ recovered stores script told mid stopped last first second kept text before stop
         run = record {
           first = before.first;
           fresh = before.fresh;
-          carried = carried_more before.first stopped last (told ++ Stop ∷ []) (ended_calls told)
-              (before.responses ++ first ∷ []) Recover second one recovers
-              (sym (append_assoc told (Stop ∷ []) (Recover ∷ [])));
+          carried = carried_more before.first stopped last (told ++ Call.Stop ∷ []) (ended_calls told)
+              (before.responses ++ first ∷ []) Call.Recover second one recovers
+              (sym (append_assoc told (Call.Stop ∷ []) (Call.Recover ∷ [])));
           fed = fed;
         };
         remembered = λ out. false≢true (sym answered ∙ ap is_unanswered out);
@@ -148,23 +138,23 @@ line_alone calls place call within is =
 carried_count : (old new : Managing) (call : Call) (response : Response)
     → CarriesBeside own_of other_of own_view old call response new
     → new.stores ≡ old.stores
-carried_count old new Silent response is = ap (λ (m : Managing). m.stores) is.0.1
-carried_count old new (Unread place) response is = absurd is.0
-carried_count old new Begin response is =
+carried_count old new Call.Silent response is = ap (λ (m : Managing). m.stores) is.0.1
+carried_count old new (Call.Unread place) response is = absurd is.0
+carried_count old new Call.Begin response is =
     ⊎_elim (λ begun. ap (λ (m : Managing). m.stores) begun.stands)
     (λ spent. ap (λ (m : Managing). m.stores) spent.stands) is.0
-carried_count old new (Work number store statement) response is = ap (λ (m : Managing). m.stores) is.0.alone.stands
-carried_count old new (Prepare number) response is = ap (λ (m : Managing). m.stores) is.0.alone.stands
-carried_count old new (Decide number) response is =
+carried_count old new (Call.Work number store statement) response is = ap (λ (m : Managing). m.stores) is.0.alone.stands
+carried_count old new (Call.Prepare number) response is = ap (λ (m : Managing). m.stores) is.0.alone.stands
+carried_count old new (Call.Decide number) response is =
     ⊎_elim (λ done. ap (λ (m : Managing). m.stores) done.2)
     (λ closed. ap (λ (m : Managing). m.stores) closed.2) is.0.outcome
-carried_count old new (Finish number) response is = ap (λ (m : Managing). m.stores) is.0.ends.alone.stands
-carried_count old new (Abandon number) response is = ap (λ (m : Managing). m.stores) is.0.ends.alone.stands
-carried_count old new (Fail store calls) response is = ap (λ (m : Managing). m.stores) is.0.stands
-carried_count old new Stop response is = ap (λ (m : Managing). m.stores) is.0.stands
-carried_count old new Recover response is = ap (λ (m : Managing). m.stores) is.0.alone.stands
-carried_count old new (At store statement) response is = ap (λ (m : Managing). m.stores) is.stands
-carried_count old new Show response is = ap (λ (m : Managing). m.stores) is.stands
+carried_count old new (Call.Finish number) response is = ap (λ (m : Managing). m.stores) is.0.ends.alone.stands
+carried_count old new (Call.Abandon number) response is = ap (λ (m : Managing). m.stores) is.0.ends.alone.stands
+carried_count old new (Call.Fail store calls) response is = ap (λ (m : Managing). m.stores) is.0.stands
+carried_count old new Call.Stop response is = ap (λ (m : Managing). m.stores) is.0.stands
+carried_count old new Call.Recover response is = ap (λ (m : Managing). m.stores) is.0.alone.stands
+carried_count old new (Call.At store statement) response is = ap (λ (m : Managing). m.stores) is.stands
+carried_count old new Call.Show response is = ap (λ (m : Managing). m.stores) is.stands
 
 -- a call changes nothing about how many stores there are
 answered_count : (old new : Managing) (call : Call) (response : Response) → IsAnswered old call response new

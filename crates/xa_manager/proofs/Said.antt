@@ -1,29 +1,17 @@
 -- What sessions answered: their replies without places in the history, and the list of what each other client
 -- answered.
 use Rattle.std.proofs.Common.{◌≡◌, ◌∙◌, ◌+◌, ℕ, zero, suc, true, List, [], ◌∷◌, ◌++◌, length, take, get_or, map, ap}
-use Rattle.std.proofs.Common.{refl, sym, subst, Result, Ok, Err, Some, arith}
-use Rattle.std.proofs.lemmas.List.{length-map}
-use Rattle.std.proofs.Math.Seq.{take-append_seam}
-use Rattle.std.specs.Prelude.{IfOk, IfErr, slice_get, slice_set}
-use Rattle.xa_xid.specs.declared.statement.Statement.TheVariants.{Recover}
+use Rattle.std.proofs.{Common.{refl, sym, subst, Result, Ok, Err, Some, arith}, lemmas.List.length-map}
+use Rattle.std.{proofs.Math.Seq.take-append_seam, specs.Prelude.{IfOk, IfErr, slice_get, slice_set}}
+use Rattle.xa_xid.specs.declared.statement.Statement.{Statement, TheVariants.Recover}
 use Rattle.xa_server.specs.declared.reply.Reply.{Reply}
-use Rattle.xa_coordinator.specs.declared.decisions.Decision.{Decision}
-use Rattle.xa_coordinator.specs.Agreement.{Agrees}
-use Rattle.xa_coordinator.specs.Stores.{EachStore}
-use Rattle.xa_coordinator.proofs.Walk.{Reached}
+use Rattle.xa_coordinator.specs.{declared.{decisions.Decision.Decision, fused.Fused.Fused}, Agreement.Agrees}
+use Rattle.xa_coordinator.{specs.Stores.EachStore, proofs.Walk.{Reached, reached_next, reached_weaker}}
 use Rattle.xa_coordinator.proofs.Keeping.{at_place, changes_at}
-use Rattle.xa_coordinator.proofs.Walk.{reached_next, reached_weaker}
-use Rattle.xa_xid.specs.declared.statement.Statement.{Statement}
-use Rattle.xa_session.specs.declared.answer.Answer.{Answer}
-use Rattle.xa_session.specs.declared.fault.Fault.{Fault}
-use Rattle.xa_session.specs.Answer.{IsAnswered, Fails}
+use Rattle.xa_session.specs.{declared.{answer.Answer.Answer, fault.Fault.Fault}, Answer.{IsAnswered, Fails}}
 use Rattle.xa_session.specs.View.{SessionView, StaysOfLog}
-use Rattle.xa_coordinator.specs.declared.fused.Fused.{Fused}
-use Rattle.xa_manager.specs.declared.call.Call.{Call}
-use Rattle.xa_manager.specs.declared.response.Response.{Response}
-use Rattle.xa_manager.specs.Whole.{Performs}
-use Rattle.xa_manager.specs.Carried.{WholeManager}
-use Rattle.xa_manager.specs.Said.{RepliesAs, IsGiven, IsListed, reply_of}
+use Rattle.xa_manager.specs.{declared.{call.Call.Call, response.Response.Response}, Whole.Performs}
+use Rattle.xa_manager.specs.{Carried.WholeManager, Said.{RepliesAs, IsGiven, IsListed, reply_of}}
 
 -- sessions that are the same within are as many
 pub as_many : {S : Type 0} (old new : List (Fused S)) → map (λ (session : Fused S). session.inner) new

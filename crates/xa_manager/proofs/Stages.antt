@@ -1,23 +1,12 @@
 -- How far transactions have come, in a list.
-use Rattle.std.proofs.Common.{◌≡◌, ◌≢◌, ◌≤◌, ℕ, ◌<◌, ◌+◌, ◌-◌, ◌⊎◌, List, [], ◌∷◌, ◌++◌, zero, suc, length}
-use Rattle.std.proofs.Common.{arith, sym, refl, ap, subst}
-use Rattle.std.proofs.Common.{◌∙◌, inl, inr, Some, None, Bool, true, false, cond}
-use Rattle.std.proofs.lemmas.Bool.{eqb-false, eqb-true}
-use Rattle.std.proofs.Math.Seq.{set-append_seam}
-use Rattle.std.specs.Prelude.{◌==◌, slice_get, slice_set}
-use Rattle.std.proofs.lemmas.List.{set_past, length-set}
-use Rattle.std.proofs.lemmas.Bool.Decides.{eqb_tells}
+use Rattle.std.proofs.Common.{◌≡◌, ◌≢◌, ◌≤◌, ℕ, ◌<◌, ◌+◌, ◌-◌, ◌⊎◌, List, [], ◌∷◌, ◌++◌, zero, suc, length, arith, sym}
+use Rattle.std.proofs.Common.{refl, ap, subst, ◌∙◌, inl, inr, Some, None, Bool, true, false, cond}
+use Rattle.std.proofs.lemmas.{Bool.{eqb-false, eqb-true, Decides.eqb_tells}, List.{set_past, length-set}}
+use Rattle.std.{proofs.Math.Seq.set-append_seam, specs.Prelude.{◌==◌, slice_get, slice_set}}
 use Rattle.xa_xid.specs.declared.statement.Statement.{Statement}
-use Rattle.xa_xid.specs.declared.statement.Statement.TheVariants.{Start, End, Prepare, Commit, Rollback, Recover}
-use Rattle.xa_xid.specs.declared.statement.Statement.TheVariants.{Unsupported, Get, Put, Del, Disconnect}
-use Rattle.xa_coordinator.specs.Work.{IsRow}
-use Rattle.xa_coordinator.specs.declared.transaction.Transaction.{Transaction}
-use Rattle.xa_coordinator.specs.declared.transaction.Prepared.{Prepared}
-use Rattle.xa_coordinator.specs.declared.transaction.VoteKind.TheVariants.{Ready as VoteKindReady}
-use Rattle.xa_coordinator.proofs.Places.{get_set_is, get_set_other}
-use Rattle.xa_manager.specs.declared.stage.Stage.{Stage}
-use Rattle.xa_manager.specs.declared.stage.Stage.TheVariants.{Ready, Voted, Over}
-use Rattle.xa_manager.specs.Calls.{takes_rows}
+use Rattle.xa_coordinator.specs.{Work.IsRow, declared.transaction.{Transaction.Transaction, Prepared.Prepared}}
+use Rattle.xa_coordinator.{specs.declared.transaction.VoteKind.VoteKind, proofs.Places.{get_set_is, get_set_other}}
+use Rattle.xa_manager.specs.{declared.stage.Stage.{Stage, TheVariants.{Ready, Voted, Over}}, Calls.takes_rows}
 use Rattle.xa_manager.specs.Ledger.{stage_of, with_stage, transaction_in, IsTransactionOf}
 
 -- a number that wasn't begun has a place past the list
@@ -174,7 +163,7 @@ Kept count stages =
 -- each vote that the stage Ready keeps is a vote of Ready
 abbrev pub AllReady : List Stage → Type 0
 AllReady stages = (number : ℕ) (prepared : Prepared) → stage_of stages number ≡ Some (Ready prepared)
-    → prepared.vote_kind ≡ VoteKindReady
+    → prepared.vote_kind ≡ VoteKind.Ready
 
 -- setting a stage keeps `Kept`, if the transaction of the new stage is the one of its number
 pub kept_with : (count : ℕ) (stages : List Stage) (number : ℕ) (stage : Stage) → Kept count stages
@@ -190,7 +179,7 @@ kept_with count stages number stage kept is other found transaction there keeps 
 
 -- setting a stage keeps `AllReady`, if the new stage, where it is Ready, keeps a vote of Ready
 pub ready_with : (stages : List Stage) (number : ℕ) (stage : Stage) → AllReady stages
-    → ((prepared : Prepared) → stage ≡ Ready prepared → prepared.vote_kind ≡ VoteKindReady)
+    → ((prepared : Prepared) → stage ≡ Ready prepared → prepared.vote_kind ≡ VoteKind.Ready)
     → AllReady (with_stage stages number stage)
 ready_with stages number stage ready is other prepared there =
     elim (stage_of-with stages number other stage (Ready prepared) there) [
@@ -213,7 +202,7 @@ kept_more count stages last kept is other found transaction there keeps =
 
 -- one stage more keeps `AllReady`, if it, where it is Ready, keeps a vote of Ready
 pub ready_more : (stages : List Stage) (last : Stage) → AllReady stages
-    → ((prepared : Prepared) → last ≡ Ready prepared → prepared.vote_kind ≡ VoteKindReady)
+    → ((prepared : Prepared) → last ≡ Ready prepared → prepared.vote_kind ≡ VoteKind.Ready)
     → AllReady (stages ++ last ∷ [])
 ready_more stages last ready is other prepared there = elim (stage_of-append stages last (Ready prepared) other there) [
   | inl same ↦ is prepared same.1
@@ -238,14 +227,14 @@ kept_voted count stages number prepared kept (inr voted) = kept number (Voted pr
 
 -- GET, PUT and DEL are row statements
 pub row : (statement : Statement) → takes_rows statement ≡ true → IsRow statement
-row (Start xid) is = absurd (cc)
-row (End xid) is = absurd (cc)
-row (Prepare xid) is = absurd (cc)
-row (Commit xid one_phase) is = absurd (cc)
-row (Rollback xid) is = absurd (cc)
-row (Recover convert) is = absurd (cc)
-row Unsupported is = absurd (cc)
-row (Get key) is = tt
-row (Put key value) is = tt
-row (Del key) is = tt
-row Disconnect is = absurd (cc)
+row (Statement.Start xid) is = absurd (cc)
+row (Statement.End xid) is = absurd (cc)
+row (Statement.Prepare xid) is = absurd (cc)
+row (Statement.Commit xid one_phase) is = absurd (cc)
+row (Statement.Rollback xid) is = absurd (cc)
+row (Statement.Recover convert) is = absurd (cc)
+row Statement.Unsupported is = absurd (cc)
+row (Statement.Get key) is = tt
+row (Statement.Put key value) is = tt
+row (Statement.Del key) is = tt
+row Statement.Disconnect is = absurd (cc)

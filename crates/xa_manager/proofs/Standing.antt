@@ -2,38 +2,24 @@
 -- a branch of the coordinator's.
 use Rattle.std.proofs.Common.{◌≡◌, ◌⊎◌, ◌<◌, ◌≤◌, ◌+◌, ◌^◌, ℕ, zero, suc, Bool, true, false, cond, List, [], ◌∷◌, ◌++◌}
 use Rattle.std.proofs.Common.{length, take, refl, ap, sym, ◌∙◌, subst, inl, inr, Some, Ok, arith}
+use Rattle.std.proofs.lemmas.{Bool.Decides.eqb_tells, Option.slice_get_within}
 use Rattle.std.specs.Prelude.{slice_get, slice_index_or, Contains, All, codes, nat_eq}
-use Rattle.std.proofs.lemmas.Bool.Decides.{eqb_tells}
-use Rattle.std.proofs.lemmas.Option.{slice_get_within}
 use mathlib.Core.Bool.{true≢false}
 use Rattle.xa_words.specs.Entry.{Entry}
-use Rattle.xa_xid.specs.declared.xid.Xid.{Xid}
-use Rattle.xa_xid.specs.declared.statement.Statement.{Statement}
+use Rattle.xa_xid.specs.declared.{xid.Xid.Xid, statement.Statement.Statement}
 use Rattle.xa_xid.specs.declared.statement.Statement.TheVariants.{Start, Prepare, Commit, Rollback}
-use Rattle.decision_log.specs.History.{Begins, is_of, entries_of}
-use Rattle.decision_log.proofs.Histories.{get_begins}
-use Rattle.xa_server.specs.State.{State, is_prepared}
-use Rattle.xa_server.specs.Step.{enters}
-use Rattle.xa_session.specs.Answer.{entry_of}
-use Rattle.xa_session.specs.Replay.{state_after, state_at}
+use Rattle.decision_log.{specs.History.{Begins, is_of, entries_of}, proofs.Histories.get_begins}
+use Rattle.xa_server.specs.{State.{State, is_prepared}, Step.enters}
+use Rattle.xa_session.specs.{Answer.entry_of, Replay.{state_after, state_at}}
 use Rattle.xa_session.proofs.Replaying.{state_at-next, state_at-begins}
-use Rattle.xa_coordinator.specs.Branch.{IsBranchOf}
-use Rattle.xa_coordinator.specs.Decisions.{is_decided}
-use Rattle.xa_coordinator.specs.declared.report.Report.{Report}
+use Rattle.xa_coordinator.specs.{Branch.IsBranchOf, Decisions.is_decided, declared.report.Report.Report}
 use Rattle.xa_coordinator.specs.Lasting.{history_of}
-use Rattle.xa_manager.specs.declared.call.Call.{Call}
-use Rattle.xa_manager.specs.declared.call.Call.TheVariants.{Recover}
-use Rattle.xa_manager.specs.declared.response.Response.{Response}
-use Rattle.xa_manager.specs.declared.response.Response.TheVariants.{Recovered}
-use Rattle.xa_manager.specs.declared.counted_store.CountedStore.{CountedStore}
-use Rattle.xa_manager.specs.Counted.{own_of}
-use Rattle.xa_manager.specs.Runs.{Managing, IsRun}
-use Rattle.xa_manager.specs.Atomic.{branch_in, HasAdded, IsPlain, IsAlone, GoesWith, KeepsToDecisions, EndsNone}
-use Rattle.xa_manager.specs.Atomic.{LeavesBranches, WasCommitted, AllOrNone}
-use Rattle.xa_manager.proofs.Holding.{Session, Holds, grew_cases, grew_stays}
-use Rattle.xa_manager.proofs.Holds.{one_number}
-use Rattle.xa_manager.proofs.Recovering.{Recovering, HasEndedWell, ended_well, keeps, last_call, calls_hold}
-use Rattle.xa_manager.proofs.Recovering.{fresh_holds}
+use Rattle.xa_manager.specs.declared.{call.Call.{Call, TheVariants.Recover}, response.Response.Response}
+use Rattle.xa_manager.specs.declared.{response.Response.TheVariants.Recovered, counted_store.CountedStore.CountedStore}
+use Rattle.xa_manager.specs.{Counted.own_of, Runs.{Managing, IsRun}, Atomic.{branch_in, HasAdded, IsPlain, IsAlone}}
+use Rattle.xa_manager.specs.Atomic.{GoesWith, KeepsToDecisions, EndsNone, LeavesBranches, WasCommitted, AllOrNone}
+use Rattle.xa_manager.proofs.{Holding.{Session, Holds, grew_cases, grew_stays}, Holds.one_number, Recovering.Recovering}
+use Rattle.xa_manager.proofs.Recovering.{HasEndedWell, ended_well, keeps, last_call, calls_hold, fresh_holds}
 use Rattle.xa_manager.proofs.Finding.{EndsBranch, IsEndedAt, ended_behind, prepares, commit_rows}
 use Rattle.xa_manager.proofs.Others.{OthersLeave, OtherAdded, calls_leave, answered_leave, fresh_leave}
 

@@ -1,26 +1,12 @@
 -- A transaction manager, as contracts see it, in its parts.
 use Rattle.std.proofs.Common.{◌≡◌, ℕ, ◌∙◌, ◌+◌, ◌-◌, ◌++◌, ◌∷◌, [], List, length, ap, sym, subst, Result, Ok, Err}
-use Rattle.std.proofs.Common.{Option, Some}
-use Rattle.std.specs.Prelude.{OnOk, OnErr}
-use Rattle.std.proofs.lemmas.List.{length-set}
+use Rattle.std.{proofs.{Common.{Option, Some}, lemmas.List.length-set}, specs.Prelude.{OnOk, OnErr}}
 use Rattle.xa_session.specs.View.{SessionView}
-use Rattle.xa_coordinator.specs.declared.branches.OpenBranch.{OpenBranch}
-use Rattle.xa_coordinator.specs.declared.decisions.Decision.{Decision}
-use Rattle.xa_coordinator.specs.declared.decisions.Decision.TheVariants.{Decided}
-use Rattle.xa_coordinator.specs.Decisions.{with_decided}
-use Rattle.xa_coordinator.specs.Outcomes.{VotesAs}
-use Rattle.xa_coordinator.specs.Work.{KeepsOthers}
-use Rattle.xa_coordinator.specs.declared.transaction.Transaction.{Transaction}
-use Rattle.xa_coordinator.specs.declared.transaction.Prepared.{Prepared}
-use Rattle.xa_coordinator.specs.declared.transaction.VoteKind.TheVariants.{Ready as VoteKindReady}
-use Rattle.xa_coordinator.specs.declared.vote.Vote.{Vote}
-use Rattle.xa_coordinator.specs.declared.vote.Vote.TheVariants.{Ready as VoteReady, OnePhase as VoteOnePhase}
-use Rattle.xa_coordinator.specs.declared.vote.Vote.TheVariants.{No as VoteNo, Nothing as VoteNothing}
-use Rattle.xa_manager.specs.declared.stage.Stage.{Stage}
-use Rattle.xa_manager.specs.declared.stage.Stage.TheVariants.{Working, Ready, Over}
-use Rattle.xa_manager.specs.Ledger.{IsTransactionOf, transaction_in, with_stage}
-use Rattle.xa_manager.specs.Carried.{WholeManager, stage_after}
-use Rattle.xa_manager.proofs.Stages.{Kept, AllReady, with_stage-last}
+use Rattle.xa_coordinator.specs.declared.{branches.OpenBranch.OpenBranch, decisions.Decision.Decision, vote.Vote.Vote}
+use Rattle.xa_coordinator.specs.declared.transaction.{Transaction.Transaction, Prepared.Prepared, VoteKind.VoteKind}
+use Rattle.xa_coordinator.specs.{Decisions.with_decided, Outcomes.VotesAs, Work.KeepsOthers}
+use Rattle.xa_manager.specs.{declared.stage.Stage.Stage, Ledger.{IsTransactionOf, transaction_in, with_stage}}
+use Rattle.xa_manager.{specs.Carried.{WholeManager, stage_after}, proofs.Stages.{Kept, AllReady, with_stage-last}}
 
 -- a manager put together from its parts
 abbrev pub whole : {C T : Type 0} → ℕ → List Decision → List Stage → List (Option OpenBranch) → List C → List T
@@ -63,7 +49,7 @@ ready_as s t stages ready = let P : List Stage → Type 0 = λ list. AllReady li
 -- a decision changes how a number stands, not how many there are
 decided-length : (decisions : List Decision) (number : ℕ) → length (with_decided decisions number) ≡ length decisions
 unfolding with_decided
-decided-length decisions number = length-set decisions (number - 1) Decided
+decided-length decisions number = length-set decisions (number - 1) Decision.Decided
 
 -- whether deciding was refused or not, there are as many decisions as before
 pub after_decision : {A B : Type 0} (result : Result A B) (old new : List Decision) (number : ℕ)
@@ -77,32 +63,32 @@ pub voted_kept : {S : Type 0} (view : S → SessionView) (transaction : Transact
     (count number : ℕ)
     → VotesAs view transaction vote old new → IsTransactionOf count number transaction
     → (kept : Transaction) → transaction_in (stage_after vote) ≡ Some kept → IsTransactionOf count number kept
-voted_kept view transaction (VoteReady prepared) old new count number votes is kept keeps =
+voted_kept view transaction (Vote.Ready prepared) old new count number votes is kept keeps =
     let same : kept ≡ transaction = let e = ap (λ (p : Prepared). p.transaction) votes.0 in cc in
     let P : Transaction → Type 0 = λ t. IsTransactionOf count number t in subst P (sym same) is
-voted_kept view transaction (VoteOnePhase prepared) old new count number votes is kept keeps =
+voted_kept view transaction (Vote.OnePhase prepared) old new count number votes is kept keeps =
     let same : kept ≡ transaction = let e = ap (λ (p : Prepared). p.transaction) votes.0 in cc in
     let P : Transaction → Type 0 = λ t. IsTransactionOf count number t in subst P (sym same) is
-voted_kept view transaction (VoteNo prepared store cause) old new count number votes is kept keeps =
+voted_kept view transaction (Vote.No prepared store cause) old new count number votes is kept keeps =
     let same : kept ≡ transaction = let e = ap (λ (p : Prepared). p.transaction) votes.0 in cc in
     let P : Transaction → Type 0 = λ t. IsTransactionOf count number t in subst P (sym same) is
-voted_kept view transaction VoteNothing old new count number votes is kept keeps = absurd (cc)
+voted_kept view transaction Vote.Nothing old new count number votes is kept keeps = absurd (cc)
 
 -- a vote that is kept as Ready is of Ready
 pub voted_ready : {S : Type 0} (view : S → SessionView) (transaction : Transaction) (vote : Vote) (old new : List S)
     → VotesAs view transaction vote old new
-    → (kept : Prepared) → stage_after vote ≡ Ready kept → kept.vote_kind ≡ VoteKindReady
-voted_ready view transaction (VoteReady prepared) old new votes kept keeps =
+    → (kept : Prepared) → stage_after vote ≡ Stage.Ready kept → kept.vote_kind ≡ VoteKind.Ready
+voted_ready view transaction (Vote.Ready prepared) old new votes kept keeps =
     let same : prepared ≡ kept = cc in ap (λ (p : Prepared). p.vote_kind) (sym same)
     ∙ ap (λ (p : Prepared). p.vote_kind) votes.0
-voted_ready view transaction (VoteOnePhase prepared) old new votes kept keeps = absurd (cc)
-voted_ready view transaction (VoteNo prepared store cause) old new votes kept keeps = absurd (cc)
-voted_ready view transaction VoteNothing old new votes kept keeps = absurd (cc)
+voted_ready view transaction (Vote.OnePhase prepared) old new votes kept keeps = absurd (cc)
+voted_ready view transaction (Vote.No prepared store cause) old new votes kept keeps = absurd (cc)
+voted_ready view transaction Vote.Nothing old new votes kept keeps = absurd (cc)
 
 -- work keeps the transaction's number, name and count of stores
 pub worked_kept : (store count number : ℕ) (old new : Transaction) → KeepsOthers store old new
     → IsTransactionOf count number old → (kept : Transaction)
-    → transaction_in (Working new) ≡ Some kept → IsTransactionOf count number kept
+    → transaction_in (Stage.Working new) ≡ Some kept → IsTransactionOf count number kept
 worked_kept store count number old new keeps is kept same =
     let e : new ≡ kept = cc in
     let P : Transaction → Type 0 = λ t. IsTransactionOf count number t in
@@ -116,7 +102,7 @@ worked_kept store count number old new keeps is kept same =
 -- a transaction that has begun is kept as one of its number
 pub working_kept : (count number : ℕ) (transaction : Transaction) → IsTransactionOf count number transaction
     → (kept : Transaction)
-    → transaction_in (Working transaction) ≡ Some kept → IsTransactionOf count number kept
+    → transaction_in (Stage.Working transaction) ≡ Some kept → IsTransactionOf count number kept
 working_kept count number transaction is kept same =
     let e : transaction ≡ kept = cc in
     let P : Transaction → Type 0 = λ t. IsTransactionOf count number t in
@@ -124,7 +110,7 @@ working_kept count number transaction is kept same =
 
 -- BEGIN first reserves a place with a stage that is over, and then sets it: together one stage was put behind
 pub begun_on : (stages : List Stage) (number : ℕ) (begun : Stage) (added now : List Stage) → number ≡ length stages + 1
-    → added ≡ stages ++ Over ∷ []
+    → added ≡ stages ++ Stage.Over ∷ []
     → now ≡ with_stage added number begun → now ≡ stages ++ begun ∷ []
 begun_on stages number begun added now is one put =
-    put ∙ ap (λ list. with_stage list number begun) one ∙ with_stage-last stages Over begun number is
+    put ∙ ap (λ list. with_stage list number begun) one ∙ with_stage-last stages Stage.Over begun number is

@@ -1,29 +1,16 @@
 -- The texts of faulty lines, of rows and of stops.
-use Rattle.std.proofs.Common.{◌≡◌, ◌<◌, ◌≤◌, ◌+◌, ◌∙◌, ℕ, List, [], ◌∷◌, ◌++◌, Some, length, drop}
-use Rattle.std.proofs.Common.{get_or, map}
-use Rattle.std.proofs.Common.{refl, ap, sym, subst, arith, append_assoc, append-nil}
-use Rattle.std.specs.Prelude.{true, ◌==◌, codes, decimal, Option, None, Result, Ok, Err, IfSome, IfOk, IfErr}
-use Rattle.std.specs.Prelude.{OnOk, OnErr}
-use Rattle.std.specs.Io.KnownBytes.{Appends, Consumes, IsAtEnd}
-use Rattle.xa_lines.specs.declared.script_fault.ScriptFault.{ScriptFault}
-use Rattle.xa_lines.specs.declared.script_fault.ScriptFault.TheVariants.{Write}
-use Rattle.xa_lines.specs.Transcript.{AppendsPrefix}
-use Rattle.std.specs.List.{AllZip, concat, flat_map}
-use Rattle.std.proofs.lemmas.Grind.{common_steps}
-use Rattle.std.proofs.lemmas.List.{drop_more, drop_all}
-use Rattle.std.proofs.lemmas.List.Folds.{concat-append}
-use Rattle.xa_lines.specs.Script.{lines_of}
-use Rattle.xa_manager.specs.declared.call.Call.{Call}
-use Rattle.xa_coordinator.specs.declared.decisions.Decision.{Decision}
-use Rattle.xa_manager.specs.declared.response.Response.{Response}
-use Rattle.xa_manager.specs.declared.response.Response.TheVariants.{Unread, UnknownStore, UnknownTransaction}
-use Rattle.xa_manager.specs.declared.response.Response.TheVariants.{WrongStage}
-use Rattle.xa_manager.specs.Texts.{answer_text}
-use Rattle.xa_server.specs.State.{State}
-use Rattle.xa_manager.specs.Rows.{keys_named, keys_with, with_key, key_named, row_line, rows_text}
-use Rattle.xa_manager.specs.declared.stop_ended.Ended.{Ended}
+use Rattle.std.proofs.Common.{◌≡◌, ◌<◌, ◌≤◌, ◌+◌, ◌∙◌, ℕ, List, [], ◌∷◌, ◌++◌, Some, length, drop, get_or, map, refl}
+use Rattle.std.proofs.{Common.{ap, sym, subst, arith, append_assoc, append-nil}, lemmas.Grind.common_steps}
+use Rattle.std.{proofs.lemmas.List.{drop_more, drop_all, Folds.concat-append}, specs.Prelude.{true, ◌==◌, codes}}
+use Rattle.std.specs.Prelude.{decimal, Option, None, Result, Ok, Err, IfSome, IfOk, IfErr, OnOk, OnErr}
+use Rattle.std.specs.{Io.KnownBytes.{Appends, Consumes, IsAtEnd}, List.{AllZip, concat, flat_map}}
+use Rattle.xa_lines.specs.{declared.script_fault.ScriptFault.ScriptFault, Transcript.AppendsPrefix, Script.lines_of}
+use Rattle.xa_manager.specs.declared.{call.Call.Call, response.Response.Response, stop_ended.Ended.Ended}
+use Rattle.xa_manager.specs.{Texts.answer_text, Rows.{keys_named, keys_with, with_key, key_named, row_line, rows_text}}
 use Rattle.xa_manager.specs.Scripts.{call_in, calls_of, is_refusal, cause_text, fault_text, faults_from, IsStopsText}
 use Rattle.xa_manager.specs.Scripts.{AppendsStops, AppendsStopsPrefix, AfterStopsFault}
+use Rattle.xa_coordinator.specs.declared.decisions.Decision.{Decision}
+use Rattle.xa_server.specs.State.{State}
 
 -- the loop over lines: the calls of a text are the call in its first line, and then those of the rest
 pub calls_cut : (text line rest : List ℕ) → lines_of text ≡ line ∷ lines_of rest
@@ -127,7 +114,7 @@ stops_written stores (Err fault) ended text given input rest old new read end is
 pub stops_faulted : (stores : ℕ) (result : Result Ended ScriptFault) (ended : Ended) (text given : List ℕ)
     (input rest old new : Option (List ℕ))
     → Consumes input rest given → IsAtEnd rest → IsStopsText stores given ended text
-    → IfErr result (λ f. f ≡ Write) → OnErr result (AppendsPrefix old new text)
+    → IfErr result (λ f. f ≡ ScriptFault.Write) → OnErr result (AppendsPrefix old new text)
     → IfErr result (λ f. AfterStopsFault stores f input old new)
 stops_faulted stores (Ok e) ended text given input rest old new read end is fault prefix = tt
 stops_faulted stores (Err f) ended text given input rest old new read end is fault prefix =
@@ -137,10 +124,10 @@ stops_faulted stores (Err f) ended text given input rest old new read end is fau
 -- why a line is refused is told the same whatever is decided
 pub refusal_words : (decisions : List Decision) (response : Response) → is_refusal response ≡ true
     → answer_text decisions response ≡ answer_text [] response
-refusal_words decisions (Unread place) is = refl
-refusal_words decisions (UnknownStore store) is = refl
-refusal_words decisions (UnknownTransaction number) is = refl
-refusal_words decisions (WrongStage number) is = refl
+refusal_words decisions (Response.Unread place) is = refl
+refusal_words decisions (Response.UnknownStore store) is = refl
+refusal_words decisions (Response.UnknownTransaction number) is = refl
+refusal_words decisions (Response.WrongStage number) is = refl
 refusal_words decisions response is = absurd (cc)
 
 -- `LINE `, the number, `: ` and the answer, appended one after another, are what is written for a line that is

@@ -13,32 +13,17 @@
 --     LeavesWhole      KeepsToDecisions and AllOrNone hold after a recovery, if it came to its end
 use Rattle.std.specs.Prelude.{◌≡◌, ◌⊎◌, ◌<◌, ◌≤◌, ◌+◌, ◌^◌, ℕ, Bool, true, false, Some, Ok, slice_get, List, Contains}
 use Rattle.std.specs.Prelude.{codes}
-use Rattle.std.specs.FinMap as map
 use Rattle.xa_words.specs.Entry.{Entry}
-use Rattle.xa_xid.specs.declared.xid.Xid.{Xid}
-use Rattle.xa_xid.specs.declared.statement.Statement.{Statement}
-use Rattle.xa_xid.specs.declared.statement.Statement.TheVariants.{Start, Prepare, Commit, Rollback, Put, Del}
+use Rattle.xa_xid.specs.declared.{xid.Xid.Xid, statement.Statement.Statement}
 use Rattle.xa_server.specs.State.{Branch, State, association_of, is_prepared}
-use Rattle.xa_server.specs.declared.association.Association.{Association}
-use Rattle.xa_server.specs.declared.association.Association.TheVariants.{Free}
-use Rattle.xa_server.specs.Step.{with_writes}
-use Rattle.xa_session.specs.Answer.{entry_of}
-use Rattle.xa_session.specs.Replay.{state_at}
-use Rattle.xa_coordinator.specs.Branch.{branch_xid, IsBranchOf}
-use Rattle.xa_coordinator.specs.Decisions.{is_decided}
-use Rattle.xa_coordinator.specs.Recovery.{NoneLeft, IsNamed}
-use Rattle.xa_coordinator.specs.declared.decisions.Decision.{Decision}
-use Rattle.xa_coordinator.specs.declared.fused.Fused.{Fused}
-use Rattle.xa_coordinator.specs.declared.report.Report.{Report}
+use Rattle.xa_server.specs.{declared.association.Association.Association, Step.with_writes}
+use Rattle.xa_session.specs.{Answer.entry_of, Replay.state_at}
+use Rattle.xa_coordinator.specs.{Branch.{branch_xid, IsBranchOf}, Decisions.is_decided, Recovery.{NoneLeft, IsNamed}}
+use Rattle.xa_coordinator.specs.declared.{decisions.Decision.Decision, fused.Fused.Fused, report.Report.Report}
 use Rattle.xa_coordinator.specs.Lasting.{history_of}
-use Rattle.xa_manager.specs.Calls.{takes_rows}
-use Rattle.xa_manager.specs.declared.call.Call.{Call}
-use Rattle.xa_manager.specs.declared.call.Call.TheVariants.{Work, Recover, At}
-use Rattle.xa_manager.specs.declared.response.Response.TheVariants.{Recovered}
-use Rattle.xa_manager.specs.declared.counted_store.CountedStore.{CountedStore}
-use Rattle.xa_manager.specs.Counted.{own_of}
-use Rattle.xa_manager.specs.Runs.{Managing}
-use Rattle.xa_manager.specs.Stops.{IsLeft}
+use Rattle.xa_manager.specs.{Calls.takes_rows, declared.{call.Call.Call, response.Response.Response}, Stops.IsLeft}
+use Rattle.xa_manager.specs.{declared.counted_store.CountedStore.CountedStore, Counted.own_of, Runs.Managing}
+use Rattle.std.specs.FinMap as map
 
 -- the branch that the transaction of a number has in a store: the coordinator is `c`
 abbrev pub branch_in : ℕ → ℕ → Xid
@@ -50,15 +35,15 @@ HasAdded session statement = Contains (own_of session.inner).known.mine (entry_o
 
 -- a call that isn't RECOVER; work gives GET, PUT or DEL, as in each call that a line spells
 abbrev pub IsPlain : Call → Type 0
-IsPlain (Work number store statement) = takes_rows statement ≡ true
-IsPlain Recover = ⊥
+IsPlain (Call.Work number store statement) = takes_rows statement ≡ true
+IsPlain Call.Recover = ⊥
 IsPlain call = Unit {0}
 
 -- the coordinator began a branch of the transaction in no other store than this one
 abbrev pub IsAlone : List (Fused CountedStore) → ℕ → ℕ → Type 0
 IsAlone sessions number store =
     (other : ℕ) (session : Fused CountedStore) → slice_get sessions other ≡ Some session
-    → HasAdded session (Start (branch_in number other)) → other ≡ store
+    → HasAdded session (Statement.Start (branch_in number other)) → other ≡ store
 
 -- an undecided transaction of which the coordinator began a branch in no other store than this one; of undecided ones
 -- only such a one may be committed, with ONE PHASE
@@ -70,11 +55,11 @@ pub record IsOnePhase (decisions : List Decision) (sessions : List (Fused Counte
 -- XA COMMIT is of a decided transaction's branch; with ONE PHASE, of an undecided one's of which the coordinator began
 -- a branch in no other store; XA ROLLBACK is of an undecided one's; every other statement goes with the decisions
 abbrev pub GoesWith : List Decision → List (Fused CountedStore) → ℕ → Statement → Type 0
-GoesWith decisions sessions store (Commit xid false) =
+GoesWith decisions sessions store (Statement.Commit xid false) =
     (number : ℕ) × IsBranchOf (codes "c") number store xid × (is_decided decisions number ≡ true)
-GoesWith decisions sessions store (Commit xid true) =
+GoesWith decisions sessions store (Statement.Commit xid true) =
     (number : ℕ) × IsBranchOf (codes "c") number store xid × IsOnePhase decisions sessions store number
-GoesWith decisions sessions store (Rollback xid) =
+GoesWith decisions sessions store (Statement.Rollback xid) =
     (number : ℕ) × IsBranchOf (codes "c") number store xid × (is_decided decisions number ≡ false)
 GoesWith decisions sessions store statement = Unit {0}
 
@@ -89,13 +74,13 @@ pub record KeepsToDecisions (last : Managing) : Type 0 where
 
 -- the statement is no XA COMMIT and no XA ROLLBACK of a branch of the coordinator's naming in this store
 abbrev pub EndsNone : ℕ → Statement → Type 0
-EndsNone store (Commit xid one_phase) = IsNamed (codes "c") store xid → ⊥
-EndsNone store (Rollback xid) = IsNamed (codes "c") store xid → ⊥
+EndsNone store (Statement.Commit xid one_phase) = IsNamed (codes "c") store xid → ⊥
+EndsNone store (Statement.Rollback xid) = IsNamed (codes "c") store xid → ⊥
 EndsNone store statement = Unit {0}
 
 -- a call that gives another client no XA COMMIT and no XA ROLLBACK of a branch of the coordinator's naming
 abbrev pub LeavesBranches : Call → Type 0
-LeavesBranches (At store statement) = EndsNone store statement
+LeavesBranches (Call.At store statement) = EndsNone store statement
 LeavesBranches call = Unit {0}
 
 -- the state before the store's entry at this place: that after so many entries
@@ -104,9 +89,9 @@ state_before counted place = state_at counted.store.first.value (history_of coun
 
 -- a commit, or a write of a session that has no branch open, which is carried out at once
 abbrev pub ChangesRows : Association → Statement → Type 0
-ChangesRows association (Commit xid one_phase) = Unit {0}
-ChangesRows association (Put key value) = association ≡ Free
-ChangesRows association (Del key) = association ≡ Free
+ChangesRows association (Statement.Commit xid one_phase) = Unit {0}
+ChangesRows association (Statement.Put key value) = association ≡ Association.Free
+ChangesRows association (Statement.Del key) = association ≡ Association.Free
 ChangesRows association statement = ⊥
 
 -- the entry at this place leaves the committed values as they were, or is a commit or a write of a session that has
@@ -120,11 +105,11 @@ KeepsRowsOr counted place entry =
 -- to a later place, at which the coordinator's XA COMMIT made all writes of the branch the committed values
 pub record WasCommitted (counted : CountedStore) (xid : Xid) : Type 0 where
   pub prepare : ℕ
-  pub prepares : slice_get (history_of counted.store) prepare ≡ Some (entry_of 1 (Prepare xid))
+  pub prepares : slice_get (history_of counted.store) prepare ≡ Some (entry_of 1 (Statement.Prepare xid))
   pub place : ℕ
   pub later : prepare < place
   pub prepared : (at : ℕ) → prepare < at → at ≤ place → is_prepared (state_before counted at) xid ≡ true
-  pub commits : slice_get (history_of counted.store) place ≡ Some (entry_of 1 (Commit xid false))
+  pub commits : slice_get (history_of counted.store) place ≡ Some (entry_of 1 (Statement.Commit xid false))
   pub rows : (branch : Branch) → map.get (state_before counted place).branches xid ≡ Some branch
       → (state_before counted (place + 1)).rows ≡ with_writes (map.entries branch.writes)
       (state_before counted place).rows
@@ -135,17 +120,17 @@ pub record WasCommitted (counted : CountedStore) (xid : Xid) : Type 0 where
 pub record AllOrNone (last : Managing) : Type 0 where
   pub all : (number store : ℕ) (session : Fused CountedStore) → number < 2 ^ 64
       → is_decided last.decisions number ≡ true
-      → slice_get last.sessions store ≡ Some session → HasAdded session (Start (branch_in number store))
+      → slice_get last.sessions store ≡ Some session → HasAdded session (Statement.Start (branch_in number store))
       → WasCommitted session.inner (branch_in number store)
   pub none : (number store : ℕ) (session : Fused CountedStore) (place client : ℕ) (one_phase : Bool) → number < 2 ^ 64
       → is_decided last.decisions number ≡ false → slice_get last.sessions store ≡ Some session
       → slice_get (history_of session.inner.store) place ≡ Some
-      (entry_of client (Commit (branch_in number store) one_phase))
+      (entry_of client (Statement.Commit (branch_in number store) one_phase))
       → (one_phase ≡ true) × IsAlone last.sessions number store
 
 -- if the recovery was answered with a report, what it left keeps to the decisions, and each transaction is in all of
 -- its stores or in none
 abbrev pub LeavesWhole : {stores : ℕ} {script told : List Call} {text : List ℕ} → IsLeft stores script told text
     → Type 0
-LeavesWhole left = (report : Report) → left.response ≡ Recovered (Ok report)
+LeavesWhole left = (report : Report) → left.response ≡ Response.Recovered (Ok report)
     → KeepsToDecisions left.last × AllOrNone left.last

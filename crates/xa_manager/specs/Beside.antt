@@ -12,25 +12,14 @@
 use Rattle.std.specs.Prelude.{◌≡◌, ◌⊎◌, ◌<◌, ℕ, false, List, [], All, length, map, Result}
 use Rattle.xa_xid.specs.declared.statement.Statement.{Statement}
 use Rattle.xa_server.specs.declared.reply.Reply.{Reply}
-use Rattle.xa_session.specs.declared.fault.Fault.{Fault}
-use Rattle.xa_session.specs.View.{SessionView}
-use Rattle.xa_coordinator.specs.Beside.{IsLeftAlone}
-use Rattle.xa_coordinator.specs.Fusing.{limited}
-use Rattle.xa_coordinator.specs.Stores.{AtStore, EachStore, ChangesAt}
+use Rattle.xa_session.specs.{declared.fault.Fault.Fault, View.SessionView}
+use Rattle.xa_coordinator.specs.{Beside.IsLeftAlone, Fusing.limited, Stores.{AtStore, EachStore, ChangesAt}}
 use Rattle.xa_coordinator.specs.declared.fused.Fused.{Fused}
-use Rattle.xa_lines.specs.Printed.{converts}
-use Rattle.xa_lines.specs.Received.{Received}
-use Rattle.xa_manager.specs.declared.call.Call.{Call}
-use Rattle.xa_manager.specs.declared.call.Call.TheVariants.{Silent, At, Show}
-use Rattle.xa_manager.specs.declared.listing.Listing.{Listing}
-use Rattle.xa_manager.specs.declared.response.Response.{Response}
-use Rattle.xa_manager.specs.declared.response.Response.TheVariants.{Replied, Shown}
-use Rattle.xa_manager.specs.Carried.{WholeManager, Carries}
-use Rattle.xa_manager.specs.Limits.{StartsAnew}
-use Rattle.xa_manager.specs.Said.{IsGiven, IsListed}
-use Rattle.xa_manager.specs.Served.{call_said, refused_text, has_few_words}
-use Rattle.xa_manager.specs.Texts.{answer_text}
-use Rattle.xa_manager.specs.Whole.{IsPair, IsRefused}
+use Rattle.xa_lines.specs.{Printed.converts, Received.Received}
+use Rattle.xa_manager.specs.declared.{call.Call.Call, listing.Listing.Listing, response.Response.Response}
+use Rattle.xa_manager.specs.{declared.response.Response.TheVariants.{Replied, Shown}, Carried.{WholeManager, Carries}}
+use Rattle.xa_manager.specs.{Limits.StartsAnew, Said.{IsGiven, IsListed}, Whole.{IsPair, IsRefused}}
+use Rattle.xa_manager.specs.{Served.{call_said, refused_text, has_few_words}, Texts.answer_text}
 
 -- the session within one that has a limit, as contracts see it: without the limit
 abbrev pub within : {S : Type 0} → (S → SessionView) → Fused S → SessionView
@@ -75,9 +64,9 @@ pub record IsShownBeside {S T : Type 0} (view other : S → SessionView) (old : 
 abbrev pub CarriesBeside : {S T : Type 0} → (S → SessionView) → (S → SessionView) → (T → SessionView)
     → WholeManager (Fused S) T → Call → Response
     → WholeManager (Fused S) T → Type 0
-CarriesBeside view other nobody old (At store statement) response new =
+CarriesBeside view other nobody old (Call.At store statement) response new =
     HasRepliedBeside view other store statement old response new
-CarriesBeside view other nobody old Show response new = IsShownBeside view other old response new
+CarriesBeside view other nobody old Call.Show response new = IsShownBeside view other old response new
 CarriesBeside view other nobody old call response new =
     Carries (limited view) nobody old call response new × (others_of other new.sessions ≡ others_of other old.sessions)
 
@@ -103,7 +92,7 @@ pub record BeginsBeside {S T : Type 0} (view other : S → SessionView)
 pub record IsRefusedBeside {S T : Type 0} (view other : S → SessionView) (nobody : T → SessionView)
     (old : WholeManager (Fused S) T) (call : Call)
     (text : List ℕ) (new : WholeManager (Fused S) T) : Type 0 where
-  pub speaks : call ≡ Silent → ⊥
+  pub speaks : call ≡ Call.Silent → ⊥
   pub told : text ≡ refused_text
   pub stands : (new ≡ old) ⊎ ((response : Response) × (has_few_words response ≡ false)
       × PerformsBeside view other nobody old call response new)

@@ -17,53 +17,23 @@
 --     IsShown          SHOW
 --     Carries          a call was carried out, by the call
 use Rattle.std.specs.Prelude.{◌≡◌, ◌⊎◌, ◌<◌, ◌≤◌, ◌+◌, ℕ, true, false, Option, Some, None, Result, IfOk, IfErr, OnOk}
-use Rattle.std.specs.Prelude.{List, [], ◌∷◌, ◌++◌, length, map}
-use Rattle.std.specs.Prelude.{slice_get, codes}
+use Rattle.std.specs.Prelude.{List, [], ◌∷◌, ◌++◌, length, map, slice_get, codes}
 use Rattle.xa_xid.specs.declared.statement.Statement.{Statement}
 use Rattle.xa_server.specs.declared.reply.Reply.{Reply}
-use Rattle.xa_session.specs.declared.fault.Fault.{Fault}
-use Rattle.xa_session.specs.View.{SessionView, StaysOfLog}
-use Rattle.xa_coordinator.specs.declared.branches.OpenBranch.{OpenBranch}
-use Rattle.xa_coordinator.specs.declared.closing.Closing.{Closing}
-use Rattle.xa_coordinator.specs.declared.closing.Closing.TheVariants.{RollBack}
-use Rattle.xa_coordinator.specs.declared.decisions.Decision.{Decision}
-use Rattle.xa_coordinator.specs.declared.decisions.Decision.TheVariants.{Undecided}
-use Rattle.xa_coordinator.specs.declared.ending.Ending.{Ending}
-use Rattle.xa_coordinator.specs.declared.fault.RecoverFault.{RecoverFault}
-use Rattle.xa_coordinator.specs.declared.fault.WorkFault.{WorkFault}
-use Rattle.xa_coordinator.specs.declared.fused.Fused.{Fused}
-use Rattle.xa_coordinator.specs.declared.report.Report.{Report}
-use Rattle.xa_coordinator.specs.declared.transaction.Prepared.{Prepared}
-use Rattle.xa_coordinator.specs.declared.transaction.Transaction.{Transaction}
-use Rattle.xa_coordinator.specs.declared.vote.Vote.{Vote}
-use Rattle.xa_coordinator.specs.declared.vote.Vote.TheVariants.{Ready as VoteReady, OnePhase as VoteOnePhase}
-use Rattle.xa_coordinator.specs.declared.vote.Vote.TheVariants.{No as VoteNo, Nothing as VoteNothing}
-use Rattle.xa_coordinator.specs.Decisions.{closed_of, is_decided, may_be_decided, with_decided}
-use Rattle.xa_coordinator.specs.Limits.{most_numbers}
-use Rattle.xa_coordinator.specs.OpenBranches.{KeepsOpen}
+use Rattle.xa_session.specs.{declared.fault.Fault.Fault, View.{SessionView, StaysOfLog}}
+use Rattle.xa_coordinator.specs.declared.{branches.OpenBranch.OpenBranch, closing.Closing.Closing, report.Report.Report}
+use Rattle.xa_coordinator.specs.declared.{decisions.Decision.{Decision, TheVariants.Undecided}, ending.Ending.Ending}
+use Rattle.xa_coordinator.specs.declared.{fault.{RecoverFault.RecoverFault, WorkFault.WorkFault}, fused.Fused.Fused}
+use Rattle.xa_coordinator.specs.declared.{transaction.{Prepared.Prepared, Transaction.Transaction}, vote.Vote.Vote}
+use Rattle.xa_coordinator.specs.{Decisions.{closed_of, is_decided, may_be_decided, with_decided}, Limits.most_numbers}
+use Rattle.xa_coordinator.specs.{OpenBranches.KeepsOpen, Participants.takes_part, Work.{KeepsOthers, WorksAs}}
 use Rattle.xa_coordinator.specs.Outcomes.{EndsAs, VotesAs, KeepsMark, finish_for, asked_by_vote, asked_by_ending}
-use Rattle.xa_coordinator.specs.Participants.{takes_part}
-use Rattle.xa_coordinator.specs.Recovery.{Recovers, BreaksOff, asked_by_fault}
-use Rattle.xa_coordinator.specs.Stores.{AtStore, EachStore, ChangesAt}
-use Rattle.xa_coordinator.specs.Work.{KeepsOthers, WorksAs}
+use Rattle.xa_coordinator.specs.{Recovery.{Recovers, BreaksOff, asked_by_fault}, Stores.{AtStore, EachStore, ChangesAt}}
 use Rattle.xa_lines.specs.Printed.{converts}
-use Rattle.xa_manager.specs.declared.call.Call.{Call}
-use Rattle.xa_manager.specs.declared.call.Call.TheVariants.{Silent as SilentCall, Unread, Begin, Work, Prepare, Decide}
-use Rattle.xa_manager.specs.declared.call.Call.TheVariants.{Finish, Abandon, Fail}
-use Rattle.xa_manager.specs.declared.call.Call.TheVariants.{Stop, Recover, At, Show}
-use Rattle.xa_manager.specs.declared.listing.Listing.{Listing}
-use Rattle.xa_manager.specs.declared.response.Response.{Response}
-use Rattle.xa_manager.specs.declared.response.Response.TheVariants.{Silent, Begun, NumbersSpent, Worked, Voted, Decided}
-use Rattle.xa_manager.specs.declared.response.Response.TheVariants.{Closed, Ended, Limited, Stopped}
-use Rattle.xa_manager.specs.declared.response.Response.TheVariants.{Recovered, Replied, Shown}
-use Rattle.xa_manager.specs.declared.stage.Stage.{Stage}
-use Rattle.xa_manager.specs.declared.stage.Stage.TheVariants.{Working, Ready, Voted as VotedStage, Over}
-use Rattle.xa_manager.specs.declared.vote_answer.VoteAnswer.{VoteAnswer}
-use Rattle.xa_manager.specs.declared.vote_answer.VoteAnswer.TheVariants.{Ready as ToldReady, OnePhase as ToldOnePhase}
-use Rattle.xa_manager.specs.declared.vote_answer.VoteAnswer.TheVariants.{Nothing as ToldNothing, No as ToldNo}
-use Rattle.xa_manager.specs.Ledger.{stage_of, with_stage, IsTransactionOf}
-use Rattle.xa_manager.specs.Limits.{LimitsAlone, StartsAnew}
-use Rattle.xa_manager.specs.Said.{IsGiven, IsListed}
+use Rattle.xa_manager.specs.declared.{call.Call.Call, listing.Listing.Listing, response.Response.Response}
+use Rattle.xa_manager.specs.declared.stage.Stage.{Stage, TheVariants.{Working, Ready, Voted as VotedStage, Over}}
+use Rattle.xa_manager.specs.{declared.vote_answer.VoteAnswer.VoteAnswer, Ledger.{stage_of, with_stage, IsTransactionOf}}
+use Rattle.xa_manager.specs.{Limits.{LimitsAlone, StartsAnew}, Said.{IsGiven, IsListed}}
 
 -- a transaction manager, as contracts see it: how many stores it has, the states of the numbers, the stage of
 -- each transaction, what the coordinator has open in each store, its session in each, and the other client's
@@ -86,31 +56,31 @@ pub record SpeaksAlone {C T : Type 0} (view : C → SessionView) (decisions : Li
 
 -- what PREPARE answers for a vote
 abbrev pub vote_answer_of : Vote → VoteAnswer
-vote_answer_of (VoteReady prepared) = ToldReady
-vote_answer_of (VoteOnePhase prepared) = ToldOnePhase
-vote_answer_of (VoteNo prepared store cause) = ToldNo store cause
-vote_answer_of VoteNothing = ToldNothing
+vote_answer_of (Vote.Ready prepared) = VoteAnswer.Ready
+vote_answer_of (Vote.OnePhase prepared) = VoteAnswer.OnePhase
+vote_answer_of (Vote.No prepared store cause) = VoteAnswer.No store cause
+vote_answer_of Vote.Nothing = VoteAnswer.Nothing
 
 -- a transaction's stage after its vote
 abbrev pub stage_after : Vote → Stage
-stage_after (VoteReady prepared) = Ready prepared
-stage_after (VoteOnePhase prepared) = VotedStage prepared
-stage_after (VoteNo prepared store cause) = VotedStage prepared
-stage_after VoteNothing = Over
+stage_after (Vote.Ready prepared) = Ready prepared
+stage_after (Vote.OnePhase prepared) = VotedStage prepared
+stage_after (Vote.No prepared store cause) = VotedStage prepared
+stage_after Vote.Nothing = Over
 
 -- a transaction of the next number was begun, of the coordinator `c`, in which no store takes part, and is undecided
 pub record IsBegun {C T : Type 0} (old : WholeManager C T) (response : Response) (new : WholeManager C T) : Type 0 where
   pub transaction : Transaction
   pub named : IsTransactionOf old.stores (length old.stages + 1) transaction
   pub nobody : (store : ℕ) → takes_part transaction.participants store ≡ false
-  pub told : response ≡ Begun (length old.stages + 1)
+  pub told : response ≡ Response.Begun (length old.stages + 1)
   pub stands : new
       ≡ record old { decisions = old.decisions ++ Undecided ∷ []; stages = old.stages ++ Working transaction ∷ [] }
 
 -- all numbers were given, so BEGIN gives none and changes nothing
 pub record IsSpent {C T : Type 0} (old : WholeManager C T) (response : Response) (new : WholeManager C T) : Type 0 where
   pub all : length old.decisions ≡ most_numbers
-  pub told : response ≡ NumbersSpent
+  pub told : response ≡ Response.NumbersSpent
   pub stands : new ≡ old
 
 -- a transaction that takes work worked in a store, with this result; in the other stores nothing changed, nor
@@ -123,7 +93,7 @@ pub record HasWorked {C T : Type 0} (view : C → SessionView) (number store : �
   pub answer : Result Reply WorkFault
   pub known : store < old.stores
   pub working : stage_of old.stages number ≡ Some (Working before)
-  pub told : response ≡ Worked answer
+  pub told : response ≡ Response.Worked answer
   pub keeps : KeepsOthers store before after
   pub works : WorksAs view old.branches new.branches before after store statement answer old.sessions new.sessions
   pub others : ChangesAt store old.sessions new.sessions
@@ -138,7 +108,7 @@ pub record HasVoted {C T : Type 0} (view : C → SessionView) (number : ℕ) (ol
   pub before : Transaction
   pub vote : Vote
   pub working : stage_of old.stages number ≡ Some (Working before)
-  pub told : response ≡ Voted (vote_answer_of vote)
+  pub told : response ≡ Response.Voted (vote_answer_of vote)
   pub votes : VotesAs view before vote old.sessions new.sessions
   pub marks : KeepsOpen before.participants (asked_by_vote vote) old.branches new.branches
   pub marked_there : KeepsMark before vote old.branches new.branches
@@ -150,9 +120,9 @@ pub record IsDecided {C T : Type 0} (number : ℕ) (old : WholeManager C T) (res
   pub prepared : Prepared
   pub ready : stage_of old.stages number ≡ Some (Ready prepared)
   pub outcome :
-      ((may_be_decided old.decisions number ≡ true) × (response ≡ Decided)
+      ((may_be_decided old.decisions number ≡ true) × (response ≡ Response.Decided)
       × (new ≡ record old { decisions = with_decided old.decisions number }))
-      ⊎ ((may_be_decided old.decisions number ≡ false) × (response ≡ Closed) × (new ≡ old))
+      ⊎ ((may_be_decided old.decisions number ≡ false) × (response ≡ Response.Closed) × (new ≡ old))
 
 -- a transaction was to end by this closing, and this is how it ended; it is over now. What is open stays so in the
 -- stores that take no part or weren't asked
@@ -160,7 +130,7 @@ pub record HasEnded {C T : Type 0} (view : C → SessionView) (number : ℕ) (tr
     (old : WholeManager C T)
     (response : Response) (new : WholeManager C T) : Type 0 where
   pub ending : Ending
-  pub told : response ≡ Ended ending
+  pub told : response ≡ Response.Ended ending
   pub ends : EndsAs view old.branches transaction closing ending old.sessions new.sessions
   pub marks : KeepsOpen transaction.participants (asked_by_ending ending) old.branches new.branches
   pub alone : SpeaksAlone view old.decisions (with_stage old.stages number Over) old new
@@ -182,13 +152,13 @@ pub record IsAbandoned {C T : Type 0} (view : C → SessionView) (number : ℕ) 
     (new : WholeManager C T) : Type 0 where
   pub before : Transaction
   pub working : stage_of old.stages number ≡ Some (Working before)
-  pub ends : HasEnded view number before RollBack old response new
+  pub ends : HasEnded view number before Closing.RollBack old response new
 
 -- the coordinator's session in a store passes on so many calls, and no session got a statement
 pub record IsLimited {S T : Type 0} (store calls : ℕ) (old : WholeManager (Fused S) T) (response : Response)
     (new : WholeManager (Fused S) T) : Type 0 where
   pub known : store < old.stores
-  pub told : response ≡ Limited
+  pub told : response ≡ Response.Limited
   pub limited : LimitsAlone store calls old.sessions new.sessions
   pub stands : new ≡ record old { sessions = new.sessions }
 
@@ -196,7 +166,7 @@ pub record IsLimited {S T : Type 0} (store calls : ℕ) (old : WholeManager (Fus
 -- session passes on 2^64 - 1 calls
 pub record IsStopped {S T : Type 0} (old : WholeManager (Fused S) T) (response : Response)
     (new : WholeManager (Fused S) T) : Type 0 where
-  pub told : response ≡ Stopped
+  pub told : response ≡ Response.Stopped
   pub anew : StartsAnew new.branches new.sessions
   pub within : map (λ (s : Fused S). s.inner) new.sessions ≡ map (λ (s : Fused S). s.inner) old.sessions
   pub stands : new ≡ record old { branches = new.branches; sessions = new.sessions }
@@ -206,7 +176,7 @@ pub record IsStopped {S T : Type 0} (old : WholeManager (Fused S) T) (response :
 pub record HasRecovered {C T : Type 0} (view : C → SessionView) (old : WholeManager C T) (response : Response)
     (new : WholeManager C T) : Type 0 where
   pub outcome : Result Report RecoverFault
-  pub told : response ≡ Recovered outcome
+  pub told : response ≡ Response.Recovered outcome
   pub done : IfOk outcome (λ report. Recovers view new.decisions (codes "c") report old.sessions new.sessions)
   pub broken : IfErr outcome (λ fault. BreaksOff view new.decisions
       (codes "c") fault old.branches new.branches old.sessions new.sessions)
@@ -222,7 +192,7 @@ pub record HasReplied {C T : Type 0} (view : T → SessionView) (store : ℕ) (s
     (new : WholeManager C T) : Type 0 where
   pub answer : Result Reply Fault
   pub known : store < old.stores
-  pub told : response ≡ Replied (converts statement) answer
+  pub told : response ≡ Response.Replied (converts statement) answer
   pub replies : AtStore view store (IsGiven statement answer) old.other_clients new.other_clients
   pub others : ChangesAt store old.other_clients new.other_clients
   pub stands : new ≡ record old { other_clients = new.other_clients }
@@ -232,7 +202,7 @@ pub record IsShown {C T : Type 0} (view : T → SessionView) (old : WholeManager
     (new : WholeManager C T) : Type 0 where
   pub listing : Listing
   pub count : length listing.answers.items ≡ old.stores
-  pub told : response ≡ Shown listing
+  pub told : response ≡ Response.Shown listing
   pub each : EachStore view (IsListed listing.answers.items) old.other_clients new.other_clients
   pub stands : new ≡ record old { other_clients = new.other_clients }
 
@@ -240,17 +210,17 @@ pub record IsShown {C T : Type 0} (view : T → SessionView) (old : WholeManager
 abbrev pub Carries : {S T : Type 0} → (Fused S → SessionView) → (T → SessionView) → WholeManager (Fused S) T → Call
     → Response → WholeManager (Fused S) T
     → Type 0
-Carries view view' old SilentCall response new = (response ≡ Silent) × (new ≡ old)
-Carries view view' old (Unread place) response new = ⊥
-Carries view view' old Begin response new = IsBegun old response new ⊎ IsSpent old response new
-Carries view view' old (Work number store statement) response new =
+Carries view view' old Call.Silent response new = (response ≡ Response.Silent) × (new ≡ old)
+Carries view view' old (Call.Unread place) response new = ⊥
+Carries view view' old Call.Begin response new = IsBegun old response new ⊎ IsSpent old response new
+Carries view view' old (Call.Work number store statement) response new =
     HasWorked view number store statement old response new
-Carries view view' old (Prepare number) response new = HasVoted view number old response new
-Carries view view' old (Decide number) response new = IsDecided number old response new
-Carries view view' old (Finish number) response new = IsFinished view number old response new
-Carries view view' old (Abandon number) response new = IsAbandoned view number old response new
-Carries view view' old (Fail store calls) response new = IsLimited store calls old response new
-Carries view view' old Stop response new = IsStopped old response new
-Carries view view' old Recover response new = HasRecovered view old response new
-Carries view view' old (At store statement) response new = HasReplied view' store statement old response new
-Carries view view' old Show response new = IsShown view' old response new
+Carries view view' old (Call.Prepare number) response new = HasVoted view number old response new
+Carries view view' old (Call.Decide number) response new = IsDecided number old response new
+Carries view view' old (Call.Finish number) response new = IsFinished view number old response new
+Carries view view' old (Call.Abandon number) response new = IsAbandoned view number old response new
+Carries view view' old (Call.Fail store calls) response new = IsLimited store calls old response new
+Carries view view' old Call.Stop response new = IsStopped old response new
+Carries view view' old Call.Recover response new = HasRecovered view old response new
+Carries view view' old (Call.At store statement) response new = HasReplied view' store statement old response new
+Carries view view' old Call.Show response new = IsShown view' old response new

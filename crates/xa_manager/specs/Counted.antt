@@ -5,10 +5,7 @@
 use Rattle.std.specs.Prelude.{◌≡◌, true, Result, OnOk, OnErr}
 use Rattle.xa_xid.specs.declared.statement.Statement.{Statement}
 use Rattle.xa_server.specs.State.{State}
-use Rattle.xa_session.specs.Replay.{state_after}
-use Rattle.xa_session.specs.View.{SessionView}
-use Rattle.xa_session.specs.declared.answer.Answer.{Answer}
-use Rattle.xa_session.specs.declared.fault.Fault.{Fault}
+use Rattle.xa_session.specs.{Replay.state_after, View.SessionView, declared.{answer.Answer.Answer, fault.Fault.Fault}}
 use Rattle.xa_coordinator.specs.Lasting.{own_view, other_alone, history_of}
 use Rattle.xa_manager.specs.declared.counted_store.CountedStore.{CountedStore}
 

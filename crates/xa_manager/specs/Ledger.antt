@@ -5,8 +5,7 @@
 --     IsTransactionOf  the transaction of a number
 use Rattle.std.specs.Prelude.{◌≡◌, ℕ, Option, Some, None, if◌then◌else◌, ◌==◌, ◌-◌, List, slice_get, slice_set, codes}
 use Rattle.xa_coordinator.specs.declared.transaction.Transaction.{Transaction}
-use Rattle.xa_manager.specs.declared.stage.Stage.{Stage}
-use Rattle.xa_manager.specs.declared.stage.Stage.TheVariants.{Working, Ready, Voted, Over}
+use Rattle.xa_manager.specs.declared.stage.Stage.{Stage, TheVariants.{Working, Ready, Voted, Over}}
 
 -- the stage of the transaction of this number; numbers are given from 1 on
 unfoldable pub stage_of : List Stage → ℕ → Option Stage

@@ -3,9 +3,7 @@
 --     LimitsAlone      only one store's session got a new limit, and nothing else changed of the sessions
 --     StartsAnew       nothing is open in any store, and each session passes on 2 ^ 64 - 1 calls
 use Rattle.std.specs.Prelude.{◌≡◌, ◌<◌, ◌-◌, ◌^◌, ℕ, List, length, map, Option, Some, None, slice_get}
-use Rattle.xa_coordinator.specs.declared.fused.Fused.{Fused}
-use Rattle.xa_coordinator.specs.declared.branches.OpenBranch.{OpenBranch}
-use Rattle.xa_coordinator.specs.Stores.{ChangesAt}
+use Rattle.xa_coordinator.specs.{declared.{fused.Fused.Fused, branches.OpenBranch.OpenBranch}, Stores.ChangesAt}
 
 -- a store's session passes on so many calls, and then returns out of memory for each
 abbrev pub Passes : {S : Type 0} → (store calls : ℕ) → List (Fused S) → Type 0

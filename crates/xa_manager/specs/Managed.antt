@@ -2,8 +2,7 @@
 --     whole_of   its whole
 use Rattle.std.specs.Prelude.{vec_len}
 use Rattle.xa_coordinator.specs.declared.speak.Speak.{Ghosts as SpeakOf}
-use Rattle.xa_manager.specs.Carried.{WholeManager}
-use Rattle.xa_manager.specs.declared.manager.Manager.{Manager}
+use Rattle.xa_manager.specs.{Carried.WholeManager, declared.manager.Manager.Manager}
 
 -- a manager as definitions see it: how many stores it has, and all else as it is
 abbrev pub whole_of : {C T : Type 0} {session : SpeakOf C} {other_client : SpeakOf T} → Manager C T session other_client

@@ -1,12 +1,10 @@
 -- The passes of stores.
 --     AreOf            passes of stores, one of each
 --     AreNew           stores that hold nothing, and passes that have seen nothing
-use Rattle.std.specs.Prelude.{◌≡◌, List, All}
-use Rattle.std.specs.List.{AllZip}
+use Rattle.std.specs.{Prelude.{◌≡◌, List, All}, List.AllZip}
 use Rattle.decision_log.specs.Known.{newcomer}
 use Rattle.xa_server.specs.State.{no_state}
-use Rattle.xa_store.specs.Passes.{Pass, identity_of, log_of, known_of}
-use Rattle.xa_store.specs.declared.store.Store.{Store}
+use Rattle.xa_store.specs.{Passes.{Pass, identity_of, log_of, known_of}, declared.store.Store.Store}
 
 -- each pass is of the store in its place
 abbrev pub AreOf : List Store → List Pass → Type 0

@@ -5,22 +5,16 @@
 --     row_line         the line of a row, with its committed value
 --     rows_text        the rows of each store
 use Rattle.std.specs.Prelude.{◌≡◌, ℕ, ◌+◌, nat_eq, slice_get, if◌then◌else◌, Option, Some, None, List, [], ◌∷◌, ◌++◌}
-use Rattle.std.specs.Prelude.{codes, decimal}
-use Rattle.std.specs.List.{flat_map}
-use Rattle.std.specs.BTreeSet.{insert_key}
-use Rattle.xa_xid.specs.Xid.{Text, bytes_cmp}
-use Rattle.xa_xid.specs.XidText.{part_text}
-use Rattle.xa_xid.specs.declared.statement.Statement.{Statement}
-use Rattle.xa_xid.specs.declared.statement.Statement.TheVariants.{Get, Put, Del}
+use Rattle.std.specs.{Prelude.{codes, decimal}, List.flat_map, BTreeSet.insert_key}
+use Rattle.xa_xid.specs.{Xid.{Text, bytes_cmp}, XidText.part_text, declared.statement.Statement.Statement}
 use Rattle.xa_server.specs.State.{State, committed_value}
-use Rattle.xa_manager.specs.declared.call.Call.{Call}
-use Rattle.xa_manager.specs.declared.call.Call.TheVariants.{Work, At}
+use Rattle.xa_manager.specs.declared.call.Call.{Call, TheVariants.{Work, At}}
 
 -- the key that a statement names; none if it isn't GET, PUT or DEL
 abbrev pub key_in : Statement → Option (List ℕ)
-key_in (Get key) = Some key
-key_in (Put key value) = Some key
-key_in (Del key) = Some key
+key_in (Statement.Get key) = Some key
+key_in (Statement.Put key value) = Some key
+key_in (Statement.Del key) = Some key
 key_in statement = None
 
 -- the key that a call names in a store; none if it names none there

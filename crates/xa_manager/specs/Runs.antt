@@ -11,22 +11,12 @@
 --     passed           how many calls of a session were passed on
 --     IsGiven          how many calls the coordinator's session of each store passed on in a run (`passed`)
 use Rattle.std.specs.Prelude.{◌≡◌, ◌-◌, ◌^◌, ℕ, Bool, true, false, Err, List, [], ◌∷◌, ◌++◌, All, map}
-use Rattle.xa_coordinator.specs.declared.ending.Ending.TheVariants.{Unfinished}
-use Rattle.xa_coordinator.specs.declared.fault.Cause.{Cause}
-use Rattle.xa_coordinator.specs.declared.fault.Cause.TheVariants.{Session as BySession, Refused as ByRefusal}
-use Rattle.xa_coordinator.specs.declared.fault.RecoverFault.TheVariants.{NoMemory, Session as SessionOf}
-use Rattle.xa_coordinator.specs.declared.fault.WorkFault.TheVariants.{Session as SessionAtWork}
-use Rattle.xa_coordinator.specs.declared.fused.Fused.{Fused}
-use Rattle.xa_coordinator.specs.Lasting.{own_view}
-use Rattle.xa_coordinator.specs.declared.store.LastingStore.{LastingStore}
-use Rattle.xa_manager.specs.declared.call.Call.{Call}
-use Rattle.xa_manager.specs.declared.response.Response.{Response}
-use Rattle.xa_manager.specs.declared.response.Response.TheVariants.{Worked, Voted, Ended, Recovered, Replied}
-use Rattle.xa_manager.specs.declared.vote_answer.VoteAnswer.TheVariants.{No}
-use Rattle.xa_manager.specs.Beside.{BeginsBeside, PerformsBeside}
-use Rattle.xa_manager.specs.Carried.{WholeManager}
-use Rattle.xa_manager.specs.declared.counted_store.CountedStore.{CountedStore}
-use Rattle.xa_manager.specs.Counted.{own_of, other_of}
+use Rattle.xa_coordinator.specs.{declared.{ending.Ending.TheVariants.Unfinished, fault.Cause.Cause}, Lasting.own_view}
+use Rattle.xa_coordinator.specs.declared.{fault.RecoverFault.RecoverFault, store.LastingStore.LastingStore}
+use Rattle.xa_coordinator.specs.declared.{fault.WorkFault.TheVariants.Session as SessionAtWork, fused.Fused.Fused}
+use Rattle.xa_manager.specs.declared.{call.Call.Call, response.Response.Response, vote_answer.VoteAnswer.TheVariants.No}
+use Rattle.xa_manager.specs.{declared.counted_store.CountedStore.CountedStore, Beside.{BeginsBeside, PerformsBeside}}
+use Rattle.xa_manager.specs.{Carried.WholeManager, Counted.{own_of, other_of}}
 
 -- a manager whose sessions are stores that note when memory was refused, and hold the other clients' sessions; no call
 -- gives a statement to the manager's own list of other clients (`CarriesBeside`)
@@ -67,18 +57,18 @@ pub record IsRun (stores : ℕ) (calls : List Call) (responses : List Response) 
 
 -- whether the cause is a session's fault, and not a refusal
 abbrev pub is_of_session : Cause → Bool
-is_of_session (BySession fault) = true
-is_of_session (ByRefusal error) = false
+is_of_session (Cause.Session fault) = true
+is_of_session (Cause.Refused error) = false
 
 -- the response tells that a session didn't answer a statement, or that memory was refused for a recovery's report;
 -- the answers in the list of a SHOW aren't looked at
 abbrev pub is_unanswered : Response → Bool
-is_unanswered (Worked (Err (SessionAtWork fault))) = true
-is_unanswered (Voted (No store cause)) = is_of_session cause
-is_unanswered (Ended (Unfinished store cause)) = is_of_session cause
-is_unanswered (Recovered (Err (SessionOf store fault))) = true
-is_unanswered (Recovered (Err NoMemory)) = true
-is_unanswered (Replied convert (Err fault)) = true
+is_unanswered (Response.Worked (Err (SessionAtWork fault))) = true
+is_unanswered (Response.Voted (No store cause)) = is_of_session cause
+is_unanswered (Response.Ended (Unfinished store cause)) = is_of_session cause
+is_unanswered (Response.Recovered (Err (RecoverFault.Session store fault))) = true
+is_unanswered (Response.Recovered (Err RecoverFault.NoMemory)) = true
+is_unanswered (Response.Replied convert (Err fault)) = true
 is_unanswered response = false
 
 -- no response tells that a session didn't answer a statement

@@ -4,12 +4,9 @@
 --     IsGiven          a session was given a statement, with this result
 --     IsListed         a session was given XA RECOVER, and answered as the list has it
 use Rattle.std.specs.Prelude.{◌≡◌, ℕ, true, Some, Result, Ok, Err, List, slice_get}
-use Rattle.xa_xid.specs.declared.statement.Statement.{Statement}
-use Rattle.xa_xid.specs.declared.statement.Statement.TheVariants.{Recover}
+use Rattle.xa_xid.specs.declared.statement.Statement.{Statement, TheVariants.Recover}
 use Rattle.xa_server.specs.declared.reply.Reply.{Reply}
-use Rattle.xa_session.specs.declared.fault.Fault.{Fault}
-use Rattle.xa_session.specs.declared.answer.Answer.{Answer}
-use Rattle.xa_session.specs.Answer.{IsAnswered, Fails}
+use Rattle.xa_session.specs.{declared.{fault.Fault.Fault, answer.Answer.Answer}, Answer.{IsAnswered, Fails}}
 use Rattle.xa_session.specs.View.{SessionView, StaysOfLog}
 
 -- the reply of an answer, or its fault

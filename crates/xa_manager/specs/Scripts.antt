@@ -4,31 +4,20 @@
 --     faults_from      the text of the lines that are refused
 --     IsStopsText      the text of a script, and how the script ended
 use Rattle.std.specs.Prelude.{◌≡◌, ◌≢◌, ℕ, ◌+◌, Bool, true, false, if◌then◌else◌, Option, List, [], ◌∷◌, ◌++◌, map}
-use Rattle.std.specs.Prelude.{codes, decimal, IfSome}
-use Rattle.std.specs.Io.KnownBytes.{Keeps, Appends}
-use Rattle.xa_lines.specs.Received.{received_line}
-use Rattle.xa_lines.specs.Script.{lines_of}
-use Rattle.xa_lines.specs.Transcript.{AppendsPrefix}
+use Rattle.std.specs.{Prelude.{codes, decimal, IfSome}, Io.KnownBytes.{Keeps, Appends}}
+use Rattle.xa_lines.specs.{Received.received_line, Script.lines_of, Transcript.AppendsPrefix}
 use Rattle.xa_lines.specs.declared.script_fault.ScriptFault.{ScriptFault}
 use Rattle.xa_lines.specs.declared.script_fault.ScriptFault.TheVariants.{Write, NoMemory, Full, GateShut, ThreadRefused}
-use Rattle.xa_manager.specs.declared.call.Call.{Call}
-use Rattle.xa_manager.specs.declared.call.Call.TheVariants.{Unread as UnreadCall, Fail, Stop, Recover, Show}
-use Rattle.xa_manager.specs.declared.response.Response.{Response}
-use Rattle.xa_manager.specs.declared.response.Response.TheVariants.{Unread, UnknownStore, UnknownTransaction}
-use Rattle.xa_manager.specs.declared.response.Response.TheVariants.{WrongStage}
-use Rattle.xa_manager.specs.Served.{call_said}
-use Rattle.xa_manager.specs.Texts.{answer_text}
-use Rattle.xa_manager.specs.declared.stop_ended.Ended.{Ended}
-use Rattle.xa_manager.specs.declared.stop_ended.Ended.TheVariants.{Done, Faulty}
-use Rattle.xa_manager.specs.Runs.{Managing, IsRun, AreAnswered}
-use Rattle.xa_manager.specs.Stops.{IsShown}
+use Rattle.xa_manager.specs.declared.{call.Call.Call, response.Response.Response, stop_ended.Ended.Ended}
+use Rattle.xa_manager.specs.{declared.stop_ended.Ended.TheVariants.{Done, Faulty}, Served.call_said, Texts.answer_text}
+use Rattle.xa_manager.specs.{Runs.{Managing, IsRun, AreAnswered}, Stops.IsShown}
 
 -- in a script whose stops are shown, FAIL, STOP, RECOVER and SHOW aren't read; every other call is taken as it is
 abbrev pub taken : Call → Call
-taken (Fail store calls) = UnreadCall 0
-taken Stop = UnreadCall 0
-taken Recover = UnreadCall 0
-taken Show = UnreadCall 0
+taken (Call.Fail store calls) = Call.Unread 0
+taken Call.Stop = Call.Unread 0
+taken Call.Recover = Call.Unread 0
+taken Call.Show = Call.Unread 0
 taken call = call
 
 -- the call of a line of a script whose stops are shown (`taken`); a line that is too long isn't read
@@ -41,10 +30,10 @@ calls_of script = map call_in (lines_of script)
 
 -- whether the call was refused
 abbrev pub is_refusal : Response → Bool
-is_refusal (Unread place) = true
-is_refusal (UnknownStore store) = true
-is_refusal (UnknownTransaction number) = true
-is_refusal (WrongStage number) = true
+is_refusal (Response.Unread place) = true
+is_refusal (Response.UnknownStore store) = true
+is_refusal (Response.UnknownTransaction number) = true
+is_refusal (Response.WrongStage number) = true
 is_refusal response = false
 
 -- LINE n, and why it is refused

@@ -5,29 +5,17 @@
 --     IsRefusedCall   memory was refused for a call or for its answer
 --     IsCallAnswer    how a line may be answered
 use Rattle.std.specs.Prelude.{◌≡◌, ◌⊎◌, ℕ, Bool, true, false, None, Ok, Err, List, codes}
-use Rattle.xa_server.specs.declared.reply.Reply.{Reply}
-use Rattle.xa_server.specs.declared.reply.Reply.TheVariants.{Ok as Done, Value}
+use Rattle.xa_server.specs.declared.reply.Reply.{Reply, TheVariants.{Ok as Done, Value}}
 use Rattle.xa_session.specs.View.{SessionView}
-use Rattle.xa_coordinator.specs.declared.fused.Fused.{Fused}
-use Rattle.xa_coordinator.specs.declared.ending.Ending.TheVariants.{Committed, RolledBack}
-use Rattle.xa_coordinator.specs.declared.fault.WorkFault.TheVariants.{Lost}
+use Rattle.xa_coordinator.specs.declared.{fused.Fused.Fused, ending.Ending.Ending, fault.WorkFault.TheVariants.Lost}
 use Rattle.xa_lines.specs.Received.{Received, Whole, TooLong}
-use Rattle.xa_manager.specs.declared.call.Call.{Call}
-use Rattle.xa_manager.specs.declared.call.Call.TheVariants.{Silent, Unread}
-use Rattle.xa_manager.specs.declared.vote_answer.VoteAnswer.TheVariants.{No}
-use Rattle.xa_manager.specs.declared.response.Response.{Response}
-use Rattle.xa_manager.specs.declared.response.Response.TheVariants.{Begun}
-use Rattle.xa_manager.specs.declared.response.Response.TheVariants.{NumbersSpent, Worked, Voted, Decided, Closed, Ended}
-use Rattle.xa_manager.specs.declared.response.Response.TheVariants.{Limited, Stopped, Replied}
-use Rattle.xa_manager.specs.Calls.{call_of}
-use Rattle.xa_manager.specs.Texts.{answer_text}
-use Rattle.xa_manager.specs.Carried.{WholeManager}
-use Rattle.xa_manager.specs.Whole.{Performs}
+use Rattle.xa_manager.specs.declared.{call.Call.Call, vote_answer.VoteAnswer.TheVariants.No, response.Response.Response}
+use Rattle.xa_manager.specs.{Calls.call_of, Texts.answer_text, Carried.WholeManager, Whole.Performs}
 
 -- the call that a line is; one that is too long isn't read
 abbrev pub call_said : Received → Call
 call_said (Whole line) = call_of line
-call_said TooLong = Unread 0
+call_said TooLong = Call.Unread 0
 
 -- the answer if memory is refused (number and SQLSTATE are the manual's, ER_OUTOFMEMORY; the rest is an own
 -- rule)
@@ -42,19 +30,19 @@ is_word reply = false
 
 -- a response to a call that was carried out whose words take no memory: a fixed word or few, or TRANSACTION n
 abbrev pub has_few_words : Response → Bool
-has_few_words (Begun number) = true
-has_few_words NumbersSpent = true
-has_few_words (Worked (Ok reply)) = is_word reply
-has_few_words (Worked (Err Lost)) = true
-has_few_words (Voted (No store cause)) = false
-has_few_words (Voted vote) = true
-has_few_words Decided = true
-has_few_words Closed = true
-has_few_words (Ended Committed) = true
-has_few_words (Ended RolledBack) = true
-has_few_words Limited = true
-has_few_words Stopped = true
-has_few_words (Replied convert (Ok reply)) = is_word reply
+has_few_words (Response.Begun number) = true
+has_few_words Response.NumbersSpent = true
+has_few_words (Response.Worked (Ok reply)) = is_word reply
+has_few_words (Response.Worked (Err Lost)) = true
+has_few_words (Response.Voted (No store cause)) = false
+has_few_words (Response.Voted vote) = true
+has_few_words Response.Decided = true
+has_few_words Response.Closed = true
+has_few_words (Response.Ended Ending.Committed) = true
+has_few_words (Response.Ended Ending.RolledBack) = true
+has_few_words Response.Limited = true
+has_few_words Response.Stopped = true
+has_few_words (Response.Replied convert (Ok reply)) = is_word reply
 has_few_words response = false
 
 -- memory was refused for a call, and no session got a statement and nothing changed; or the call was refused by the
@@ -63,7 +51,7 @@ has_few_words response = false
 pub record IsRefusedCall {S T : Type 0} (view : S → SessionView) (view' : T → SessionView)
     (old : WholeManager (Fused S) T) (call : Call) (text : List ℕ)
     (new : WholeManager (Fused S) T) : Type 0 where
-  pub speaks : call ≡ Silent → ⊥
+  pub speaks : call ≡ Call.Silent → ⊥
   pub told : text ≡ refused_text
   pub stands : (new ≡ old) ⊎ ((response : Response) × (has_few_words response ≡ false)
       × Performs view view' old call response new)

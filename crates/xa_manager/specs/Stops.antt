@@ -11,26 +11,17 @@
 --                              after some calls of its own line, not all of that line
 --     IsShown          the text of calls of which none is faulty
 use Rattle.std.specs.Prelude.{◌≡◌, ℕ, zero, suc, ◌+◌, ◌-◌, min, Bool, true, false, if◌then◌else◌, Some, Err, List, []}
-use Rattle.std.specs.Prelude.{◌∷◌, ◌++◌, length, take, drop, map}
-use Rattle.std.specs.Prelude.{slice_get, sum, codes, decimal}
+use Rattle.std.specs.Prelude.{◌∷◌, ◌++◌, length, take, drop, map, slice_get, sum, codes, decimal}
 use Rattle.std.specs.List.{AllZip, concat}
-use Rattle.xa_coordinator.specs.declared.fault.RecoverFault.TheVariants.{NoMemory}
-use Rattle.xa_coordinator.specs.declared.fused.Fused.{Fused}
-use Rattle.xa_manager.specs.declared.call.Call.{Call}
-use Rattle.xa_manager.specs.declared.call.Call.TheVariants.{Silent, At, Fail, Stop as StopCall, Recover}
-use Rattle.xa_manager.specs.declared.response.Response.{Response}
-use Rattle.xa_manager.specs.declared.response.Response.TheVariants.{Recovered}
-use Rattle.xa_manager.specs.Texts.{answer_text}
-use Rattle.xa_manager.specs.declared.counted_store.CountedStore.{CountedStore}
-use Rattle.xa_manager.specs.declared.stop.Stop.{Stop}
-use Rattle.xa_manager.specs.Counted.{state_in}
-use Rattle.xa_manager.specs.Rows.{rows_text}
+use Rattle.xa_coordinator.specs.declared.{fault.RecoverFault.RecoverFault, fused.Fused.Fused}
+use Rattle.xa_manager.specs.{declared.{call.Call.Call, response.Response.Response}, Counted.state_in, Rows.rows_text}
+use Rattle.xa_manager.specs.{declared.{counted_store.CountedStore.CountedStore, stop.Stop.Stop}, Texts.answer_text}
 use Rattle.xa_manager.specs.Runs.{Managing, IsAnswered, IsRun, IsGiven, is_unanswered, AreAnswered}
 
 -- whether the call is the coordinator's: not another client's, and not that of a blank line or a comment
 abbrev pub is_own : Call → Bool
-is_own Silent = false
-is_own (At store statement) = false
+is_own Call.Silent = false
+is_own (Call.At store statement) = false
 is_own call = true
 
 -- how much greater each number of the first list is than that of the second at its place, which is taken as 0 if there
@@ -81,21 +72,21 @@ limits_for (there ∷ made) calls = min there calls ∷ limits_for made (calls -
 -- a call FAIL k AFTER j for each of the limits j; the first is of this store k, then k + 1, ..
 unfoldable pub fails_from : ℕ → List ℕ → List Call
 fails_from store [] = []
-fails_from store (limit ∷ limits) = Fail store limit ∷ fails_from (store + 1) limits
+fails_from store (limit ∷ limits) = Call.Fail store limit ∷ fails_from (store + 1) limits
 
 -- STOP was answered, and then RECOVER, for which sessions answered each statement; the text is the answer to RECOVER
 pub record IsRecovered (old : Managing) (answer : List ℕ) (new : Managing) : Type 0 where
   pub stopped : Response
   pub mid : Managing
-  pub stops : IsAnswered old StopCall stopped mid
+  pub stops : IsAnswered old Call.Stop stopped mid
   pub response : Response
-  pub recovers : IsAnswered mid Recover response new
+  pub recovers : IsAnswered mid Call.Recover response new
   pub answered : is_unanswered response ≡ false
   pub text_is : answer ≡ answer_text new.decisions response
 
 -- calls, and after them STOP and RECOVER
 abbrev pub ended_calls : List Call → List Call
-ended_calls calls = calls ++ StopCall ∷ Recover ∷ []
+ended_calls calls = calls ++ Call.Stop ∷ Call.Recover ∷ []
 
 -- what is carried out of the line at a place until so many calls were made, divided among the stores: FAIL
 -- for each store, and the line; nothing if no call was made in it
@@ -115,7 +106,7 @@ pub record IsLeft (stores : ℕ) (script told : List Call) (text : List ℕ) : T
   pub response : Response
   pub last : Managing
   pub run : IsRun stores told (responses ++ response ∷ []) last
-  pub remembered : response ≡ Recovered (Err NoMemory) → ⊥
+  pub remembered : response ≡ Response.Recovered (Err RecoverFault.NoMemory) → ⊥
   pub answered : is_unanswered response ≡ false
   pub text_is : text ≡ answer_text last.decisions response
       ++ rows_text script 0 (map (λ (s : Fused CountedStore). state_in s.inner) last.sessions)

@@ -12,31 +12,12 @@
 use Rattle.std.specs.Prelude.{ℕ, ◌+◌, Bool, true, false, if◌then◌else◌, Result, Ok, Err, List, [], ◌∷◌, ◌++◌, codes}
 use Rattle.std.specs.Prelude.{decimal}
 use Rattle.xa_server.specs.declared.reply.Reply.{Reply}
-use Rattle.xa_session.specs.declared.fault.Fault.{Fault}
-use Rattle.xa_session.specs.declared.fault.Fault.TheVariants.{Overtaken, Full, NoMemory, Busy}
+use Rattle.xa_session.specs.declared.fault.Fault.{Fault, TheVariants.{Overtaken, Full, NoMemory, Busy}}
 use Rattle.xa_lines.specs.Printed.{reply_text, error_text, syntax_text}
-use Rattle.xa_coordinator.specs.declared.fault.Cause.{Cause}
-use Rattle.xa_coordinator.specs.declared.fault.Cause.TheVariants.{Session as SessionCause, Refused as RefusedCause}
-use Rattle.xa_coordinator.specs.declared.fault.WorkFault.{WorkFault}
-use Rattle.xa_coordinator.specs.declared.fault.WorkFault.TheVariants.{Session as WorkSession, Refused as WorkRefused}
-use Rattle.xa_coordinator.specs.declared.fault.WorkFault.TheVariants.{Lost}
-use Rattle.xa_coordinator.specs.declared.ending.Ending.{Ending}
-use Rattle.xa_coordinator.specs.declared.ending.Ending.TheVariants.{Committed, RolledBack, Hazard, Unfinished}
-use Rattle.xa_coordinator.specs.declared.report.Report.{Report}
-use Rattle.xa_coordinator.specs.declared.fault.RecoverFault.{RecoverFault}
-use Rattle.xa_coordinator.specs.declared.fault.RecoverFault.TheVariants.{Session as RecoverSession, StillPrepared}
-use Rattle.xa_coordinator.specs.declared.fault.RecoverFault.TheVariants.{NoMemory as RecoverNoMemory}
-use Rattle.xa_coordinator.specs.declared.fault.RecoverFault.TheVariants.{Refused as RecoverRefused}
-use Rattle.xa_coordinator.specs.declared.decisions.Decision.{Decision}
+use Rattle.xa_coordinator.specs.declared.fault.{Cause.Cause, WorkFault.WorkFault, RecoverFault.RecoverFault}
+use Rattle.xa_coordinator.specs.declared.{ending.Ending.Ending, report.Report.Report, decisions.Decision.Decision}
 use Rattle.xa_coordinator.specs.declared.decisions.Decision.TheVariants.{Undecided, Decided, Closed}
-use Rattle.xa_manager.specs.declared.vote_answer.VoteAnswer.{VoteAnswer}
-use Rattle.xa_manager.specs.declared.vote_answer.VoteAnswer.TheVariants.{Ready, OnePhase, Nothing, No}
-use Rattle.xa_manager.specs.declared.response.Response.{Response}
-use Rattle.xa_manager.specs.declared.response.Response.TheVariants.{Silent, Unread, UnknownStore, UnknownTransaction}
-use Rattle.xa_manager.specs.declared.response.Response.TheVariants.{WrongStage, Begun, NumbersSpent, Worked}
-use Rattle.xa_manager.specs.declared.response.Response.TheVariants.{Voted, Decided as WasDecided, Closed as WasClosed}
-use Rattle.xa_manager.specs.declared.response.Response.TheVariants.{Ended, Limited, Stopped, Recovered}
-use Rattle.xa_manager.specs.declared.response.Response.TheVariants.{Replied, Shown}
+use Rattle.xa_manager.specs.declared.{vote_answer.VoteAnswer.VoteAnswer, response.Response.Response}
 
 -- why a session didn't answer; a session that tries again is never left overtaken or busy
 abbrev pub fault_text : Fault → List ℕ
@@ -47,22 +28,22 @@ fault_text Busy = codes "busy"
 
 -- why a store didn't carry a statement out
 abbrev pub cause_text : Cause → List ℕ
-cause_text (SessionCause fault) = fault_text fault
-cause_text (RefusedCause error) = error_text error
+cause_text (Cause.Session fault) = fault_text fault
+cause_text (Cause.Refused error) = error_text error
 
 -- what is written for a call of WORK: the reply, or why there is none
 abbrev pub worked_text : Result Reply WorkFault → List ℕ
 worked_text (Ok reply) = reply_text false reply
-worked_text (Err (WorkSession fault)) = codes "FAULT: " ++ fault_text fault
-worked_text (Err (WorkRefused error)) = codes "NOT STARTED: " ++ error_text error
-worked_text (Err Lost) = codes "LOST"
+worked_text (Err (WorkFault.Session fault)) = codes "FAULT: " ++ fault_text fault
+worked_text (Err (WorkFault.Refused error)) = codes "NOT STARTED: " ++ error_text error
+worked_text (Err WorkFault.Lost) = codes "LOST"
 
 -- what is written for a call of PREPARE: what the stores voted
 abbrev pub vote_text : VoteAnswer → List ℕ
-vote_text Ready = codes "READY"
-vote_text OnePhase = codes "ONE PHASE"
-vote_text Nothing = codes "NOTHING"
-vote_text (No store cause) = codes "NO " ++ decimal store ++ codes ": " ++ cause_text cause
+vote_text VoteAnswer.Ready = codes "READY"
+vote_text VoteAnswer.OnePhase = codes "ONE PHASE"
+vote_text VoteAnswer.Nothing = codes "NOTHING"
+vote_text (VoteAnswer.No store cause) = codes "NO " ++ decimal store ++ codes ": " ++ cause_text cause
 
 -- the numbers of stores, each after a space
 abbrev pub stores_text : List ℕ → List ℕ
@@ -71,18 +52,18 @@ stores_text (store ∷ stores) = codes " " ++ decimal store ++ stores_text store
 
 -- what is written for FINISH and ABANDON: how the transaction ended
 abbrev pub ending_text : Ending → List ℕ
-ending_text Committed = codes "COMMITTED"
-ending_text RolledBack = codes "ROLLED BACK"
-ending_text (Hazard stores) = codes "HAZARD" ++ stores_text stores.items
-ending_text (Unfinished store cause) = codes "UNFINISHED " ++ decimal store ++ codes ": " ++ cause_text cause
+ending_text Ending.Committed = codes "COMMITTED"
+ending_text Ending.RolledBack = codes "ROLLED BACK"
+ending_text (Ending.Hazard stores) = codes "HAZARD" ++ stores_text stores.items
+ending_text (Ending.Unfinished store cause) = codes "UNFINISHED " ++ decimal store ++ codes ": " ++ cause_text cause
 
 -- what is written if RECOVER failed: the store and why
 abbrev pub recover_fault_text : RecoverFault → List ℕ
-recover_fault_text (RecoverSession store fault) =
+recover_fault_text (RecoverFault.Session store fault) =
     codes "UNRECOVERED " ++ decimal store ++ codes ": " ++ fault_text fault
-recover_fault_text (StillPrepared store) = codes "STILL PREPARED " ++ decimal store
-recover_fault_text RecoverNoMemory = codes "UNRECOVERED: out of memory"
-recover_fault_text (RecoverRefused store error) =
+recover_fault_text (RecoverFault.StillPrepared store) = codes "STILL PREPARED " ++ decimal store
+recover_fault_text RecoverFault.NoMemory = codes "UNRECOVERED: out of memory"
+recover_fault_text (RecoverFault.Refused store error) =
     codes "UNRECOVERED " ++ decimal store ++ codes ": " ++ error_text error
 
 -- what is written if RECOVER came to its end: what it did with branches
@@ -137,27 +118,27 @@ decisions_text decisions =
 
 -- what is written for the response to a call, without its line feed; SHOW writes these decisions too
 abbrev pub response_text : List Decision → Response → List ℕ
-response_text decisions Silent = []
-response_text decisions (Unread place) = syntax_text place
-response_text decisions (UnknownStore store) = codes "UNKNOWN STORE " ++ decimal store
-response_text decisions (UnknownTransaction number) = codes "UNKNOWN TRANSACTION " ++ decimal number
-response_text decisions (WrongStage number) = codes "WRONG STAGE " ++ decimal number
-response_text decisions (Begun number) = codes "TRANSACTION " ++ decimal number
-response_text decisions NumbersSpent = codes "NUMBERS SPENT"
-response_text decisions (Worked worked) = worked_text worked
-response_text decisions (Voted answer) = vote_text answer
-response_text decisions WasDecided = codes "DECIDED"
-response_text decisions WasClosed = codes "CLOSED"
-response_text decisions (Ended ending) = ending_text ending
-response_text decisions Limited = codes "OK"
-response_text decisions Stopped = codes "STOPPED"
-response_text decisions (Recovered recovered) = recovered_text recovered
-response_text decisions (Replied convert answer) = replied_text convert answer
-response_text decisions (Shown listing) = stores_shown_text 0 listing.answers.items ++ decisions_text decisions
+response_text decisions Response.Silent = []
+response_text decisions (Response.Unread place) = syntax_text place
+response_text decisions (Response.UnknownStore store) = codes "UNKNOWN STORE " ++ decimal store
+response_text decisions (Response.UnknownTransaction number) = codes "UNKNOWN TRANSACTION " ++ decimal number
+response_text decisions (Response.WrongStage number) = codes "WRONG STAGE " ++ decimal number
+response_text decisions (Response.Begun number) = codes "TRANSACTION " ++ decimal number
+response_text decisions Response.NumbersSpent = codes "NUMBERS SPENT"
+response_text decisions (Response.Worked worked) = worked_text worked
+response_text decisions (Response.Voted answer) = vote_text answer
+response_text decisions Response.Decided = codes "DECIDED"
+response_text decisions Response.Closed = codes "CLOSED"
+response_text decisions (Response.Ended ending) = ending_text ending
+response_text decisions Response.Limited = codes "OK"
+response_text decisions Response.Stopped = codes "STOPPED"
+response_text decisions (Response.Recovered recovered) = recovered_text recovered
+response_text decisions (Response.Replied convert answer) = replied_text convert answer
+response_text decisions (Response.Shown listing) = stores_shown_text 0 listing.answers.items ++ decisions_text decisions
 
 -- nothing is written for a line that is no call
 abbrev pub is_silent : Response → Bool
-is_silent Silent = true
+is_silent Response.Silent = true
 is_silent response = false
 
 -- what is written for a call: its response and a line feed, or nothing for a line that is no call

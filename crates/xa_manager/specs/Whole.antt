@@ -3,18 +3,13 @@
 --     ManagerBegins    nothing has begun, and each session passes on 2^64 - 1 calls
 --     IsRefused        a call was refused, and nothing changed
 --     Performs         a call was refused or carried out
-use Rattle.std.specs.Prelude.{◌≡◌, ◌⊎◌, Some, []}
-use Rattle.std.specs.List.{AllZip}
+use Rattle.std.specs.{Prelude.{◌≡◌, ◌⊎◌, Some, []}, List.AllZip}
 use Rattle.decision_log.specs.Known.{newcomer}
 use Rattle.xa_server.specs.State.{no_state}
 use Rattle.xa_session.specs.View.{SessionView}
-use Rattle.xa_coordinator.specs.Fusing.{limited}
-use Rattle.xa_coordinator.specs.declared.fused.Fused.{Fused}
-use Rattle.xa_manager.specs.declared.call.Call.{Call}
-use Rattle.xa_manager.specs.declared.response.Response.{Response}
-use Rattle.xa_manager.specs.Carried.{WholeManager, Carries}
-use Rattle.xa_manager.specs.Limits.{StartsAnew}
-use Rattle.xa_manager.specs.Refusals.{refusal_of}
+use Rattle.xa_coordinator.specs.{Fusing.limited, declared.fused.Fused.Fused}
+use Rattle.xa_manager.specs.{declared.{call.Call.Call, response.Response.Response}, Carried.{WholeManager, Carries}}
+use Rattle.xa_manager.specs.{Limits.StartsAnew, Refusals.refusal_of}
 
 -- sessions 1 and 2 of one store, which held nothing at first; neither has seen anything yet
 pub record IsPair (first second : SessionView) : Type 0 where

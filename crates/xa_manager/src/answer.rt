@@ -1,14 +1,10 @@
 //! Carrying calls out.
 ghost use Rattle.std.specs.Prelude.{◌≡◌, ◌≤◌, ◌<◌, ◌-◌, ◌^◌, ◌⊎◌, ℕ, true, nat_lt, IfOk, OnErr, vec_len, length, map};
 ghost use Rattle.xa_coordinator.specs.Stores.{EachStore};
-ghost use Rattle.xa_manager.specs.Calls.{takes_rows, IsWritten};
-ghost use Rattle.xa_manager.specs.Carried.{vote_answer_of, stage_after as stage_with, IsBegun, IsSpent, HasWorked};
-ghost use Rattle.xa_manager.specs.Carried.{HasVoted, IsDecided, IsFinished};
-ghost use Rattle.xa_manager.specs.Carried.{IsAbandoned, IsLimited, IsStopped, HasRecovered, HasReplied, IsShown};
-ghost use Rattle.xa_manager.specs.Limits.{Passes};
-ghost use Rattle.xa_manager.specs.Managed.{whole_of};
-ghost use Rattle.xa_manager.specs.Said.{IsGiven, IsListed, reply_of};
-ghost use Rattle.xa_manager.specs.Whole.{IsRefused, Performs};
+ghost use Rattle.xa_manager.specs.{Calls.{takes_rows, IsWritten}, Carried.{vote_answer_of, stage_after as stage_with}};
+ghost use Rattle.xa_manager.specs.Carried.{IsBegun, IsSpent, HasWorked, HasVoted, IsDecided, IsFinished, IsAbandoned};
+ghost use Rattle.xa_manager.specs.{Carried.{IsLimited, IsStopped, HasRecovered, HasReplied, IsShown}, Limits.Passes};
+ghost use Rattle.xa_manager.specs.{Managed.whole_of, Said.{IsGiven, IsListed, reply_of}, Whole.{IsRefused, Performs}};
 
 use crate::{Call, Listing, Manager, Response, Stage, VoteAnswer};
 use std::alloc::{AllocError, Global};

@@ -2,10 +2,7 @@
 ghost use Rattle.std.specs.Prelude.{◌≡◌, ◌⊎◌, IfOk, OnErr, vec_len, length, map};
 ghost use Rattle.xa_coordinator.specs.Stores.{EachStore};
 ghost use Rattle.xa_manager.specs.Beside.{within, HasRepliedBeside, IsShownBeside, LeavesAlone, PerformsBeside};
-ghost use Rattle.xa_manager.specs.Calls.{IsWritten};
-ghost use Rattle.xa_manager.specs.Managed.{whole_of};
-ghost use Rattle.xa_manager.specs.Said.{IsListed};
-ghost use Rattle.xa_manager.specs.Whole.{IsRefused};
+ghost use Rattle.xa_manager.specs.{Calls.IsWritten, Managed.whole_of, Said.IsListed, Whole.IsRefused};
 
 use crate::answer::reply_in;
 use crate::{Call, Listing, Manager, Response};

@@ -33,8 +33,7 @@ impl<'r, C: Speak, T: Speak, R: Wait> BesideServer<'r, C, T, R> {
 // Proved (manager, lines-beside): A server of lines whose coordinator's sessions hold the other clients'
 //   answers each line likewise: as its call is carried out or refused, or with `ERROR 1037`.
 impl<'r, S: Beside, T: Speak, R: Wait> LineServer for BesideServer<'r, Fused<S>, T, R> {
-    ghost use Rattle.xa_manager.specs.Beside.{BeginsBeside, IsBesideAnswer};
-    ghost use Rattle.xa_manager.specs.Managed.{whole_of};
+    ghost use Rattle.xa_manager.specs.{Beside.{BeginsBeside, IsBesideAnswer}, Managed.whole_of};
 
     ghost begins = { λ server. BeginsBeside S.view S.other (whole_of server.manager) };
 

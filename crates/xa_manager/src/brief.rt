@@ -1,9 +1,7 @@
 //! Answers of few words, which take no memory.
 ghost use Rattle.std.specs.Prelude.{◌≡◌, ◌≤◌, ◌++◌, Bool, List, None, IfSome, false, length, codes, decimal};
-ghost use Rattle.xa_lines.specs.Printed.{reply_text};
-ghost use Rattle.xa_lines.specs.Answer.{bytes_of};
-ghost use Rattle.xa_manager.specs.Served.{has_few_words, is_word};
-ghost use Rattle.xa_manager.specs.Texts.{answer_text, ending_text, vote_text};
+ghost use Rattle.xa_lines.specs.{Printed.reply_text, Answer.bytes_of};
+ghost use Rattle.xa_manager.specs.{Served.{has_few_words, is_word}, Texts.{answer_text, ending_text, vote_text}};
 
 use crate::{Response, VoteAnswer};
 use arrayvec::ArrayVec;

@@ -1,8 +1,7 @@
 //! A transaction manager that answers lines.
 ghost use Rattle.std.specs.Prelude.{◌≡◌, ◌++◌, codes};
-ghost use Rattle.xa_lines.specs.Printed.{syntax_text};
+ghost use Rattle.xa_lines.specs.{Printed.syntax_text, Answer.bytes_of};
 ghost use Rattle.xa_manager.specs.Served.{refused_text};
-ghost use Rattle.xa_lines.specs.Answer.{bytes_of};
 
 use crate::brief::short_answer;
 use crate::{Call, Manager, read_call, write_response};
@@ -59,9 +58,7 @@ impl<'r, C: Speak, T: Speak, R: Wait> CallServer<'r, C, T, R> {
 //   found closed, no session limited and no coordinator stopped. The vote wasn't Ready, One Phase or Nothing,
 //   and the ending neither Committed nor Rolled back.
 impl<'r, S: Speak, T: Speak, R: Wait> LineServer for CallServer<'r, Fused<S>, T, R> {
-    ghost use Rattle.xa_manager.specs.Managed.{whole_of};
-    ghost use Rattle.xa_manager.specs.Served.{IsCallAnswer};
-    ghost use Rattle.xa_manager.specs.Whole.{ManagerBegins};
+    ghost use Rattle.xa_manager.specs.{Managed.whole_of, Served.IsCallAnswer, Whole.ManagerBegins};
 
     ghost begins = { λ server. ManagerBegins S.view T.view (whole_of server.manager) };
 

@@ -1,11 +1,8 @@
 //! Carrying calls out, one after another, and limiting the coordinator's sessions.
 ghost use Rattle.std.specs.Prelude.{◌≡◌, List, All, OnOk};
-ghost use Rattle.xa_manager.specs.Calls.{IsWritten};
-ghost use Rattle.xa_manager.specs.Managed.{whole_of};
-ghost use Rattle.xa_manager.specs.declared.response.Response.{Response as ResponseOf};
-ghost use Rattle.xa_manager.specs.Runs.{CarriesOut, AreAnswered, is_of_session as is_of_session_of};
-ghost use Rattle.xa_manager.specs.Runs.{is_unanswered as is_unanswered_of};
-ghost use Rattle.xa_manager.specs.Stops.{fails_from};
+ghost use Rattle.xa_manager.specs.{Calls.IsWritten, Managed.whole_of, Stops.fails_from};
+ghost use Rattle.xa_manager.specs.{declared.response.Response.Response as ResponseOf, Runs.{CarriesOut, AreAnswered}};
+ghost use Rattle.xa_manager.specs.Runs.{is_of_session as is_of_session_of, is_unanswered as is_unanswered_of};
 
 use crate::{Call, CountedStore, Manager, Response, VoteAnswer};
 use std::alloc::{AllocError, Global};

@@ -1,8 +1,6 @@
 //! How many calls of sessions each line makes.
 ghost use Rattle.std.specs.Prelude.{◌≡◌, ◌≤◌, ℕ, List, All, Some, length, map, vec_len, slice_get, slice_index, IfOk};
-ghost use Rattle.xa_manager.specs.Calls.{IsWritten};
-ghost use Rattle.xa_manager.specs.Runs.{IsGiven};
-ghost use Rattle.xa_manager.specs.Stops.{differences as differences_of, MakesCalls};
+ghost use Rattle.xa_manager.specs.{Calls.IsWritten, Runs.IsGiven, Stops.{differences as differences_of, MakesCalls}};
 
 use crate::Call;
 use crate::carrying::carry_out;

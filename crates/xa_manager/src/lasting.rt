@@ -1,12 +1,8 @@
 //! A coordinator's calls over unbounded stores, line by line.
 ghost use Rattle.std.specs.Prelude.{◌≡◌, ◌≤◌, ◌<◌, ◌-◌, ◌^◌, ℕ, All, length, vec_len, IfOk, IfErr, IfSome, OnOk};
-ghost use Rattle.xa_lines.specs.Exchange.{IsFresh};
-ghost use Rattle.xa_lines.specs.Served.{IsServed, AfterServing};
+ghost use Rattle.xa_lines.specs.{Exchange.IsFresh, Served.{IsServed, AfterServing}};
 ghost use Rattle.xa_coordinator.specs.Lasting.{own_view, other_alone};
-ghost use Rattle.xa_manager.specs.Beside.{BeginsBeside};
-ghost use Rattle.xa_manager.specs.Limits.{Passes};
-ghost use Rattle.xa_manager.specs.Managed.{whole_of};
-ghost use Rattle.xa_manager.specs.Whole.{IsPair};
+ghost use Rattle.xa_manager.specs.{Beside.BeginsBeside, Limits.Passes, Managed.whole_of, Whole.IsPair};
 
 use crate::{BesideServer, Manager};
 use std::alloc::Global;

@@ -1,11 +1,9 @@
 //! A transaction manager.
 ghost use Rattle.std.specs.Prelude.{◌≡◌, ◌≤◌, ◌<◌, ℕ, Some, None, [], vec_len, length, slice_get, codes};
-ghost use Rattle.xa_manager.specs.Ledger.{stage_of, transaction_in, IsTransactionOf};
-ghost use Rattle.xa_coordinator.specs.declared.transaction.VoteKind.TheVariants.{Ready as VoteKindReady};
-ghost use Rattle.xa_coordinator.specs.declared.transaction.Prepared.{Prepared};
-ghost use Rattle.xa_coordinator.specs.declared.transaction.Transaction.{Transaction};
-ghost use Rattle.xa_manager.specs.declared.stage.Stage.{Stage};
+ghost use Rattle.xa_manager.specs.{Ledger.{stage_of, transaction_in, IsTransactionOf}, declared.stage.Stage.Stage};
 ghost use Rattle.xa_manager.specs.declared.stage.Stage.TheVariants.{Ready as StageReady};
+ghost use Rattle.xa_coordinator.specs.declared.transaction.VoteKind.TheVariants.{Ready as VoteKindReady};
+ghost use Rattle.xa_coordinator.specs.declared.transaction.{Prepared.Prepared, Transaction.Transaction};
 
 use crate::Ledger;
 use std::alloc::Global;

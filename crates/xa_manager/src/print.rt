@@ -1,12 +1,10 @@
 //! Writing responses as text.
 ghost use Rattle.std.specs.Prelude.{◌≡◌, [], ◌++◌, false, OnOk, OnErr, IfOk, codes, decimal};
-ghost use Rattle.xa_lines.specs.Answer.{bytes_of};
-ghost use Rattle.xa_manager.specs.Served.{has_few_words};
-ghost use Rattle.xa_lines.specs.Printed.{error_text};
-ghost use Rattle.xa_manager.specs.Texts.{fault_text, cause_text, stores_text, worked_text, vote_text, ending_text};
-ghost use Rattle.xa_manager.specs.Texts.{recover_fault_text, report_text};
-ghost use Rattle.xa_manager.specs.Texts.{replied_text, store_text, stores_shown_text, stands_as, numbers_text};
-ghost use Rattle.xa_manager.specs.Texts.{decisions_text, response_text, answer_text};
+ghost use Rattle.xa_lines.specs.{Answer.bytes_of, Printed.error_text};
+ghost use Rattle.xa_manager.specs.{Served.has_few_words, Texts.{fault_text, cause_text, stores_text, worked_text}};
+ghost use Rattle.xa_manager.specs.Texts.{vote_text, ending_text, recover_fault_text, report_text, replied_text};
+ghost use Rattle.xa_manager.specs.Texts.{store_text, stores_shown_text, stands_as, numbers_text, decisions_text};
+ghost use Rattle.xa_manager.specs.Texts.{response_text, answer_text};
 
 use crate::brief::few_words;
 use crate::{Response, VoteAnswer};

@@ -3,8 +3,7 @@
 ghost use Rattle.std.specs.Prelude.{◌≡◌, Some, None, MatchOption};
 ghost use Rattle.xa_lines.specs.Script.{first_word, behind_word, number_of_word};
 ghost use Rattle.xa_manager.specs.Calls.{lone_number, takes_rows, alone as alone_call, work_of, at_of, fail_of};
-ghost use Rattle.xa_manager.specs.Calls.{plain_call, call_named, call_of};
-ghost use Rattle.xa_manager.specs.Calls.{numbered, IsWritten};
+ghost use Rattle.xa_manager.specs.Calls.{plain_call, call_named, call_of, numbered, IsWritten};
 
 use crate::Call;
 use xa_lines::{is_comment, number_in, split_word};

@@ -1,15 +1,11 @@
 //! A coordinator's calls over stores with a log, line by line.
 ghost use Rattle.std.specs.Prelude.{◌≡◌, ◌≤◌, ◌<◌, ◌-◌, ◌^◌, [], ℕ, All, length, map, vec_len, IfOk, IfErr, IfSome};
-ghost use Rattle.std.specs.Prelude.{OnOk};
-ghost use Rattle.std.specs.List.{AllZip};
+ghost use Rattle.std.specs.{Prelude.OnOk, List.AllZip};
 ghost use Rattle.decision_log.specs.Known.{newcomer};
 ghost use Rattle.xa_server.specs.State.{no_state};
 ghost use Rattle.xa_store.specs.Passes.{log_of, identity_of, known_of};
-ghost use Rattle.xa_lines.specs.Exchange.{IsFresh};
-ghost use Rattle.xa_lines.specs.Served.{IsServed, AfterServing};
-ghost use Rattle.xa_manager.specs.Limits.{Passes, StartsAnew};
-ghost use Rattle.xa_manager.specs.Managed.{whole_of};
-ghost use Rattle.xa_manager.specs.Passes.{AreOf, AreNew};
+ghost use Rattle.xa_lines.specs.{Exchange.IsFresh, Served.{IsServed, AfterServing}};
+ghost use Rattle.xa_manager.specs.{Limits.{Passes, StartsAnew}, Managed.whole_of, Passes.{AreOf, AreNew}};
 ghost use Rattle.xa_manager.specs.Whole.{ManagerBegins};
 
 use crate::{CallServer, Manager};

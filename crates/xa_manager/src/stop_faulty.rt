@@ -1,7 +1,6 @@
 //! The faulty lines of a script of calls.
 ghost use Rattle.std.specs.Prelude.{◌≡◌, ◌≤◌, ◌++◌, true, false, List, All, OnOk, IfOk};
-ghost use Rattle.xa_manager.specs.Calls.{IsWritten};
-ghost use Rattle.xa_manager.specs.Managed.{whole_of};
+ghost use Rattle.xa_manager.specs.{Calls.IsWritten, Managed.whole_of};
 ghost use Rattle.xa_manager.specs.declared.response.Response.{Response as ResponseOf};
 ghost use Rattle.xa_manager.specs.Runs.{IsAnswered, is_unanswered as is_unanswered_of};
 ghost use Rattle.xa_manager.specs.Scripts.{is_refusal as is_refusal_of, cause_text, fault_text, HasFaults};

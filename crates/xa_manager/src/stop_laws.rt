@@ -1,19 +1,12 @@
 //! Laws about what a recovery leaves after a stop, and about which entries change committed values.
 ghost use Rattle.std.specs.Prelude.{◌≡◌, Some, slice_get, ◌++◌, ◌∷◌, [], Ok, List, ℕ, All};
-ghost use Rattle.xa_coordinator.specs.declared.report.Report.{Report};
-ghost use Rattle.xa_manager.specs.declared.call.Call.{Call};
-ghost use Rattle.xa_manager.specs.declared.call.Call.TheVariants.{Recover};
-ghost use Rattle.xa_manager.specs.declared.response.Response.{Response};
-ghost use Rattle.xa_manager.specs.declared.response.Response.TheVariants.{Recovered};
-ghost use Rattle.xa_manager.specs.Runs.{Managing, IsRun};
-ghost use Rattle.xa_manager.specs.declared.stop.Stop.{Stop};
+ghost use Rattle.xa_coordinator.specs.{declared.report.Report.Report, Lasting.history_of};
+ghost use Rattle.xa_manager.specs.declared.{call.Call.{Call, TheVariants.Recover}, response.Response.Response};
+ghost use Rattle.xa_manager.specs.declared.{response.Response.TheVariants.Recovered, stop.Stop.Stop};
+ghost use Rattle.xa_manager.specs.{declared.counted_store.CountedStore.CountedStore, Runs.{Managing, IsRun}};
 ghost use Rattle.xa_manager.specs.Atomic.{IsPlain, KeepsToDecisions, LeavesBranches, AllOrNone, LeavesWhole};
-ghost use Rattle.xa_manager.specs.Atomic.{KeepsRowsOr};
-ghost use Rattle.xa_coordinator.specs.Lasting.{history_of};
-ghost use Rattle.xa_manager.specs.declared.counted_store.CountedStore.{CountedStore};
+ghost use Rattle.xa_manager.specs.{Atomic.KeepsRowsOr, Scripts.calls_of, Stops.{IsStopText, IsShown}};
 ghost use Rattle.xa_words.specs.Entry.{Entry};
-ghost use Rattle.xa_manager.specs.Scripts.{calls_of};
-ghost use Rattle.xa_manager.specs.Stops.{IsStopText, IsShown};
 
 /// States what the coordinator's sessions have added after calls, none of them `RECOVER`, and a completed
 /// recovery, if memory was refused for no statement.

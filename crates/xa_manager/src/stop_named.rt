@@ -1,6 +1,5 @@
 //! The keys that a script of calls names.
-ghost use Rattle.std.specs.Prelude.{◌≡◌, nat_eq, if◌then◌else◌, None, vec_len, map, IfOk, OnOk};
-ghost use Rattle.std.specs.BTreeSet.{keys};
+ghost use Rattle.std.specs.{Prelude.{◌≡◌, nat_eq, if◌then◌else◌, None, vec_len, map, IfOk, OnOk}, BTreeSet.keys};
 ghost use Rattle.xa_manager.specs.Rows.{key_in as key_of_statement, key_named as key_of_call, with_key};
 ghost use Rattle.xa_manager.specs.Rows.{keys_named as keys_of_calls, AreNamed};
 

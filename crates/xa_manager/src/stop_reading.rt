@@ -1,7 +1,6 @@
 //! Reading a script of calls, line by line.
 ghost use Rattle.std.specs.Prelude.{◌≡◌, All, IfOk};
-ghost use Rattle.xa_manager.specs.Calls.{IsWritten};
-ghost use Rattle.xa_manager.specs.Scripts.{taken as taken_of, call_in as call_of_line, calls_of};
+ghost use Rattle.xa_manager.specs.{Calls.IsWritten, Scripts.{taken as taken_of, call_in as call_of_line, calls_of}};
 
 use crate::{Call, read_call};
 use std::alloc::Global;

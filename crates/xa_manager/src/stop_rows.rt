@@ -1,8 +1,6 @@
 //! Writing rows as text.
-ghost use Rattle.std.specs.Prelude.{◌≡◌, ◌++◌, List, length, map, IfOk};
-ghost use Rattle.std.specs.List.{flat_map};
-ghost use Rattle.xa_manager.specs.Counted.{state_in};
-ghost use Rattle.xa_manager.specs.Rows.{value_text, row_line, rows_text, AreNamed};
+ghost use Rattle.std.specs.{Prelude.{◌≡◌, ◌++◌, List, length, map, IfOk}, List.flat_map};
+ghost use Rattle.xa_manager.specs.{Counted.state_in, Rows.{value_text, row_line, rows_text, AreNamed}};
 ghost use Rattle.xa_manager.specs.declared.call.Call.{Call as CallOf};
 
 use crate::CountedStore;

@@ -1,14 +1,10 @@
 //! Showing every stop of a script of calls.
 ghost use Rattle.std.specs.Prelude.{◌≡◌, ◌≤◌, ◌<◌, ◌-◌, ◌^◌, ◌++◌, List, ℕ, All, length, get_or, map, IfOk, IfErr};
-ghost use Rattle.std.specs.Prelude.{OnOk, OnErr, MatchResult, IfSome, Err};
-ghost use Rattle.std.specs.List.{AllZip, concat};
+ghost use Rattle.std.specs.{Prelude.{OnOk, OnErr, MatchResult, IfSome, Err}, List.{AllZip, concat}};
 ghost use Rattle.std.specs.Io.KnownBytes.{Appends, IsAtEnd};
 ghost use Rattle.xa_lines.specs.Calls.{HasWritten, StopsWriting, Completes, Stops};
-ghost use Rattle.xa_lines.specs.Limits.{script_bytes, script_reads};
-ghost use Rattle.xa_lines.specs.Transcript.{AppendsPrefix, ConsumesMoreThan};
-ghost use Rattle.xa_manager.specs.Calls.{IsWritten};
-ghost use Rattle.xa_manager.specs.declared.stop.Stop.{Stop as StopOf};
-ghost use Rattle.xa_manager.specs.Rows.{AreNamed};
+ghost use Rattle.xa_lines.specs.{Limits.{script_bytes, script_reads}, Transcript.{AppendsPrefix, ConsumesMoreThan}};
+ghost use Rattle.xa_manager.specs.{Calls.IsWritten, declared.stop.Stop.Stop as StopOf, Rows.AreNamed};
 ghost use Rattle.xa_manager.specs.Stops.{count_line, stop_line, IsStopText, IsShown};
 ghost use Rattle.xa_manager.specs.Scripts.{IsStopsText, IsSomeText, AppendsStops, AfterStopsFault, IsFaultOfStops};
 

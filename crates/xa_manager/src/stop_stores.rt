@@ -1,9 +1,6 @@
 //! A manager over stores that note when memory was refused: how it begins, and what is taken from it after its calls.
 ghost use Rattle.std.specs.Prelude.{◌≡◌, ◌≤◌, ◌<◌, ◌-◌, ◌^◌, ℕ, false, All, length, map, vec_len, IfOk};
-ghost use Rattle.xa_manager.specs.Limits.{Passes};
-ghost use Rattle.xa_manager.specs.Managed.{whole_of};
-ghost use Rattle.xa_manager.specs.Whole.{IsPair};
-ghost use Rattle.xa_manager.specs.Counted.{own_of, other_of};
+ghost use Rattle.xa_manager.specs.{Limits.Passes, Managed.whole_of, Whole.IsPair, Counted.{own_of, other_of}};
 ghost use Rattle.xa_manager.specs.Runs.{IsFresh, passed};
 
 use crate::{CountedStore, Manager};

@@ -1,17 +1,12 @@
 //! Stopping a coordinator, and what its recovery leaves.
-ghost use Rattle.std.specs.Prelude.{◌≡◌, ◌≤◌, ◌<◌, ◌++◌, ◌∷◌, [], List, ℕ, All, length, map, vec_len, take, drop};
-ghost use Rattle.std.specs.Prelude.{IfOk};
+ghost use Rattle.std.specs.Prelude.{◌≡◌, ◌≤◌, ◌<◌, ◌++◌, ◌∷◌, [], List, ℕ, All, length, map, vec_len, take, drop, IfOk};
 ghost use Rattle.xa_lines.specs.Answer.{bytes_of};
-ghost use Rattle.xa_manager.specs.Calls.{IsWritten};
-ghost use Rattle.xa_manager.specs.Managed.{whole_of};
-ghost use Rattle.xa_manager.specs.declared.call.Call.{Call as CallOf};
+ghost use Rattle.xa_manager.specs.{Calls.IsWritten, Managed.whole_of, declared.call.Call.Call as CallOf};
 ghost use Rattle.xa_manager.specs.declared.call.Call.TheVariants.{Stop as StopCall, Recover as RecoverCall};
-ghost use Rattle.xa_manager.specs.declared.response.Response.{Response as ResponseOf};
-ghost use Rattle.xa_manager.specs.Rows.{AreNamed, rows_text};
-ghost use Rattle.xa_manager.specs.Counted.{state_in};
-ghost use Rattle.xa_manager.specs.Runs.{IsAnswered, HasCarried};
-ghost use Rattle.xa_manager.specs.Stops.{IsRecovered, IsLeft, limits_for as limits_of, fails_from, stopped_calls};
-ghost use Rattle.xa_manager.specs.Stops.{ended_calls, IsWhole, IsCutShort, IsCutAt};
+ghost use Rattle.xa_manager.specs.{declared.response.Response.Response as ResponseOf, Rows.{AreNamed, rows_text}};
+ghost use Rattle.xa_manager.specs.{Counted.state_in, Runs.{IsAnswered, HasCarried}, Stops.{IsRecovered, IsLeft}};
+ghost use Rattle.xa_manager.specs.Stops.{limits_for as limits_of, fails_from, stopped_calls, ended_calls, IsWhole};
+ghost use Rattle.xa_manager.specs.Stops.{IsCutShort, IsCutAt};
 
 use crate::carrying::{carry_out, is_unanswered, limit_each};
 use crate::stop_limits::limits_for;

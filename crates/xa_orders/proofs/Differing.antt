@@ -5,17 +5,11 @@
 --     chosen_differ    the list has as many ways that differ as were counted
 --     wide_next        one more turn leads to more ways than allowed that differ
 use Rattle.std.proofs.Common.{◌≡◌, ◌≢◌, ℕ, ◌+◌, ◌<◌, Bool, true, false, not, cond, List, [], ◌∷◌, length, get_or, take}
-use Rattle.std.proofs.Common.{refl, ap, sym, ◌∙◌, subst, arith}
-use Rattle.std.specs.List.{All}
-use Rattle.std.specs.Ordering.{nat_cmp}
-use Rattle.std.specs.BTreeMap.{is_at}
+use Rattle.std.{proofs.{Common.{refl, ap, sym, ◌∙◌, subst, arith}, lemmas.Bool.false≢true}, specs.BTreeMap.is_at}
+use Rattle.std.{proofs.lemmas.List.Elements.{All-cons, All-nil, All-weaker}, specs.{List.All, Ordering.nat_cmp}}
 use Rattle.std.specs.BTreeSet.{BTreeSet, contains, Updates}
-use Rattle.std.proofs.lemmas.Bool.{false≢true}
-use Rattle.std.proofs.lemmas.List.Elements.{All-cons, All-nil, All-weaker}
-use Rattle.xa_orders.specs.declared.way.Way.{Way}
-use Rattle.xa_orders.specs.Orders.{Told, Config, Any}
+use Rattle.xa_orders.specs.{declared.way.Way.Way, Orders.{Told, Config, Any}, Marks.mark}
 use Rattle.xa_orders.specs.Found.{config_of, AreDifferent, HasDifferent, IsSpread, IsTurn, IsNextOf, IsWideNext}
-use Rattle.xa_orders.specs.Marks.{mark}
 use Rattle.xa_orders.proofs.Lists.{any_front, any_read, any_with}
 
 -- ways of the list, as many as were counted, no two of which have come to the same; the set has their numbers

@@ -1,20 +1,15 @@
 -- Answers and states of lines, one line more; and outcomes of ways, each once.
 use Rattle.std.proofs.Common.{◌≡◌, ◌≢◌, ℕ, ◌+◌, ◌<◌, ◌≤◌, List, [], ◌∷◌, ◌++◌, length, take, drop, get_or, sym, ap, ◌∙◌}
-use Rattle.std.proofs.Common.{subst, inl, inr, append_assoc}
-use Rattle.std.specs.List.{All, concat}
-use Rattle.std.proofs.lemmas.List.{take_more, drop_more, drop_all}
-use Rattle.std.proofs.lemmas.List.Elements.{All-nil, All-push, All-weaker}
+use Rattle.std.proofs.{Common.{subst, inl, inr, append_assoc}, lemmas.List.{take_more, drop_more, drop_all}}
+use Rattle.std.{proofs.lemmas.List.Elements.{All-nil, All-push, All-weaker}, specs.List.{All, concat}}
 use Rattle.xa_server.specs.State.{State, no_state}
 use Rattle.xa_lines.specs.Transcript.{answer_to, state_then}
 use Rattle.xa_statement.specs.Reading.{read_of}
-use Rattle.xa_orders.specs.declared.way.Way.{Way}
-use Rattle.xa_orders.specs.declared.outcome.Outcome.{Outcome}
-use Rattle.xa_orders.specs.Orders.{Told, Parts, Config, told_text, told_state, base_of, Gives, Precedes, AtMost, Any}
-use Rattle.xa_orders.specs.Orders.{IsAscending, IsExplored}
+use Rattle.xa_orders.specs.{declared.{way.Way.Way, outcome.Outcome.Outcome}, Orders.{Told, Parts, Config, told_text}}
+use Rattle.xa_orders.specs.Orders.{told_state, base_of, Gives, Precedes, AtMost, Any, IsAscending, IsExplored}
 use Rattle.xa_orders.specs.Found.{config_of, order_of, IsReached, IsLevel, AllPrecede}
-use Rattle.xa_orders.specs.Ends.{text_from, IsOutcomeAdded, AreOutcomes}
-use Rattle.xa_orders.proofs.Lists.{any_left, any_push, any_weaker, any_with, any_both, pairwise_push, pairwise_front}
-use Rattle.xa_orders.proofs.Lists.{at_most_trans}
+use Rattle.xa_orders.{specs.Ends.{text_from, IsOutcomeAdded, AreOutcomes}, proofs.Lists.{any_left, any_push}}
+use Rattle.xa_orders.proofs.Lists.{any_weaker, any_with, any_both, pairwise_push, pairwise_front, at_most_trans}
 
 -- what is written for the lines from a place on is the answer to the one there, and then what is written for the
 -- others

@@ -1,19 +1,15 @@
 -- Ways with one turn more: each configuration to which they come is listed, with its least order.
 use Rattle.std.proofs.Common.{◌≡◌, ◌⊎◌, ℕ, ◌+◌, ◌<◌, Option, Some, None, Vec, Global, IfSome, List, [], ◌∷◌, ◌++◌}
-use Rattle.std.proofs.Common.{length, take, get_or, refl, sym, ap, ◌∙◌, subst, inl, inr, arith}
-use Rattle.std.specs.List.{All}
-use Rattle.std.proofs.lemmas.Bool.{cases_lt}
-use Rattle.std.proofs.lemmas.Option.{none-some, same_Some}
-use Rattle.std.proofs.lemmas.List.{length_push, take_more}
-use Rattle.std.proofs.lemmas.List.Elements.{All-nil, All-cons, All-push, All-weaker}
+use Rattle.std.proofs.{Common.{length, take, get_or, refl, sym, ap, ◌∙◌, subst, inl, inr, arith}, lemmas.Bool.cases_lt}
+use Rattle.std.proofs.lemmas.{Option.{none-some, same_Some}, List.{length_push, take_more}}
+use Rattle.std.{proofs.lemmas.List.Elements.{All-nil, All-cons, All-push, All-weaker}, specs.List.All}
 use Rattle.xa_orders.specs.declared.way.Way.{Way}
-use Rattle.xa_server.specs.State.{State}
 use Rattle.xa_orders.specs.Orders.{Told, Config, opening, turn, IsSession, LeadsTo, Precedes, AtMost, Any, IsAscending}
 use Rattle.xa_orders.specs.Found.{config_of, order_of, IsReached, HasBy, IsLevel, IsTurn, Covers, IsNextOf, AllPrecede}
-use Rattle.xa_orders.specs.Found.{AddsUnlessThere, IsTurnAdded, IsWideNext, IsWide, IsOpening}
-use Rattle.xa_orders.proofs.Lists.{any_left, any_push, any_weaker, any_with, any_both, pairwise_push}
-use Rattle.xa_orders.proofs.Lists.{pairwise_front, split_last, precedes_append, precedes_last, at_most_append}
-use Rattle.xa_orders.proofs.Lists.{at_most_trans}
+use Rattle.xa_orders.{specs.Found.{AddsUnlessThere, IsTurnAdded, IsWideNext, IsWide, IsOpening}, proofs.Lists.any_left}
+use Rattle.xa_orders.proofs.Lists.{any_push, any_weaker, any_with, any_both, pairwise_push, pairwise_front, split_last}
+use Rattle.xa_orders.proofs.Lists.{precedes_append, precedes_last, at_most_append, at_most_trans}
+use Rattle.xa_server.specs.State.{State}
 
 -- an order of turns that leads somewhere leads on by one turn more
 pub leads_more : (lines : List Told) (old mid new : Config) (order : List ℕ) (session : ℕ) → LeadsTo lines old order mid

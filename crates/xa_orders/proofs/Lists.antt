@@ -1,12 +1,9 @@
 -- Lists in which one element has a property (`Any`) or each two are related (`Pairwise`), and orders that precede
 -- others.
 use Rattle.std.proofs.Common.{◌≡◌, ℕ, zero, suc, ◌<◌, Some, List, [], ◌∷◌, ◌++◌, length, get_or, take, refl, sym, ap}
-use Rattle.std.proofs.Common.{◌∙◌, inl, inr, arith}
-use Rattle.std.specs.Prelude.{slice_get}
+use Rattle.std.proofs.{Common.{◌∙◌, inl, inr, arith, subst}, lemmas.Option.{none-some, same_Some, slice_get_read}}
+use Rattle.std.{proofs.lemmas.List.Elements.{All-nil, All-cons, All-head, All-tail, All-push}, specs.Prelude.slice_get}
 use Rattle.std.specs.List.{All}
-use Rattle.std.proofs.lemmas.Option.{none-some, same_Some, slice_get_read}
-use Rattle.std.proofs.Common.{subst}
-use Rattle.std.proofs.lemmas.List.Elements.{All-nil, All-cons, All-head, All-tail, All-push}
 use Rattle.xa_orders.specs.Orders.{Precedes, AtMost, Pairwise, Any}
 
 module _ {A : Type 0} where

@@ -1,8 +1,6 @@
 -- The places of lines.
 use Rattle.std.proofs.Common.{◌≡◌, ℕ, ◌+◌, ◌==◌, ◌&&◌, Bool, not, cond, List, [], ◌∷◌, length, position, refl, ap, ◌∙◌}
-use Rattle.std.proofs.Common.{arith}
-use Rattle.std.specs.List.{zip, prefix_len}
-use Rattle.std.proofs.lemmas.Bool.Decides.{nat_tests}
+use Rattle.std.{proofs.{Common.arith, lemmas.Bool.Decides.nat_tests}, specs.List.{zip, prefix_len}}
 use Rattle.xa_lines.specs.Script.{is_empty_line}
 use Rattle.xa_orders.specs.Orders.{Told, is_left, next_place}
 

@@ -1,19 +1,13 @@
 -- A script, line by line, and the text of its outcomes.
 use Rattle.std.proofs.Common.{◌≡◌, ℕ, ◌+◌, ◌<◌, ◌≤◌, ◌==◌, true, Option, Some, None, Result, Ok, Err, List, [], ◌∷◌}
-use Rattle.std.proofs.Common.{◌++◌, length, drop, get_or, codes, decimal}
-use Rattle.std.proofs.Common.{refl, ap, sym, ◌∙◌, subst, arith, append_assoc, append-nil, IfSome, IfOk, IfErr, OnOk}
-use Rattle.std.proofs.Common.{OnErr}
-use Rattle.std.proofs.lemmas.List.{drop_more, drop_all}
-use Rattle.std.proofs.lemmas.Grind.{common_steps}
+use Rattle.std.proofs.Common.{◌++◌, length, drop, get_or, codes, decimal, refl, ap, sym, ◌∙◌, subst, arith}
+use Rattle.std.proofs.Common.{append_assoc, append-nil, IfSome, IfOk, IfErr, OnOk, OnErr}
+use Rattle.std.proofs.lemmas.{List.{drop_more, drop_all}, Grind.common_steps}
 use Rattle.std.specs.Io.KnownBytes.{Appends, Consumes, IsAtEnd}
-use Rattle.xa_lines.specs.declared.script_fault.ScriptFault.{ScriptFault}
-use Rattle.xa_lines.specs.declared.script_fault.ScriptFault.TheVariants.{Write}
-use Rattle.xa_lines.specs.Script.{lines_of}
-use Rattle.xa_lines.specs.Transcript.{AppendsPrefix}
-use Rattle.xa_orders.specs.declared.ended.Ended.{Ended}
-use Rattle.xa_orders.specs.declared.outcome.Outcome.{Outcome}
-use Rattle.xa_orders.specs.Scripts.{Reading, read_more, read_lines, sessions_text, outcome_lines, outcomes_text}
-use Rattle.xa_orders.specs.Scripts.{IsExploredText, AppendsExplored, AppendsExploredPrefix, AfterExploreFault}
+use Rattle.xa_lines.specs.{declared.script_fault.ScriptFault.ScriptFault, Script.lines_of, Transcript.AppendsPrefix}
+use Rattle.xa_orders.specs.{declared.{ended.Ended.Ended, outcome.Outcome.Outcome}, Scripts.{Reading, read_more}}
+use Rattle.xa_orders.specs.Scripts.{read_lines, sessions_text, outcome_lines, outcomes_text, IsExploredText}
+use Rattle.xa_orders.specs.Scripts.{AppendsExplored, AppendsExploredPrefix, AfterExploreFault}
 
 -- the loop over lines: one more was cut off and read, and those behind it are left to read
 pub read_lines_cut : (read : Reading) (number : ℕ) (text line rest : List ℕ) → lines_of text ≡ line ∷ lines_of rest
@@ -93,7 +87,7 @@ explored_written limit (Err fault) ended text given input rest old new read end 
 pub explored_faulted : (limit : ℕ) (result : Result Ended ScriptFault) (ended : Ended) (text given : List ℕ)
     (input rest old new : Option (List ℕ))
     → Consumes input rest given → IsAtEnd rest → IsExploredText given limit ended text
-    → IfErr result (λ f. f ≡ Write) → OnErr result (AppendsPrefix old new text)
+    → IfErr result (λ f. f ≡ ScriptFault.Write) → OnErr result (AppendsPrefix old new text)
     → IfErr result (λ f. AfterExploreFault limit f input old new)
 explored_faulted limit (Ok e) ended text given input rest old new read end is fault prefix = tt
 explored_faulted limit (Err f) ended text given input rest old new read end is fault prefix =

@@ -2,10 +2,8 @@
 --     text_from          what all lines are answered on a way
 --     IsOutcomeAdded     an outcome is added, unless one with its text is there
 --     AreOutcomes        these are the outcomes of ways, each once
-use Rattle.std.specs.Prelude.{◌≡◌, ◌≢◌, ◌⊎◌, ℕ, List, [], ◌∷◌, ◌++◌}
-use Rattle.std.specs.List.{All, concat}
-use Rattle.xa_orders.specs.declared.way.Way.{Way}
-use Rattle.xa_orders.specs.declared.outcome.Outcome.{Outcome}
+use Rattle.std.specs.{Prelude.{◌≡◌, ◌≢◌, ◌⊎◌, ℕ, List, [], ◌∷◌, ◌++◌}, List.{All, concat}}
+use Rattle.xa_orders.specs.declared.{way.Way.Way, outcome.Outcome.Outcome}
 use Rattle.xa_orders.specs.Orders.{Told, told_text, AtMost, Pairwise, Any, IsAscending}
 
 -- what all lines are answered on the way, if those before were answered with this text

@@ -11,12 +11,10 @@
 --     HasDifferent         a list has so many ways of which no two have come to the same
 --     IsSpread             it has more than allowed of which no two have come to the same
 --     IsWideNext, IsWide   one more turn leads to more ways than allowed;  orders of one length do
-use Rattle.std.specs.Prelude.{◌≡◌, ◌≢◌, ◌⊎◌, ℕ, ◌<◌, Some, None, List, [], ◌∷◌, ◌++◌, length}
-use Rattle.std.specs.List.{All}
-use Rattle.xa_orders.specs.declared.way.Way.{Way}
+use Rattle.std.specs.{Prelude.{◌≡◌, ◌≢◌, ◌⊎◌, ℕ, ◌<◌, Some, None, List, [], ◌∷◌, ◌++◌, length}, List.All}
+use Rattle.xa_orders.specs.{declared.way.Way.Way, Orders.{Told, Config, opening, turn, IsSession, LeadsTo, Precedes}}
+use Rattle.xa_orders.specs.Orders.{AtMost, Any, Pairwise, IsAscending}
 use Rattle.xa_server.specs.State.{State}
-use Rattle.xa_orders.specs.Orders.{Told, Config, opening, turn, IsSession, LeadsTo, Precedes, AtMost, Any, Pairwise}
-use Rattle.xa_orders.specs.Orders.{IsAscending}
 
 -- the configuration to which the way has come
 abbrev pub config_of : Way → Config

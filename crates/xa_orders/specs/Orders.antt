@@ -12,12 +12,10 @@
 --     IsAscending          orders ascend
 --     IsExplored           these are all outcomes, each once, with its least order, in the order of these
 use Rattle.std.specs.Prelude.{◌≡◌, ◌≢◌, ◌⊎◌, ℕ, ◌<◌, ◌≤◌, Bool, ◌==◌, ◌&&◌, Option, Some, List, [], ◌∷◌, ◌++◌, length}
-use Rattle.std.specs.Prelude.{replicate, position, slice_get, slice_set}
-use Rattle.std.specs.List.{All, zip, concat}
+use Rattle.std.specs.{Prelude.{replicate, position, slice_get, slice_set}, List.{All, zip, concat}}
 use Rattle.std.specs.Option.{option_map, option_map_or}
 use Rattle.xa_server.specs.State.{State, no_state}
-use Rattle.xa_lines.specs.Script.{is_empty_line}
-use Rattle.xa_lines.specs.Transcript.{answer_to, state_then}
+use Rattle.xa_lines.specs.{Script.is_empty_line, Transcript.{answer_to, state_then}}
 use Rattle.xa_statement.specs.Reading.{read_of}
 use Rattle.xa_orders.specs.declared.outcome.Outcome.{Outcome}
 

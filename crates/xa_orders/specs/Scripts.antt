@@ -7,25 +7,16 @@
 --     explored_text              what is written for outcomes
 --     IsExploredText             what is written for a script, and how exploring it ends
 use Rattle.std.specs.Prelude.{◌≡◌, ℕ, ◌+◌, Bool, ◌&&◌, if◌then◌else◌, Option, nat_eq, Result, Ok, Err, List, [], ◌∷◌}
-use Rattle.std.specs.Prelude.{◌++◌, length, codes, decimal, IfSome}
-use Rattle.std.specs.Cmp.Lexicographic.{pointwise}
+use Rattle.std.specs.{Prelude.{◌++◌, length, codes, decimal, IfSome}, Cmp.Lexicographic.pointwise}
 use Rattle.std.specs.Io.KnownBytes.{Keeps, Appends}
-use Rattle.xa_xid.specs.Bytes.{unblank}
-use Rattle.xa_xid.specs.declared.statement.Statement.{Statement}
+use Rattle.xa_xid.specs.{Bytes.unblank, declared.statement.Statement.Statement}
 use Rattle.xa_statement.specs.Reading.{read_of}
 use Rattle.xa_lines.specs.Script.{Line, Blank, Bad, Given, line_of, lines_of, first_word, behind_word, is_empty_line}
-use Rattle.xa_lines.specs.Script.{is_comment_line}
-use Rattle.xa_lines.specs.Printed.{syntax_text}
-use Rattle.xa_lines.specs.Transcript.{AppendsPrefix}
+use Rattle.xa_lines.specs.{Script.is_comment_line, Printed.syntax_text, Transcript.AppendsPrefix}
 use Rattle.xa_lines.specs.declared.script_fault.ScriptFault.{ScriptFault}
 use Rattle.xa_lines.specs.declared.script_fault.ScriptFault.TheVariants.{Write, NoMemory, Full, GateShut, ThreadRefused}
-use Rattle.xa_orders.specs.declared.stage.Stage.{Stage}
-use Rattle.xa_orders.specs.declared.stage.Stage.TheVariants.{First, Beside, After}
-use Rattle.xa_orders.specs.declared.ended.Ended.{Ended}
-use Rattle.xa_orders.specs.declared.ended.Ended.TheVariants.{Done, Undecided, Faulty}
-use Rattle.xa_orders.specs.declared.outcome.Outcome.{Outcome}
-use Rattle.xa_orders.specs.Orders.{Told, Parts, base_of, IsExplored}
-use Rattle.xa_orders.specs.Found.{IsWide}
+use Rattle.xa_orders.specs.declared.{stage.Stage.Stage, ended.Ended.{Ended, TheVariants.{Done, Undecided, Faulty}}}
+use Rattle.xa_orders.specs.{declared.outcome.Outcome.Outcome, Orders.{Told, Parts, base_of, IsExplored}, Found.IsWide}
 
 -- what was read so far: the part that is being read, the lines of each, and what is written for the faulty ones
 pub record Reading : Type 0 where
@@ -37,7 +28,7 @@ pub record Reading : Type 0 where
 
 -- what is read before the first line: nothing. Until a line BESIDE or AFTER comes, lines are taken as side by side
 abbrev pub nothing_read : Reading
-nothing_read = record { stage = First; before = []; beside = []; later = []; faults = [] }
+nothing_read = record { stage = Stage.First; before = []; beside = []; later = []; faults = [] }
 
 -- what is written for the faulty line of this number; the place is the byte of its statement at which reading fails,
 -- and 0 if the line isn't a session's
@@ -51,22 +42,22 @@ blamed read number place = record read { faults = read.faults ++ fault_text numb
 -- a line BESIDE: the lines so far are carried out before those side by side. A second one, or one after AFTER, is
 -- faulty
 abbrev pub with_beside : Stage → Reading → ℕ → Reading
-with_beside First read number = record read { stage = Beside; before = read.beside; beside = [] }
-with_beside Beside read number = blamed read number 0
-with_beside After read number = blamed read number 0
+with_beside Stage.First read number = record read { stage = Stage.Beside; before = read.beside; beside = [] }
+with_beside Stage.Beside read number = blamed read number 0
+with_beside Stage.After read number = blamed read number 0
 
 -- a line AFTER: the lines after it are carried out last. A second one is faulty
 abbrev pub with_after : Stage → Reading → ℕ → Reading
-with_after First read number = record read { stage = After }
-with_after Beside read number = record read { stage = After }
-with_after After read number = blamed read number 0
+with_after Stage.First read number = record read { stage = Stage.After }
+with_after Stage.Beside read number = record read { stage = Stage.After }
+with_after Stage.After read number = blamed read number 0
 
 -- what was read, with a session's line added to the part of this stage: after AFTER the last one, else that side by
 -- side
 abbrev pub with_told : Stage → Reading → Told → Reading
-with_told First read told = record read { beside = read.beside ++ told ∷ [] }
-with_told Beside read told = record read { beside = read.beside ++ told ∷ [] }
-with_told After read told = record read { later = read.later ++ told ∷ [] }
+with_told Stage.First read told = record read { beside = read.beside ++ told ∷ [] }
+with_told Stage.Beside read told = record read { beside = read.beside ++ told ∷ [] }
+with_told Stage.After read told = record read { later = read.later ++ told ∷ [] }
 
 -- what was read, with this line, if its text is a statement; else with its fault
 abbrev pub with_statement : Reading → ℕ → Told → Result Statement ℕ → Reading

@@ -2,8 +2,7 @@
 --     state_after     the state after a statement that was carried out
 --     state_since     the state after all statements that were carried out
 use Rattle.std.specs.Prelude.{List, fold}
-use Rattle.xa_server.specs.State.{State}
-use Rattle.xa_server.specs.Step.{after}
+use Rattle.xa_server.specs.{State.State, Step.after}
 use Rattle.xa_orders.specs.declared.done.Done.{Done}
 
 -- the state after a statement that was carried out

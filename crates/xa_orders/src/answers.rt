@@ -1,9 +1,7 @@
 //! What lines were answered.
 ghost use Rattle.std.specs.Prelude.{◌≡◌, ◌≢◌, ◌<◌, ◌==◌, ◌&&◌, ◌++◌, ◌∷◌, [], true, false, length, replicate};
-ghost use Rattle.std.specs.Prelude.{slice_set, position, fold, IfOk, OnOk, IfSome};
-ghost use Rattle.std.specs.List.{concat, zip};
-ghost use Rattle.xa_orders.specs.Marks.{with_text as with_text_of};
-ghost use Rattle.xa_orders.specs.Orders.{next_place as place_of_next};
+ghost use Rattle.std.specs.{Prelude.{slice_set, position, fold, IfOk, OnOk, IfSome}, List.{concat, zip}};
+ghost use Rattle.xa_orders.specs.{Marks.with_text as with_text_of, Orders.next_place as place_of_next};
 
 use crate::line::Line;
 use crate::marks::{with, with_text};

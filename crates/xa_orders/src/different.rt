@@ -1,7 +1,6 @@
 //! How many ways of a list differ.
 ghost use Rattle.std.specs.Prelude.{◌≡◌, ◌≤◌, true, length, IfOk};
-ghost use Rattle.xa_orders.specs.Found.{config_of, HasDifferent, IsSpread};
-ghost use Rattle.xa_orders.specs.Marks.{mark};
+ghost use Rattle.xa_orders.specs.{Found.{config_of, HasDifferent, IsSpread}, Marks.mark};
 
 use crate::marks::with_values;
 use crate::way::Way;

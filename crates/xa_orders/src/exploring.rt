@@ -1,8 +1,7 @@
 //! Explores lines.
 ghost use Rattle.std.specs.Prelude.{◌≡◌, None, IfOk, IfSome};
 ghost use Rattle.xa_server.specs.State.{no_state};
-ghost use Rattle.xa_orders.specs.Orders.{IsExplored, base_of};
-ghost use Rattle.xa_orders.specs.Found.{IsWide};
+ghost use Rattle.xa_orders.specs.{Orders.{IsExplored, base_of}, Found.IsWide};
 
 use crate::line::Line;
 use crate::outcome::Outcome;

@@ -20,8 +20,7 @@ pub struct KeptServer {
 }
 
 impl Model for KeptServer {
-    ghost use Rattle.xa_server.specs.State.{State};
-    ghost use Rattle.xa_server.specs.Coding.{coded_state};
+    ghost use Rattle.xa_server.specs.{State.State, Coding.coded_state};
     ghost use Rattle.xa_orders.specs.Since.{state_since};
 
     ghost Value = { State };

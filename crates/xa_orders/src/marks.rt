@@ -1,7 +1,6 @@
 //! Numbers made of values, by which equal values are found and different ones told apart.
 ghost use Rattle.std.specs.Prelude.{◌≡◌, fold};
-ghost use Rattle.xa_orders.specs.Marks.{with_word, with_key};
-ghost use Rattle.xa_orders.specs.Marks.{with_text as with_text_of, with_value as with_value_of};
+ghost use Rattle.xa_orders.specs.Marks.{with_word, with_key, with_text as with_text_of, with_value as with_value_of};
 
 use xa_server::Server;
 use xa_xid::{Bytes, Key};

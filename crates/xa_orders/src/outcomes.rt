@@ -1,8 +1,6 @@
 //! The outcomes of ways.
-ghost use Rattle.std.specs.Prelude.{◌≡◌, ◌≢◌, ◌++◌, true, false, IfOk, OnOk};
-ghost use Rattle.std.specs.List.{All, concat};
-ghost use Rattle.xa_orders.specs.Orders.{Any, IsAscending, told_text, told_state};
-ghost use Rattle.xa_orders.specs.Found.{order_of};
+ghost use Rattle.std.specs.{Prelude.{◌≡◌, ◌≢◌, ◌++◌, true, false, IfOk, OnOk}, List.{All, concat}};
+ghost use Rattle.xa_orders.specs.{Orders.{Any, IsAscending, told_text, told_state}, Found.order_of};
 ghost use Rattle.xa_orders.specs.Ends.{text_from, IsOutcomeAdded, AreOutcomes};
 
 use crate::answers::is_same_text;

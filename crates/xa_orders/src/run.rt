@@ -2,8 +2,7 @@
 ghost use Rattle.std.specs.Prelude.{◌≡◌, ◌≤◌, length, IfOk, IfErr, OnOk, OnErr, MatchResult, IfSome, Err};
 ghost use Rattle.std.specs.Io.KnownBytes.{Appends, IsAtEnd};
 ghost use Rattle.xa_lines.specs.Calls.{HasWritten, StopsWriting, Completes, Stops};
-ghost use Rattle.xa_lines.specs.Limits.{script_bytes, script_reads};
-ghost use Rattle.xa_lines.specs.Transcript.{AppendsPrefix, ConsumesMoreThan};
+ghost use Rattle.xa_lines.specs.{Limits.{script_bytes, script_reads}, Transcript.{AppendsPrefix, ConsumesMoreThan}};
 ghost use Rattle.xa_orders.specs.Scripts.{IsExploredText, IsSomeText, AppendsExplored, AfterExploreFault};
 ghost use Rattle.xa_orders.specs.Scripts.{IsFaultOfExploring};
 

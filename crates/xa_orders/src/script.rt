@@ -3,8 +3,7 @@ ghost use Rattle.std.specs.Prelude.{◌≡◌, OnOk, IfOk};
 ghost use Rattle.xa_lines.specs.Script.{line_of};
 ghost use Rattle.xa_statement.specs.Reading.{read_of};
 ghost use Rattle.xa_orders.specs.Scripts.{blamed, with_beside, with_after, with_told, with_statement, with_line};
-ghost use Rattle.xa_orders.specs.Scripts.{nothing_read, read_more, script_read};
-ghost use Rattle.xa_orders.specs.Scripts.{is_word as is_word_of};
+ghost use Rattle.xa_orders.specs.Scripts.{nothing_read, read_more, script_read, is_word as is_word_of};
 ghost use Rattle.xa_orders.specs.Kept.{read_kept};
 
 use crate::line::Line;

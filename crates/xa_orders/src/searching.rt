@@ -1,7 +1,6 @@
 //! Carries lines out in every order.
 ghost use Rattle.std.specs.Prelude.{◌≡◌, None, length, IfOk, IfSome};
-ghost use Rattle.xa_orders.specs.Orders.{opening};
-ghost use Rattle.xa_orders.specs.Found.{IsLevel, IsWide, IsOpening};
+ghost use Rattle.xa_orders.specs.{Orders.opening, Found.{IsLevel, IsWide, IsOpening}};
 
 use crate::keeper::Keeper;
 use crate::line::Line;

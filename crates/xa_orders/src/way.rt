@@ -1,7 +1,6 @@
 //! Ways: orders of turns, and what they have come to.
 ghost use Rattle.std.specs.Prelude.{◌≡◌, ◌<◌, ◌++◌, ◌∷◌, [], true, None, length, IfOk, OnOk, IfSome};
-ghost use Rattle.xa_orders.specs.Orders.{opening, carried_out, turn};
-ghost use Rattle.xa_orders.specs.Found.{config_of, IsTurn};
+ghost use Rattle.xa_orders.specs.{Orders.{opening, carried_out, turn}, Found.{config_of, IsTurn}};
 
 use crate::answers::Answers;
 use crate::kept_server::KeptServer;

@@ -1,10 +1,8 @@
 //! Lists of ways, in which each configuration (a server and the lines' answers) is kept once, as far as equal ones are
 //! known as such.
 ghost use Rattle.std.specs.Prelude.{◌≡◌, ◌++◌, ◌∷◌, [], ◌<◌, List, true, None, length, IfOk, OnOk, IfSome};
-ghost use Rattle.xa_orders.specs.declared.way.Way.{Way as Found};
-ghost use Rattle.xa_orders.specs.Orders.{Any, IsAscending};
-ghost use Rattle.xa_orders.specs.Found.{config_of, order_of, AddsUnlessThere, IsTurnAdded, AllPrecede, IsNextOf};
-ghost use Rattle.xa_orders.specs.Found.{IsWideNext};
+ghost use Rattle.xa_orders.specs.{declared.way.Way.Way as Found, Orders.{Any, IsAscending}, Found.config_of};
+ghost use Rattle.xa_orders.specs.Found.{order_of, AddsUnlessThere, IsTurnAdded, AllPrecede, IsNextOf, IsWideNext};
 
 use crate::different::is_wide;
 use crate::fingerprint_index::FingerprintIndex;

@@ -2,30 +2,20 @@
 --     opened_each, all_opened     the gate can let in each line of each session
 --     shut_beside                 it can stop one of them
 use Rattle.std.proofs.Common.{◌≡◌, ℕ, zero, suc, Bool, ◌+◌, ◌<◌, ◌≤◌, List, [], ◌∷◌, ◌++◌, length, map, take, drop}
-use Rattle.std.proofs.Common.{Some}
-use Rattle.std.proofs.Common.{refl, ap, sym, ◌∙◌, subst, inl, inr, arith}
-use Rattle.std.specs.Prelude.{slice_get}
-use Rattle.std.specs.List.{All}
-use Rattle.std.proofs.lemmas.Bool.{cases_lt}
-use Rattle.std.proofs.lemmas.Option.{none-some, same_Some}
-use Rattle.std.proofs.lemmas.List.Elements.{All-head, All-tail}
+use Rattle.std.proofs.{Common.{Some, refl, ap, sym, ◌∙◌, subst, inl, inr, arith}, lemmas.Bool.cases_lt}
+use Rattle.std.proofs.lemmas.{Option.{none-some, same_Some}, List.Elements.{All-head, All-tail}}
+use Rattle.std.specs.{Prelude.slice_get, List.All}
 use Rattle.xa_xid.specs.declared.statement.Statement.{Statement}
 use Rattle.xa_words.specs.Entry.{Entry}
 use Rattle.xa_server.specs.State.{no_state}
-use Rattle.decision_log.specs.History.{Begins}
-use Rattle.decision_log.specs.Known.{newcomer}
-use Rattle.decision_log.proofs.Histories.{begins_through, behind}
+use Rattle.decision_log.{specs.{History.Begins, Known.newcomer}, proofs.Histories.{begins_through, behind}}
 use Rattle.xa_session.specs.Replay.{state_after}
 use Rattle.xa_endless.specs.declared.session.EndlessSession.{EndlessSession}
-use Rattle.xa_store.specs.Legal.{IsLegal, LetsIn}
-use Rattle.xa_store.specs.declared.race_fault.RaceFault.TheVariants.{GateShut}
+use Rattle.xa_store.specs.{Legal.{IsLegal, LetsIn}, declared.race_fault.RaceFault.TheVariants.GateShut}
 use Rattle.xa_orders.specs.Orders.{Told}
-use Rattle.xa_races.specs.Long.{known_in, HoldsAll, seen_by_last, IsBlamed}
-use Rattle.xa_races.specs.CountedRaced.{statements_of}
-use Rattle.xa_races.specs.CountedHeld.{AreWithin, AreNumbered, AreRunsOf}
-use Rattle.xa_races.specs.HeldRuns.{AllOpened, IsShutBeside}
-use Rattle.xa_races.specs.declared.long_run.LongRun.{LongRun}
-use Rattle.xa_races.proofs.Earlier.{earlier, legal_earlier}
+use Rattle.xa_races.specs.{Long.{known_in, HoldsAll, seen_by_last, IsBlamed}, CountedRaced.statements_of}
+use Rattle.xa_races.specs.{CountedHeld.{AreWithin, AreNumbered, AreRunsOf}, HeldRuns.{AllOpened, IsShutBeside}}
+use Rattle.xa_races.{specs.declared.long_run.LongRun.LongRun, proofs.Earlier.{earlier, legal_earlier}}
 use Rattle.xa_races.proofs.CountedRaced.{given_none}
 
 -- runs of sessions with the numbers n, n + 1, .., whose statements are those of the lines: if the gate can let in each

@@ -1,20 +1,14 @@
 -- Races that are counted, and what is written for them.
-use Rattle.std.proofs.Common.{◌≡◌, ℕ, ◌+◌, ◌≤◌, Bool, true, false, List, [], ◌∷◌, ◌++◌, length, map, codes}
-use Rattle.std.proofs.Common.{decimal, refl, ap, sym, ◌∙◌, subst, inl, inr, arith}
-use Rattle.std.specs.Prelude.{nat_lt, count_by}
-use Rattle.std.specs.List.{All, Contains}
-use Rattle.std.proofs.lemmas.List.{length_push, length-map}
+use Rattle.std.proofs.Common.{◌≡◌, ℕ, ◌+◌, ◌≤◌, Bool, true, false, List, [], ◌∷◌, ◌++◌, length, map, codes, decimal}
+use Rattle.std.proofs.{Common.{refl, ap, sym, ◌∙◌, subst, inl, inr, arith}, lemmas.List.{length_push, length-map}}
 use Rattle.std.proofs.lemmas.List.Elements.{All-nil, All-cons, All-head, All-tail, All-push, All-weaker}
-use Rattle.xa_orders.specs.declared.outcome.Outcome.{Outcome}
-use Rattle.xa_orders.specs.Orders.{Parts, Pairwise, IsExplored, base_of}
+use Rattle.std.specs.{Prelude.{nat_lt, count_by}, List.{All, Contains}}
+use Rattle.xa_orders.specs.{declared.outcome.Outcome.Outcome, Orders.{Parts, Pairwise, IsExplored, base_of}}
 use Rattle.xa_orders.specs.Found.{IsWide}
-use Rattle.xa_races.specs.declared.came_tally.CameTally.{CameTally}
-use Rattle.xa_races.specs.CountedRaced.{HasCome}
-use Rattle.xa_races.specs.Came.{came_texts, count_seen, seen_text, some_seen_text, ways_limit, ComesBefore, IsSeenOfAll}
-use Rattle.xa_races.specs.Came.{IsSeenOfSome, IsPartsCome}
-use Rattle.xa_races.specs.HeldRuns.{IsSeenOf}
+use Rattle.xa_races.specs.{declared.came_tally.CameTally.CameTally, CountedRaced.HasCome, Came.{came_texts, count_seen}}
+use Rattle.xa_races.specs.Came.{seen_text, some_seen_text, ways_limit, ComesBefore, IsSeenOfAll, IsSeenOfSome}
+use Rattle.xa_races.{specs.{Came.IsPartsCome, HeldRuns.IsSeenOf}, proofs.Law.came_listed}
 use Rattle.xa_races.specs.Tallied.{texts_of, Tallied, AreFirst, IsCounted, counted_head, counted_text}
-use Rattle.xa_races.proofs.Law.{came_listed}
 use Rattle.xa_races.proofs.Counting.{came_texts_are, count_seen_is, counts_within}
 
 -- what holds of each of several and a last one holds of each of the several

@@ -1,18 +1,14 @@
 -- What sessions give, list by list.
 use Rattle.std.proofs.Common.{◌≡◌, ℕ, zero, suc, ◌+◌, ◌<◌, ◌≤◌, List, [], ◌∷◌, ◌++◌, length, map, take, get_or, Vec}
-use Rattle.std.proofs.Common.{Global, refl, ap, sym, ◌∙◌, subst, inl, inr, arith}
-use Rattle.std.specs.Prelude.{Option, Some, None}
-use Rattle.std.specs.List.{zip, cons_option}
+use Rattle.std.proofs.{Common.{Global, refl, ap, sym, ◌∙◌, subst, inl, inr, arith}, lemmas.Bool.cases_lt}
+use Rattle.std.{proofs.lemmas.List.{take_more, map-append, length-map}, specs.Prelude.{Option, Some, None}}
+use Rattle.std.{proofs.lemmas.List.Elements.{All-weaker, All-more, filter_map-append}, specs.List.{zip, cons_option}}
 use Rattle.std.specs.Option.{option_to_list}
-use Rattle.std.proofs.lemmas.Bool.{cases_lt}
-use Rattle.std.proofs.lemmas.List.{take_more, map-append, length-map}
-use Rattle.std.proofs.lemmas.List.Elements.{All-weaker, All-more, filter_map-append}
 use Rattle.xa_xid.specs.declared.statement.Statement.{Statement}
 use Rattle.xa_endless.specs.declared.session.EndlessSession.{EndlessSession}
-use Rattle.xa_races.specs.declared.long_run.LongRun.{LongRun}
-use Rattle.xa_orders.specs.Orders.{Told, IsSession}
-use Rattle.xa_races.specs.CountedRaced.{statement_by, statements_of}
+use Rattle.xa_races.specs.{declared.long_run.LongRun.LongRun, CountedRaced.{statement_by, statements_of}}
 use Rattle.xa_races.specs.CountedHeld.{list_at, AreWithin, AreRunsOf}
+use Rattle.xa_orders.specs.Orders.{Told, IsSession}
 
 -- the loop over lines: one line more adds its statement, if the session gives it
 pub statements_more : (session : ℕ) (lines : List Told) (index : ℕ) (told : Told) (old new : List Statement)

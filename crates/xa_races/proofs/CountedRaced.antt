@@ -1,22 +1,17 @@
 -- What a race of sessions returns is what a race of their lines gives.
 use Rattle.std.proofs.Common.{◌≡◌, ℕ, zero, suc, ◌-◌, ◌<◌, ◌≤◌, ◌==◌, false, cond, None, Option, List, [], ◌∷◌, length}
-use Rattle.std.proofs.Common.{refl, ap, sym, ◌∙◌, subst, inl, inr, arith}
-use Rattle.std.specs.List.{All, concat, cons_option}
-use Rattle.std.proofs.lemmas.Bool.{cases_lt}
-use Rattle.std.proofs.lemmas.List.Elements.{All-head, All-tail, All-weaker}
+use Rattle.std.proofs.{Common.{refl, ap, sym, ◌∙◌, subst, inl, inr, arith}, lemmas.Bool.cases_lt}
+use Rattle.std.{proofs.lemmas.List.Elements.{All-head, All-tail, All-weaker}, specs.List.{All, concat, cons_option}}
 use Rattle.xa_xid.specs.declared.statement.Statement.{Statement}
 use Rattle.xa_statement.specs.Reading.{read_of}
 use Rattle.xa_words.specs.Entry.{Entry}
 use Rattle.xa_server.specs.State.{State}
-use Rattle.decision_log.specs.History.{entries_of}
-use Rattle.decision_log.specs.Known.{AllOf, newcomer}
-use Rattle.xa_session.specs.Replay.{state_after}
-use Rattle.xa_session.specs.declared.answer.Answer.{Answer}
+use Rattle.decision_log.specs.{History.entries_of, Known.{AllOf, newcomer}}
+use Rattle.xa_session.specs.{Replay.state_after, declared.answer.Answer.Answer}
 use Rattle.xa_store.specs.Legal.{IsLegal}
 use Rattle.xa_orders.specs.Orders.{Told, IsSession}
 use Rattle.xa_races.specs.CountedRaced.{statement_in, statements_of, laid_texts, IsReadLine, GivesRaced}
-use Rattle.xa_races.specs.CountedHeld.{list_at, answers_of, AreWithin}
-use Rattle.xa_races.proofs.Tests.{apart_test}
+use Rattle.xa_races.{specs.CountedHeld.{list_at, answers_of, AreWithin}, proofs.Tests.apart_test}
 use Rattle.xa_races.proofs.Histories.{entries_of-other}
 
 -- past the last list there is the empty one

@@ -1,16 +1,13 @@
 -- The order in which the lines of a race that is counted have their turns.
 --     itself            what a line says
 --     counted_goes      turns of all lines that are left lead to the end of the history
-use Rattle.std.proofs.Common.{◌≡◌, ℕ, Some, List, [], length, refl, ap, sym, ◌∙◌, arith}
-use Rattle.std.specs.Prelude.{slice_get}
+use Rattle.std.{proofs.Common.{◌≡◌, ℕ, Some, List, [], length, refl, ap, sym, ◌∙◌, arith}, specs.Prelude.slice_get}
 use Rattle.std.specs.List.{All}
 use Rattle.xa_words.specs.Entry.{Entry}
 use Rattle.xa_server.specs.State.{State}
-use Rattle.xa_session.specs.Replay.{state_at, state_after}
-use Rattle.xa_session.proofs.Replaying.{state_at-whole}
+use Rattle.xa_session.{specs.Replay.{state_at, state_after}, proofs.Replaying.state_at-whole}
 use Rattle.xa_orders.specs.Orders.{Told, Config, IsSession}
-use Rattle.xa_races.proofs.Histories.{Said, Remains}
-use Rattle.xa_races.proofs.Schedules.{goes}
+use Rattle.xa_races.proofs.{Histories.{Said, Remains}, Schedules.goes}
 use Rattle.xa_races.proofs.Turns.{Lines, Stands, Goes, emits, all_filled, owed_by}
 
 -- what a line of a session says and is answered: the line itself, which is both

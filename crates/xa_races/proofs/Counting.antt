@@ -1,17 +1,13 @@
 -- Lists that count the texts that come.
 use Rattle.std.proofs.Common.{◌≡◌, ◌≢◌, ℕ, zero, suc, ◌+◌, ◌<◌, ◌≤◌, Bool, true, false, cond, List, [], ◌∷◌, ◌++◌}
 use Rattle.std.proofs.Common.{length, map, take, drop, set, get_or, refl, ap, sym, ◌∙◌, subst, arith}
-use Rattle.std.specs.Prelude.{nat_lt, nat_eq, count_by}
-use Rattle.std.specs.List.{All, Contains, insert}
+use Rattle.std.proofs.lemmas.{Cmp.ranked, List.{map-append, Elements.{All-nil, All-cons, All-head, All-tail}}}
+use Rattle.std.proofs.lemmas.List.Elements.{All-append, All-take, All-drop, All-push, All-map, All-weaker, All-contains}
+use Rattle.std.proofs.lemmas.List.Sums.{sum_by-cons, sum_by_push, count_by-le-length}
+use Rattle.std.specs.{Prelude.{nat_lt, nat_eq, count_by}, List.{All, Contains, insert}, declared.cmp.Ordering.Ordering}
 use Rattle.std.specs.Cmp.Lexicographic.{pointwise, bytes_decides, slice_cmp, nat_list_cmp_total}
-use Rattle.std.specs.declared.cmp.Ordering.{Ordering}
 use Rattle.std.specs.declared.cmp.Ordering.TheVariants.{Less, Equal, Greater}
 use Rattle.std.specs.Ordering.{nat_cmp, ordering_then, ordering_reverse}
-use Rattle.std.proofs.lemmas.Cmp.{ranked}
-use Rattle.std.proofs.lemmas.List.{map-append}
-use Rattle.std.proofs.lemmas.List.Elements.{All-nil, All-cons, All-head, All-tail, All-append, All-take, All-drop}
-use Rattle.std.proofs.lemmas.List.Elements.{All-push, All-map, All-weaker, All-contains}
-use Rattle.std.proofs.lemmas.List.Sums.{sum_by-cons, sum_by_push, count_by-le-length}
 use Rattle.xa_orders.specs.Orders.{Pairwise}
 use Rattle.xa_races.specs.declared.came_tally.CameTally.{CameTally}
 use Rattle.xa_races.specs.Came.{times, came_text, came_texts, count_seen, ComesBefore}

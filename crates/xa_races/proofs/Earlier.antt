@@ -4,27 +4,19 @@
 --     legal_earlier    a session that has seen all of a history is answered legally in what comes behind
 --     laid_earlier     what is written for answers has no place
 use Rattle.std.proofs.Common.{◌≡◌, ℕ, zero, suc, Bool, true, false, cond, ◌+◌, ◌-◌, ◌≤◌, List, [], ◌∷◌, ◌++◌, length}
-use Rattle.std.proofs.Common.{map, take, refl, ap, sym, ◌∙◌}
-use Rattle.std.proofs.Common.{subst, arith, length-append}
-use Rattle.std.specs.Prelude.{slice_get}
-use Rattle.std.proofs.lemmas.List.Elements.{filter-append}
+use Rattle.std.proofs.Common.{map, take, refl, ap, sym, ◌∙◌, subst, arith, length-append}
+use Rattle.std.{proofs.lemmas.List.Elements.filter-append, specs.Prelude.slice_get}
 use Rattle.xa_xid.specs.declared.statement.Statement.{Statement}
 use Rattle.xa_words.specs.Entry.{Entry}
-use Rattle.xa_server.specs.State.{State}
-use Rattle.xa_server.specs.Replies.{reply_to}
-use Rattle.xa_server.specs.Step.{after, enters}
-use Rattle.decision_log.specs.declared.known.Known.{Known}
-use Rattle.decision_log.specs.Known.{newcomer}
-use Rattle.decision_log.specs.History.{is_of, entries_of}
+use Rattle.xa_server.specs.{State.State, Replies.reply_to, Step.{after, enters}}
+use Rattle.decision_log.specs.{declared.known.Known.Known, Known.newcomer, History.{is_of, entries_of}}
 use Rattle.decision_log.proofs.Histories.{begins_nothing, length_begins}
-use Rattle.xa_session.specs.Replay.{state_after, state_at}
-use Rattle.xa_session.specs.Answer.{entry_of, AnswersAt}
+use Rattle.xa_session.specs.{Replay.{state_after, state_at}, Answer.{entry_of, AnswersAt}}
 use Rattle.xa_session.specs.declared.answer.Answer.{Answer}
 use Rattle.xa_store.specs.Legal.{next_place, Answered, entered, IsLegal}
-use Rattle.xa_races.specs.Long.{HoldsAll}
-use Rattle.xa_orders.specs.Orders.{Told}
-use Rattle.xa_races.specs.CountedRaced.{line_text, rank_in, laid_texts}
+use Rattle.xa_races.specs.{Long.HoldsAll, CountedRaced.{line_text, rank_in, laid_texts}}
 use Rattle.xa_races.specs.CountedHeld.{list_at, answers_of}
+use Rattle.xa_orders.specs.Orders.{Told}
 
 -- the same answer, with its place counted from the race's beginning instead of the history's
 abbrev pub earlier : ℕ → Answer → Answer

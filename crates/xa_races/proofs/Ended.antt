@@ -5,32 +5,23 @@
 --     ended_raced, ended_by                                 the lines raced;  at a gate, with so much room
 --     ended_over                                            the lines added more than there is room for
 use Rattle.std.proofs.Common.{◌≡◌, ℕ, suc, Bool, false, ◌+◌, ◌<◌, ◌≤◌, List, [], ◌∷◌, ◌++◌, length, map, drop, Vec}
-use Rattle.std.proofs.Common.{Global}
-use Rattle.std.proofs.Common.{ap, sym, refl, ◌∙◌, subst, arith}
+use Rattle.std.proofs.{Common.{Global, ap, sym, refl, ◌∙◌, subst, arith}, lemmas.List.length-map}
 use Rattle.std.specs.List.{All, AllZip, concat}
-use Rattle.std.proofs.lemmas.List.{length-map}
 use Rattle.xa_words.specs.Entry.{Entry}
 use Rattle.xa_server.specs.State.{no_state}
-use Rattle.decision_log.specs.History.{Begins}
-use Rattle.decision_log.specs.Known.{AllOf, newcomer}
-use Rattle.decision_log.proofs.Histories.{begins_nothing, behind}
-use Rattle.xa_session.specs.Replay.{state_after}
-use Rattle.xa_session.specs.declared.answer.Answer.{Answer}
+use Rattle.decision_log.{specs.{History.Begins, Known.{AllOf, newcomer}}, proofs.Histories.{begins_nothing, behind}}
+use Rattle.xa_session.specs.{Replay.state_after, declared.answer.Answer.Answer}
 use Rattle.xa_store.specs.Legal.{IsLegal}
-use Rattle.xa_endless.specs.declared.session.EndlessSession.{EndlessSession}
-use Rattle.xa_endless.specs.declared.store.EndlessStore.{EndlessStore}
-use Rattle.xa_races.specs.Long.{known_in, HoldsAll, seen_by_last, IsLongOutcome}
-use Rattle.xa_races.specs.declared.long_run.LongRun.{LongRun}
+use Rattle.xa_endless.specs.declared.{session.EndlessSession.EndlessSession, store.EndlessStore.EndlessStore}
+use Rattle.xa_races.specs.{Long.{known_in, HoldsAll, seen_by_last, IsLongOutcome}, declared.long_run.LongRun.LongRun}
 use Rattle.xa_races.specs.declared.long_outcome.LongOutcome.{LongOutcome}
-use Rattle.xa_orders.specs.Orders.{Told}
 use Rattle.xa_races.specs.CountedRaced.{statements_of, laid_texts, IsReadLine, GivesRaced}
 use Rattle.xa_races.specs.CountedHeld.{list_at, answers_of, AreWithin, AreNumbered, AreRunsOf}
 use Rattle.xa_races.specs.HeldRuns.{FitsIn, AllOpened, GivesRacedBy, IsOverfull}
-use Rattle.xa_races.proofs.AtGate.{opened_each, all_opened}
-use Rattle.xa_races.proofs.CountedRaced.{gives_raced}
-use Rattle.xa_races.proofs.Earlier.{earlier, laid_earlier, state_over}
-use Rattle.xa_races.proofs.Stores.{runs_mine, sessions_mine, sessions_numbered, sessions_long, runs_low, legal_each}
-use Rattle.xa_races.proofs.Stores.{answers_long, whole_begins}
+use Rattle.xa_races.proofs.{AtGate.{opened_each, all_opened}, CountedRaced.gives_raced}
+use Rattle.xa_races.proofs.{Earlier.{earlier, laid_earlier, state_over}, Stores.{runs_mine, sessions_mine}}
+use Rattle.xa_races.proofs.Stores.{sessions_numbered, sessions_long, runs_low, legal_each, answers_long, whole_begins}
+use Rattle.xa_orders.specs.Orders.{Told}
 
 -- each session's answers, as lists
 abbrev pub lists_in : LongOutcome → List (List Answer)

@@ -1,32 +1,21 @@
 -- What the sessions of a long race come to.
-use Rattle.std.proofs.Common.{◌≡◌, ℕ, zero, suc, Bool, ◌≤◌, ◌+◌, ◌-◌, List, [], ◌∷◌, length, map, drop}
-use Rattle.std.proofs.Common.{Option, Some, None, refl, ap, sym, ◌∙◌, subst, arith}
-use Rattle.std.specs.Prelude.{slice_get}
-use Rattle.std.specs.List.{All, AllZip, AllByRecursion}
-use Rattle.std.proofs.lemmas.List.Elements.{All-nil, All-cons, All-head, All-tail, All-weaker, All-from_recursion}
-use Rattle.std.proofs.lemmas.List.Elements.{recursion_from_All}
+use Rattle.std.proofs.Common.{◌≡◌, ℕ, zero, suc, Bool, ◌≤◌, ◌+◌, ◌-◌, List, [], ◌∷◌, length, map, drop, Option, Some}
+use Rattle.std.proofs.{Common.{None, refl, ap, sym, ◌∙◌, subst, arith}, lemmas.List.Elements.{All-nil, All-cons}}
+use Rattle.std.proofs.lemmas.List.Elements.{All-head, All-tail, All-weaker, All-from_recursion, recursion_from_All}
+use Rattle.std.specs.{Prelude.slice_get, List.{All, AllZip, AllByRecursion}}
 use Rattle.xa_words.specs.Entry.{Entry}
 use Rattle.xa_server.specs.State.{no_state}
 use Rattle.decision_log.proofs.Histories.{get_begins, begins_through}
 use Rattle.xa_session.specs.declared.answer.Answer.{Answer}
-use Rattle.xa_endless.specs.declared.session.EndlessSession.{EndlessSession}
-use Rattle.xa_endless.specs.declared.store.EndlessStore.{EndlessStore}
+use Rattle.xa_endless.specs.declared.{session.EndlessSession.EndlessSession, store.EndlessStore.EndlessStore}
 use Rattle.chain_log.specs.RingPass.{identity_of, log_of}
-use Rattle.xa_store.specs.Gathered.{IsTakenIn}
-use Rattle.xa_store.specs.Legal.{IsLegal, LetsIn}
-use Rattle.xa_store.specs.Spread.{HasAnswered}
-use Rattle.xa_store.specs.declared.race_fault.RaceFault.{RaceFault}
-use Rattle.xa_store.specs.declared.race_fault.RaceFault.TheVariants.{GateShut, Full, NoMemory, ThreadRefused}
-use Rattle.xa_store.proofs.Races.{legal_in}
+use Rattle.xa_store.specs.{Gathered.IsTakenIn, Legal.{IsLegal, LetsIn}, Spread.HasAnswered}
+use Rattle.xa_store.{specs.declared.race_fault.RaceFault.RaceFault, proofs.Races.legal_in}
 use Rattle.xa_store.proofs.Spreading.{zip_get, zip_first, zip_chain, map_twice}
-use Rattle.xa_races.specs.Long.{known_in, IsAddedBy, IsListed, HasRaced, EndsAt, StopsAt, Settles, Keeps}
-use Rattle.xa_races.specs.Long.{AreOfOne, seen_by_last, IsLongOutcome, BlamesLong}
-use Rattle.xa_races.specs.Assembled.{IsWithin}
-use Rattle.xa_races.specs.declared.added.Added.{Added}
-use Rattle.xa_races.specs.declared.racer.Raced.{Raced}
-use Rattle.xa_races.specs.declared.long_run.LongRun.{LongRun}
-use Rattle.xa_races.specs.declared.long_outcome.LongOutcome.{LongOutcome}
-use Rattle.xa_races.proofs.Statements.{own_part}
+use Rattle.xa_races.specs.Long.{known_in, IsAddedBy, IsListed, HasRaced, EndsAt, StopsAt, Settles, Keeps, AreOfOne}
+use Rattle.xa_races.specs.{Long.{seen_by_last, IsLongOutcome, BlamesLong}, Assembled.IsWithin}
+use Rattle.xa_races.specs.declared.{added.Added.Added, racer.Raced.Raced, long_run.LongRun.LongRun}
+use Rattle.xa_races.{specs.declared.long_outcome.LongOutcome.LongOutcome, proofs.Statements.own_part}
 
 -- what stands at a place of a list stands in the rest of the list from `from` on at the place counted from there
 pub get_drop : (from place : ℕ) (list : List Entry) → from ≤ place
@@ -276,8 +265,8 @@ blames_one gate runs raced place one fault went found has =
     by : (fault : RaceFault) → (run : LongRun) → (session : EndlessSession)
         → StopsAt gate (known_in run.session) run.lines.items fault session
         → slice_get runs place ≡ Some run → BlamesLong gate runs fault
-    by (GateShut session line) run mid stops found =
+    by (RaceFault.GateShut session line) run mid stops found =
         record { index = place; run = run; found = found; session = mid; stops = stops }
-    by (Full session line) run mid stops found = absurd stops
-    by NoMemory run mid stops found = tt
-    by ThreadRefused run mid stops found = absurd stops
+    by (RaceFault.Full session line) run mid stops found = absurd stops
+    by RaceFault.NoMemory run mid stops found = tt
+    by RaceFault.ThreadRefused run mid stops found = absurd stops

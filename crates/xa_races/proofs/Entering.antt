@@ -4,15 +4,13 @@
 --     IsNew, last_none, base_none     no session has seen anything, so neither has the last;  their state is empty
 --     holds_none                  each has seen all of nothing
 use Rattle.std.proofs.Common.{◌≡◌, ℕ, ◌+◌, List, [], ◌∷◌, ◌++◌, length, map, refl, ap, sym, ◌∙◌, subst, arith}
-use Rattle.std.specs.List.{All}
-use Rattle.std.proofs.lemmas.List.Elements.{All-nil, All-cons, All-head, All-tail, All-weaker}
+use Rattle.std.{proofs.lemmas.List.Elements.{All-nil, All-cons, All-head, All-tail, All-weaker}, specs.List.All}
 use Rattle.xa_words.specs.Entry.{Entry}
 use Rattle.xa_server.specs.State.{no_state}
 use Rattle.decision_log.proofs.Histories.{begins_nothing}
 use Rattle.xa_session.specs.Replay.{state_after}
 use Rattle.xa_endless.specs.declared.session.EndlessSession.{EndlessSession}
-use Rattle.xa_races.specs.Long.{known_in, HoldsAll, seen_by_last}
-use Rattle.xa_races.specs.CountedHeld.{AreNumbered, numbers_from}
+use Rattle.xa_races.specs.{Long.{known_in, HoldsAll, seen_by_last}, CountedHeld.{AreNumbered, numbers_from}}
 use Rattle.xa_races.proofs.CountedGiven.{head_or, tail_of}
 
 -- what holds of each of several and of one more holds of all of them

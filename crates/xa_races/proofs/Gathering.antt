@@ -1,17 +1,12 @@
 -- Sessions of a store without an end that meet.
 use Rattle.std.proofs.Common.{◌≡◌, ℕ, zero, suc, ◌<◌, List, [], ◌∷◌, length, get_or, set, refl, ap, sym, subst, ◌∙◌}
-use Rattle.std.proofs.Common.{arith}
+use Rattle.std.proofs.{Common.arith, lemmas.List.Elements.{All-get_or, AllZip-get_or, length_all_zip}}
 use Rattle.std.specs.List.{All, AllZip}
-use Rattle.std.proofs.lemmas.List.Elements.{All-get_or, AllZip-get_or, length_all_zip}
-use Rattle.decision_log.specs.Calls.{MeetsFirst}
-use Rattle.decision_log.specs.History.{Begins, entries_of}
-use Rattle.decision_log.proofs.Histories.{begins_itself}
-use Rattle.xa_store.specs.Gathered.{IsTakenIn, AddsNothing}
+use Rattle.decision_log.{specs.{Calls.MeetsFirst, History.{Begins, entries_of}}, proofs.Histories.begins_itself}
+use Rattle.xa_store.{specs.Gathered.{IsTakenIn, AddsNothing}, proofs.Gathering.{meets_nobody, meets_again}}
+use Rattle.xa_store.proofs.Gathering.{keeps_itself, keeps_again, meets_keeps, zip_weaker, zip_through, all_kept}
 use Rattle.xa_endless.specs.declared.session.EndlessSession.{EndlessSession}
-use Rattle.xa_store.proofs.Gathering.{meets_nobody, meets_again, keeps_itself, keeps_again, meets_keeps, zip_weaker}
-use Rattle.xa_store.proofs.Gathering.{zip_through, all_kept}
-use Rattle.xa_races.specs.Long.{known_in, Keeps, HoldsAll}
-use Rattle.xa_races.proofs.Statements.{own_part}
+use Rattle.xa_races.{specs.Long.{known_in, Keeps, HoldsAll}, proofs.Statements.own_part}
 
 -- what a session is after it met another one: of the same store, and with what it knows changed as `MeetsFirst` says
 abbrev pub Meets : EndlessSession → EndlessSession → Type 0

@@ -2,8 +2,7 @@
 use Rattle.std.proofs.Common.{◌≡◌, ℕ, zero, suc, Bool, ◌+◌, Vec, Global, List, [], ◌∷◌, map, take, ap, ◌∙◌, arith}
 use Rattle.std.proofs.Common.{zero-add}
 use Rattle.xa_xid.specs.declared.statement.Statement.{Statement}
-use Rattle.xa_races.specs.Race.{part_at, statements_of}
-use Rattle.xa_races.specs.Outcome.{AreListsFrom, IsRacedInLog, IsRacedOn}
+use Rattle.xa_races.specs.{Race.{part_at, statements_of}, Outcome.{AreListsFrom, IsRacedInLog, IsRacedOn}}
 use Rattle.xa_races.specs.HeldOn.{IsHeldInLog, IsHeldEndless}
 
 -- a race held at a gate over a log is a race over that log: the gate only delays sessions

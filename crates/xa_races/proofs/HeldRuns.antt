@@ -7,31 +7,22 @@
 --     held_none, held_next     races that were held, one after another
 --     passed_on        a fault that is passed on
 --     held_written     what is written for them
-use Rattle.std.proofs.Common.{◌≡◌, ℕ, Bool, true, false, Option, Result, Ok, Err, ◌+◌, ◌≤◌, ◌++◌, List, []}
-use Rattle.std.proofs.Common.{◌∷◌, length, refl, ap, sym, ◌∙◌, subst, inl, inr, IfSome, IfErr, OnOk}
-use Rattle.std.specs.List.{All}
+use Rattle.std.proofs.Common.{◌≡◌, ℕ, Bool, true, false, Option, Result, Ok, Err, ◌+◌, ◌≤◌, ◌++◌, List, [], ◌∷◌, length}
+use Rattle.std.proofs.{Common.{refl, ap, sym, ◌∙◌, subst, inl, inr, IfSome, IfErr, OnOk}, lemmas.List.length_push}
+use Rattle.std.{proofs.lemmas.List.Elements.{All-nil, All-push}, specs.List.All}
 use Rattle.std.specs.Io.KnownBytes.{Appends, Consumes, IsAtEnd}
-use Rattle.std.proofs.lemmas.List.{length_push}
-use Rattle.std.proofs.lemmas.List.Elements.{All-nil, All-push}
 use Rattle.xa_server.specs.State.{State, no_state}
 use Rattle.xa_session.specs.Replay.{state_after}
 use Rattle.xa_endless.specs.declared.session.EndlessSession.{EndlessSession}
 use Rattle.xa_lines.specs.declared.script_fault.ScriptFault.{ScriptFault}
+use Rattle.xa_orders.specs.{Orders.{Told, Parts, told_text, told_state}, Scripts.{script_read, parts_of}}
+use Rattle.xa_races.specs.{Long.{known_in, HoldsAll, seen_by_last}, CountedRaced.IsReadLine}
+use Rattle.xa_races.specs.{CountedHeld.{AreWithin, AreNumbered, AreRunsOf}, CountedBases.base_of}
+use Rattle.xa_races.specs.{Came.{IsOfRace, IsWellRead}, HeldRuns.{IsRacedBy, GivesRacedBy, IsLeftIn, IsHeldOnce}}
+use Rattle.xa_races.specs.HeldRuns.{AreHeld, IsSeenOf, AppendsHeldRuns, EndsBeside, EndsRuns, EndsLong, IsOfOpen}
+use Rattle.xa_races.{specs.declared.{counted_opened.Opened.Opened, long_run.LongRun.LongRun}, proofs.AtGate.shut_beside}
+use Rattle.xa_races.proofs.{Ended.ended_over, Written.read_whole}
 use Rattle.xa_lines.specs.declared.script_fault.ScriptFault.TheVariants as fault
-use Rattle.xa_orders.specs.Orders.{Told, Parts, told_text, told_state}
-use Rattle.xa_orders.specs.Scripts.{script_read, parts_of}
-use Rattle.xa_races.specs.Long.{known_in, HoldsAll, seen_by_last}
-use Rattle.xa_races.specs.CountedRaced.{IsReadLine}
-use Rattle.xa_races.specs.CountedHeld.{AreWithin, AreNumbered, AreRunsOf}
-use Rattle.xa_races.specs.CountedBases.{base_of}
-use Rattle.xa_races.specs.Came.{IsOfRace, IsWellRead}
-use Rattle.xa_races.specs.HeldRuns.{IsRacedBy, GivesRacedBy, IsLeftIn, IsHeldOnce, AreHeld, IsSeenOf, AppendsHeldRuns}
-use Rattle.xa_races.specs.HeldRuns.{EndsBeside, EndsRuns, EndsLong, IsOfOpen}
-use Rattle.xa_races.specs.declared.counted_opened.Opened.{Opened}
-use Rattle.xa_races.specs.declared.long_run.LongRun.{LongRun}
-use Rattle.xa_races.proofs.AtGate.{shut_beside}
-use Rattle.xa_races.proofs.Ended.{ended_over}
-use Rattle.xa_races.proofs.Written.{read_whole}
 
 -- a fault that is passed on has the cause that it had where it arose
 pub passed_on : {A : Type 0} (P : ScriptFault → Type 0) (result : Result A ScriptFault) (passed cause : ScriptFault)

@@ -10,19 +10,13 @@
 --     Due, due          the first line that is left was answered at the place;  so was that of the next entry's session
 --     ended             at the end of the history no line is left
 use Rattle.std.proofs.Common.{◌≡◌, ◌≢◌, ℕ, zero, suc, ◌+◌, ◌-◌, ◌≤◌, Bool, true, false, cond, Some, List, [], ◌∷◌}
-use Rattle.std.proofs.Common.{length, map, drop, refl, ap, sym, ◌∙◌, subst}
-use Rattle.std.proofs.Common.{inl, inr, arith, add-one}
-use Rattle.std.specs.Prelude.{slice_get}
-use Rattle.std.proofs.lemmas.List.{drop-drop}
-use Rattle.std.proofs.lemmas.Option.{none-some, same_Some, slice_get_past}
+use Rattle.std.proofs.Common.{length, map, drop, refl, ap, sym, ◌∙◌, subst, inl, inr, arith, add-one}
+use Rattle.std.{proofs.lemmas.{List.drop-drop, Option.{none-some, same_Some, slice_get_past}}, specs.Prelude.slice_get}
 use Rattle.xa_xid.specs.declared.statement.Statement.{Statement}
 use Rattle.xa_words.specs.Entry.{Entry}
-use Rattle.xa_server.specs.State.{State}
-use Rattle.xa_server.specs.Step.{enters}
+use Rattle.xa_server.specs.{State.State, Step.enters}
 use Rattle.decision_log.specs.History.{entries_of, is_of}
-use Rattle.xa_session.specs.Replay.{state_at}
-use Rattle.xa_session.specs.Answer.{entry_of}
-use Rattle.xa_session.specs.declared.answer.Answer.{Answer}
+use Rattle.xa_session.specs.{Replay.state_at, Answer.entry_of, declared.answer.Answer.Answer}
 use Rattle.xa_store.specs.Legal.{Answered, entered}
 use Rattle.xa_races.proofs.Tests.{same_number, same_test, apart_test}
 

@@ -5,28 +5,22 @@
 --     came_given       what came of parts is given by an order
 --     came_outcome, came_listed     it is the text of an explored outcome;  it is among their texts
 use Rattle.std.proofs.Common.{◌≡◌, ℕ, suc, ◌+◌, ◌≤◌, ◌==◌, ◌&&◌, Bool, true, false, not, cond, Option, Some, None, List}
-use Rattle.std.proofs.Common.{[], ◌∷◌, ◌++◌, length, map}
-use Rattle.std.proofs.Common.{refl, ap, sym, ◌∙◌, subst, inl, inr, arith, append-nil}
-use Rattle.std.specs.Prelude.{nat_lt}
-use Rattle.std.specs.List.{Contains, concat}
+use Rattle.std.proofs.Common.{[], ◌∷◌, ◌++◌, length, map, refl, ap, sym, ◌∙◌, subst, inl, inr, arith, append-nil}
+use Rattle.std.{proofs.lemmas.Option.{none-some, same_Some}, specs.{Prelude.nat_lt, List.{Contains, concat}}}
 use Rattle.std.specs.Option.{option_map}
-use Rattle.std.proofs.lemmas.Option.{none-some, same_Some}
 use Rattle.xa_xid.specs.declared.statement.Statement.{Statement}
 use Rattle.xa_statement.specs.Reading.{read_of}
 use Rattle.xa_words.specs.Entry.{Entry}
 use Rattle.xa_server.specs.State.{State, no_state}
 use Rattle.decision_log.specs.Known.{newcomer}
-use Rattle.xa_session.specs.Replay.{state_after}
-use Rattle.xa_session.proofs.Replaying.{state_after-nil}
-use Rattle.xa_session.specs.declared.answer.Answer.{Answer}
+use Rattle.xa_session.{specs.{Replay.state_after, declared.answer.Answer.Answer}, proofs.Replaying.state_after-nil}
 use Rattle.xa_store.specs.Legal.{Answered, entered, next_place, IsLegal}
 use Rattle.xa_lines.specs.Transcript.{answer_to, state_then}
-use Rattle.xa_orders.specs.declared.outcome.Outcome.{Outcome}
-use Rattle.xa_orders.specs.Orders.{Told, Parts, Config, opening, text_at, carried_out, turn, IsSession, LeadsTo, Gives}
-use Rattle.xa_orders.specs.Orders.{AtMost, Any, IsExplored, told_text, told_state}
+use Rattle.xa_orders.specs.{declared.outcome.Outcome.Outcome, Orders.{Told, Parts, Config, opening, text_at}}
+use Rattle.xa_orders.specs.Orders.{carried_out, turn, IsSession, LeadsTo, Gives, AtMost, Any, IsExplored, told_text}
+use Rattle.xa_orders.specs.Orders.{told_state}
 use Rattle.xa_races.specs.CountedRaced.{statements_of, laid_texts, IsRaced, HasCome}
-use Rattle.xa_races.proofs.Tests.{same_of_test, all_at}
-use Rattle.xa_races.proofs.Histories.{Remains, statements_in, answers_in}
+use Rattle.xa_races.proofs.{Tests.{same_of_test, all_at}, Histories.{Remains, statements_in, answers_in}}
 use Rattle.xa_races.proofs.Turns.{Lines, Stands, Goes, said_of, opening_agrees, opening_left, all_empty}
 use Rattle.xa_races.proofs.CountedSchedules.{itself, counted_goes}
 

@@ -1,28 +1,19 @@
 -- The runs of a race over a new store.
 use Rattle.std.proofs.Common.{◌≡◌, ℕ, zero, suc, Bool, ◌<◌, ◌≤◌, ◌+◌, List, [], ◌∷◌, ◌++◌, length, map, take, Some}
-use Rattle.std.proofs.Common.{refl, ap, sym, ◌∙◌, subst, arith}
-use Rattle.std.specs.Prelude.{slice_get}
-use Rattle.std.specs.List.{All, AllZip, AllByRecursion}
-use Rattle.std.proofs.lemmas.List.Elements.{All-nil, All-cons, All-from_recursion}
-use Rattle.std.proofs.lemmas.List.Elements.{recursion_from_All}
-use Rattle.std.proofs.lemmas.Option.{none-some, same_Some}
+use Rattle.std.proofs.{Common.{refl, ap, sym, ◌∙◌, subst, arith}, lemmas.Option.{none-some, same_Some}}
+use Rattle.std.proofs.lemmas.List.Elements.{All-nil, All-cons, All-from_recursion, recursion_from_All}
+use Rattle.std.specs.{Prelude.slice_get, List.{All, AllZip, AllByRecursion}}
 use Rattle.xa_xid.specs.declared.statement.Statement.{Statement}
 use Rattle.xa_words.specs.Entry.{Entry}
 use Rattle.xa_server.specs.State.{State, no_state}
-use Rattle.decision_log.specs.declared.known.Known.{Known}
-use Rattle.decision_log.specs.Known.{newcomer}
+use Rattle.decision_log.specs.{declared.known.Known.Known, Known.newcomer, History.entries_of}
 use Rattle.decision_log.proofs.Histories.{begins_nothing}
-use Rattle.decision_log.specs.History.{entries_of}
 use Rattle.xa_session.specs.declared.answer.Answer.{Answer}
-use Rattle.xa_endless.specs.Opens.{Opens}
-use Rattle.xa_endless.specs.declared.session.EndlessSession.{EndlessSession}
+use Rattle.xa_endless.specs.{Opens.Opens, declared.session.EndlessSession.EndlessSession}
 use Rattle.xa_endless.specs.declared.store.EndlessStore.{EndlessStore}
-use Rattle.xa_store.specs.Legal.{IsLegal, LetsIn, Answered, entered}
-use Rattle.xa_store.specs.declared.race_fault.RaceFault.{RaceFault}
-use Rattle.xa_store.specs.declared.race_fault.RaceFault.TheVariants.{GateShut, Full, NoMemory, ThreadRefused}
-use Rattle.xa_races.specs.Long.{known_in, IsLongOutcome, BlamesLong}
+use Rattle.xa_store.specs.{Legal.{IsLegal, LetsIn, Answered, entered}, declared.race_fault.RaceFault.RaceFault}
+use Rattle.xa_races.specs.{Long.{known_in, IsLongOutcome, BlamesLong}, declared.long_run.LongRun.LongRun}
 use Rattle.xa_races.specs.LongRace.{IsNewRun, AreNewRuns, AllAnswered, AllLetIn, IsLongRace, BlamesRace}
-use Rattle.xa_races.specs.declared.long_run.LongRun.{LongRun}
 use Rattle.xa_races.specs.declared.long_outcome.LongOutcome.{LongOutcome}
 
 -- the new runs of a store, and one more with the next number, are new runs of the store
@@ -187,7 +178,7 @@ new_at store n (l ∷ lists) (r ∷ runs) (suc index) run are found =
 pub blames_race : (gate : ℕ → ℕ → Bool → Type 0) (store : EndlessStore) (lists : List (List Statement))
     (runs : List LongRun) (fault : RaceFault)
     → AreNewRuns store 1 lists runs → BlamesLong gate runs fault → BlamesRace gate lists fault
-blames_race gate store lists runs (GateShut session line) are blamed =
+blames_race gate store lists runs (RaceFault.GateShut session line) are blamed =
     let at = new_at store 1 lists runs blamed.index blamed.run are blamed.found in
     let reached = blamed.stops.0 in
     record {
@@ -211,7 +202,7 @@ blames_race gate store lists runs (GateShut session line) are blamed =
         shut = blamed.stops.1;
       };
     }
-blames_race gate store lists runs (Full session line) are blamed = absurd blamed
-blames_race gate store lists runs NoMemory are blamed = tt
-blames_race gate store lists runs ThreadRefused are blamed = let long = new_long store 1 lists runs are in
+blames_race gate store lists runs (RaceFault.Full session line) are blamed = absurd blamed
+blames_race gate store lists runs RaceFault.NoMemory are blamed = tt
+blames_race gate store lists runs RaceFault.ThreadRefused are blamed = let long = new_long store 1 lists runs are in
     omega (arith, long, blamed)

@@ -1,13 +1,9 @@
 -- Entries that are put to their places.
-use Rattle.std.proofs.Common.{◌≡◌, ◌⊎◌, ℕ, zero, suc, ◌≤◌, List, [], ◌∷◌, length, map, set, Option}
-use Rattle.std.proofs.Common.{Some, None, inl, inr, ⊎_elim, refl, ap, sym, ◌∙◌, subst, arith}
-use Rattle.std.specs.Prelude.{slice_get}
-use Rattle.std.specs.List.{All, AllByRecursion}
-use Rattle.std.proofs.lemmas.List.Elements.{recursion_from_All}
-use Rattle.std.proofs.lemmas.Option.{none-some, same_Some}
+use Rattle.std.proofs.Common.{◌≡◌, ◌⊎◌, ℕ, zero, suc, ◌≤◌, List, [], ◌∷◌, length, map, set, Option, Some, None, inl}
+use Rattle.std.proofs.{Common.{inr, ⊎_elim, refl, ap, sym, ◌∙◌, subst, arith}, lemmas.List.Elements.recursion_from_All}
+use Rattle.std.{proofs.lemmas.Option.{none-some, same_Some}, specs.{Prelude.slice_get, List.{All, AllByRecursion}}}
 use Rattle.xa_words.specs.Entry.{Entry}
-use Rattle.decision_log.specs.Known.{AllOf}
-use Rattle.decision_log.proofs.Histories.{all_from_places}
+use Rattle.decision_log.{specs.Known.AllOf, proofs.Histories.all_from_places}
 use Rattle.xa_races.specs.Assembled.{Fits, HasOnly}
 
 -- after an element was set, a place has the new one if it is that place, and else the old one

@@ -1,15 +1,11 @@
 -- The lines of a race, how its outcome is printed, and steps of loops over lists.
 use Rattle.std.proofs.Common.{◌≡◌, ℕ, zero, suc, ◌+◌, ◌<◌, ◌≤◌, ◌==◌, max, true, Bool, Option, Some, None, List, []}
-use Rattle.std.proofs.Common.{◌∷◌, ◌++◌, length, map, take, get_or, min, refl}
-use Rattle.std.proofs.Common.{ap, sym, ◌∙◌, arith, append_assoc, append-nil}
-use Rattle.std.specs.List.{filter_map, cons_option}
-use Rattle.std.specs.Option.{option_to_list}
-use Rattle.std.proofs.lemmas.List.{take_more}
-use Rattle.std.proofs.lemmas.Grind.{common_steps}
+use Rattle.std.proofs.Common.{◌∷◌, ◌++◌, length, map, take, get_or, min, refl, ap, sym, ◌∙◌, arith, append_assoc}
+use Rattle.std.proofs.{Common.append-nil, lemmas.{List.take_more, Grind.common_steps}}
+use Rattle.std.specs.{List.{filter_map, cons_option}, Option.option_to_list}
 use Rattle.xa_words.specs.Entry.{Entry}
 use Rattle.xa_session.specs.declared.answer.Answer.{Answer}
-use Rattle.xa_lines.specs.Printed.{converts}
-use Rattle.xa_lines.specs.Script.{lines_of, line_of}
+use Rattle.xa_lines.specs.{Printed.converts, Script.{lines_of, line_of}}
 use Rattle.xa_races.specs.Race.{fault_place, fault_text, faults_text, session_in, last_session, statement_by}
 use Rattle.xa_races.specs.Race.{statements_of}
 use Rattle.xa_races.specs.Outcome.{entry_text, entries_text, placed_text, session_text, answers_text}

@@ -1,17 +1,11 @@
 -- The runs of a race, and the sessions of its history.
 use Rattle.std.proofs.Common.{◌≡◌, ℕ, zero, suc, Some, None, get_or, Vec, Global, ◌+◌, ◌<◌, ◌≤◌, max, List, [], ◌∷◌}
-use Rattle.std.proofs.Common.{◌++◌, length, map, take, refl, ap, sym, ◌∙◌, subst, arith}
-use Rattle.std.specs.Prelude.{slice_get}
+use Rattle.std.proofs.{Common.{◌++◌, length, map, take, refl, ap, sym, ◌∙◌, subst, arith}, lemmas.List.length-take}
+use Rattle.std.{proofs.lemmas.List.Elements.{All-head, All-tail, All-cons, All-nil, All-take}, specs.Prelude.slice_get}
 use Rattle.std.specs.List.{All, AllZip, zip}
-use Rattle.std.proofs.lemmas.List.Elements.{All-head, All-tail, All-cons, All-nil, All-take}
-use Rattle.std.proofs.lemmas.List.{length-take}
 use Rattle.xa_words.specs.Entry.{Entry}
-use Rattle.decision_log.specs.Known.{LogIdentity, newcomer, AllOf}
-use Rattle.decision_log.specs.declared.known.Known.{Known}
-use Rattle.xa_store.specs.Passes.{Pass, log_of, known_of}
-use Rattle.xa_store.specs.Gathered.{last_known}
-use Rattle.xa_store.specs.Legal.{IsReturned}
-use Rattle.xa_store.specs.declared.run.Run.{Run}
+use Rattle.decision_log.specs.{Known.{LogIdentity, newcomer, AllOf}, declared.known.Known.Known}
+use Rattle.xa_store.specs.{Passes.{Pass, log_of, known_of}, Gathered.last_known, Legal.IsReturned, declared.run.Run.Run}
 use Rattle.xa_xid.specs.declared.statement.Statement.{Statement}
 use Rattle.xa_races.specs.Race.{AreRunsFrom, part_at, statements_of}
 

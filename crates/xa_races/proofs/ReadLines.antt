@@ -1,20 +1,15 @@
 -- What a script gives to a race, line by line.
 use Rattle.std.proofs.Common.{◌≡◌, ℕ, zero, suc, ◌+◌, ◌-◌, ◌<◌, ◌≤◌, ◌==◌, max, true, false, Bool, cond, Some, None}
-use Rattle.std.proofs.Common.{Result, Ok, Err, Vec, Global, List, [], ◌∷◌, ◌++◌, length, map}
-use Rattle.std.proofs.Common.{get_or, refl, ap, sym, ◌∙◌, arith, append-nil}
-use Rattle.std.specs.Option.{option_to_list}
+use Rattle.std.proofs.Common.{Result, Ok, Err, Vec, Global, List, [], ◌∷◌, ◌++◌, length, map, get_or, refl, ap, sym}
+use Rattle.std.{proofs.{Common.{◌∙◌, arith, append-nil}, lemmas.Bool.Decides.nat_tests}, specs.Option.option_to_list}
 use Rattle.std.specs.Prelude.{slice_set, OnOk}
-use Rattle.std.proofs.lemmas.Bool.Decides.{nat_tests}
 use Rattle.xa_xid.specs.declared.statement.Statement.{Statement}
-use Rattle.xa_statement.specs.Reading.{read_of, seen_of}
-use Rattle.xa_statement.specs.declared.syntax_fault.SyntaxFault.{SyntaxFault}
+use Rattle.xa_statement.specs.{Reading.{read_of, seen_of}, declared.syntax_fault.SyntaxFault.SyntaxFault}
 use Rattle.xa_lines.specs.Script.{Given, lines_of, line_of}
-use Rattle.xa_races.specs.declared.given.RaceScript.{RaceScript}
-use Rattle.xa_races.specs.Race.{fault_text, faults_text, last_session, statements_of, part_at, Gains, TakesLine}
-use Rattle.xa_races.specs.Race.{HasRead, place_of_fault, statement_read}
-use Rattle.xa_races.proofs.RaceRuns.{map_push}
-use Rattle.xa_races.proofs.Race.{faults_text-line, faults_text-end, last_session-line, last_session-end}
-use Rattle.xa_races.proofs.Race.{statements_of-line, statements_of-end, moved, moved_whole}
+use Rattle.xa_races.specs.{declared.given.RaceScript.RaceScript, Race.{fault_text, faults_text, last_session}}
+use Rattle.xa_races.specs.Race.{statements_of, part_at, Gains, TakesLine, HasRead, place_of_fault, statement_read}
+use Rattle.xa_races.proofs.{RaceRuns.map_push, Race.{faults_text-line, faults_text-end, last_session-line}}
+use Rattle.xa_races.proofs.Race.{last_session-end, statements_of-line, statements_of-end, moved, moved_whole}
 
 -- an empty list behind others changes nothing: past the last list there is the empty one anyway
 pub part_at-more : {A : Type 0} (lists : List (List A)) (index : ℕ)

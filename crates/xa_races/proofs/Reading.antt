@@ -4,9 +4,7 @@ use Rattle.std.proofs.lemmas.List.Elements.{All-nil, All-push}
 use Rattle.xa_xid.specs.declared.statement.Statement.{Statement}
 use Rattle.xa_statement.specs.Reading.{read_of}
 use Rattle.xa_lines.specs.Script.{Line, Blank, Bad, Given, line_of, lines_of, is_comment_line}
-use Rattle.xa_orders.specs.declared.stage.Stage.{Stage}
-use Rattle.xa_orders.specs.declared.stage.Stage.TheVariants.{First, Beside, After}
-use Rattle.xa_orders.specs.Orders.{Told}
+use Rattle.xa_orders.specs.{declared.stage.Stage.{Stage, TheVariants.{First, Beside, After}}, Orders.Told}
 use Rattle.xa_orders.specs.Scripts.{Reading, nothing_read, with_beside, with_after, with_told, with_statement}
 use Rattle.xa_orders.specs.Scripts.{with_line, is_word, read_more, read_lines, script_read, parts_of}
 use Rattle.xa_races.specs.CountedRaced.{IsReadLine, AreRead}

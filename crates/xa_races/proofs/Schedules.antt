@@ -4,21 +4,13 @@
 --     Leads             turns lead to the end once a session is drained
 --     goes              turns of the lines that are left at a place lead to the end
 use Rattle.std.proofs.Common.{◌≡◌, ◌≢◌, ℕ, zero, suc, ◌+◌, ◌<◌, ◌≤◌, Bool, true, false, Some, List, [], ◌∷◌, length}
-use Rattle.std.proofs.Common.{refl, ap, sym, ◌∙◌, subst, inl}
-use Rattle.std.proofs.Common.{inr, arith, add-one}
+use Rattle.std.proofs.{Common.{refl, ap, sym, ◌∙◌, subst, inl, inr, arith, add-one}, lemmas.Option.same_Some}
 use Rattle.std.specs.Prelude.{slice_get}
-use Rattle.std.proofs.lemmas.Option.{same_Some}
 use Rattle.xa_words.specs.Entry.{Entry}
-use Rattle.xa_server.specs.State.{State}
-use Rattle.xa_server.specs.Replies.{reply_to}
-use Rattle.xa_server.specs.Step.{enters, after}
-use Rattle.xa_server.proofs.Entering.{unentered_leaves}
-use Rattle.xa_session.specs.Replay.{state_at}
-use Rattle.xa_session.specs.Answer.{entry_of}
-use Rattle.xa_session.proofs.Replaying.{state_at-next}
+use Rattle.xa_server.{specs.{State.State, Replies.reply_to, Step.{enters, after}}, proofs.Entering.unentered_leaves}
+use Rattle.xa_session.{specs.{Replay.state_at, Answer.entry_of}, proofs.Replaying.state_at-next}
 use Rattle.xa_orders.specs.Orders.{IsSession}
-use Rattle.xa_races.specs.LinesLeft.{with_lines}
-use Rattle.xa_races.proofs.Tests.{same_number, get_within, lines_own, lines_other}
+use Rattle.xa_races.{specs.LinesLeft.with_lines, proofs.Tests.{same_number, get_within, lines_own, lines_other}}
 use Rattle.xa_races.proofs.Histories.{Said, Remains, Drained, skipped, entering, enters_there, waiting, Due, due, ended}
 
 -- Lines of any kind have their turns in configurations of any kind. `Stands` says how things stand, and `Goes` that

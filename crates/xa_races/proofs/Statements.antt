@@ -1,31 +1,19 @@
 -- What a session of a long race says, one statement after another.
 use Rattle.std.proofs.Common.{◌≡◌, ℕ, Bool, true, false, ◌<◌, List, length, take, refl, ap, sym, ◌∙◌, subst, Some}
-use Rattle.std.proofs.Common.{arith}
-use Rattle.std.specs.Prelude.{slice_get}
-use Rattle.std.specs.List.{All}
-use Rattle.std.proofs.lemmas.List.Elements.{All-weaker}
+use Rattle.std.{proofs.{Common.arith, lemmas.List.Elements.All-weaker}, specs.{Prelude.slice_get, List.All}}
 use Rattle.xa_xid.specs.declared.statement.Statement.{Statement}
 use Rattle.xa_words.specs.Entry.{Entry}
-use Rattle.xa_server.specs.State.{no_state}
-use Rattle.xa_server.specs.Step.{enters}
-use Rattle.decision_log.specs.declared.known.Known.{Known}
-use Rattle.decision_log.specs.History.{Begins, entries_of}
+use Rattle.xa_server.specs.{State.no_state, Step.enters}
+use Rattle.decision_log.specs.{declared.known.Known.Known, History.{Begins, entries_of}}
 use Rattle.decision_log.proofs.Histories.{get_begins, begins_itself, begins_through}
-use Rattle.xa_session.specs.Answer.{IsAnswered}
-use Rattle.xa_session.specs.Replay.{state_at}
-use Rattle.xa_session.specs.declared.answer.Answer.{Answer}
+use Rattle.xa_session.specs.{Answer.IsAnswered, Replay.state_at, declared.answer.Answer.Answer}
 use Rattle.chain_log.specs.RingPass.{identity_of, log_of}
-use Rattle.xa_endless.specs.Answers.{IsCaused}
-use Rattle.xa_endless.specs.Seen.{HasOnlySeen}
+use Rattle.xa_endless.specs.{Answers.IsCaused, Seen.HasOnlySeen, declared.session.EndlessSession.EndlessSession}
 use Rattle.xa_endless.specs.declared.fault.EndlessFault.TheVariants.{NoMemory as NoMoreMemory}
-use Rattle.xa_endless.specs.declared.session.EndlessSession.{EndlessSession}
 use Rattle.xa_endless.specs.declared.store.EndlessStore.{EndlessStore}
-use Rattle.xa_store.specs.Gathered.{IsTakenIn, AddsNothing}
-use Rattle.xa_store.specs.declared.race_fault.RaceFault.{RaceFault}
-use Rattle.xa_store.specs.declared.race_fault.RaceFault.TheVariants.{GateShut, Full, NoMemory, ThreadRefused}
+use Rattle.xa_store.specs.{Gathered.{IsTakenIn, AddsNothing}, declared.race_fault.RaceFault.RaceFault}
 use Rattle.xa_store.proofs.Legality.{IsOnTheWay, legal_longer, no_further}
-use Rattle.xa_races.specs.Long.{known_in, IsAddedBy, HaltsAt, StopsAt}
-use Rattle.xa_races.specs.declared.added.Added.{Added}
+use Rattle.xa_races.specs.{Long.{known_in, IsAddedBy, HaltsAt, StopsAt}, declared.added.Added.Added}
 
 -- an entry that was added is at its place in all that is seen later
 pub added_longer : (front list : List Entry) (session : ℕ) (added : List Added) → Begins front list
@@ -54,14 +42,14 @@ module _ (gate : ℕ → ℕ → Bool → Type 0) (before : Known) (now new : En
       → IsOnTheWay no_state before (known_in now) (take place statements) answers
       → HaltsAt gate place statement fault now new
       → StopsAt gate before statements fault new
-  stops_at (GateShut session line) below given store way is = (
+  stops_at (RaceFault.GateShut session line) below given store way is = (
     no_further gate no_state 0 before (known_in now) (known_in new) statements answers place statement
-        (GateShut session line) below (own_part now)
+        (RaceFault.GateShut session line) below (own_part now)
         (own_part new) way is,
     is.2.shut,
   )
-  stops_at (Full session line) below given store way is = absurd is
-  stops_at NoMemory below given store way is =
+  stops_at (RaceFault.Full session line) below given store way is = absurd is
+  stops_at RaceFault.NoMemory below given store way is =
       let unanswered = is.failed.fails in
       let taken : IsTakenIn (known_in new).seen (known_in now) = record {
         seen = unanswered.advances.seen;
@@ -84,17 +72,17 @@ module _ (gate : ℕ → ℕ → Bool → Type 0) (before : Known) (now new : En
             (λ (store : EndlessStore). IsCaused store.log statement NoMoreMemory new.member.replica new.member.pass)
             (sym store) is.failed.cause;
       }
-  stops_at ThreadRefused below given store way is = absurd is
+  stops_at RaceFault.ThreadRefused below given store way is = absurd is
 
 -- a session that stops at a statement has seen no less than before
 pub halts_begins : (gate : ℕ → ℕ → Bool → Type 0) (place : ℕ) (statement : Statement) (fault : RaceFault)
     (now new : EndlessSession)
     → HaltsAt gate place statement fault now new → Begins (known_in now).seen (known_in new).seen
-halts_begins gate place statement (GateShut session line) now new is =
+halts_begins gate place statement (RaceFault.GateShut session line) now new is =
     subst (λ (known : Known). Begins (known_in now).seen known.seen) (sym is.2.same) (begins_itself (known_in now).seen)
-halts_begins gate place statement (Full session line) now new is = absurd is
-halts_begins gate place statement NoMemory now new is = is.failed.fails.advances.seen
-halts_begins gate place statement ThreadRefused now new is = absurd is
+halts_begins gate place statement (RaceFault.Full session line) now new is = absurd is
+halts_begins gate place statement RaceFault.NoMemory now new is = is.failed.fails.advances.seen
+halts_begins gate place statement RaceFault.ThreadRefused now new is = absurd is
 
 -- if a session has seen more than the entries before its answer's place, the statement was logged
 pub entered_where_longer : (statement : Statement) (answer : Answer) (old new : Known)

@@ -1,38 +1,28 @@
 -- The sessions and the runs of a race, and its faults.
 use Rattle.std.proofs.Common.{◌≡◌, ℕ, zero, suc, ◌+◌, ◌<◌, ◌≤◌, Bool, List, [], ◌∷◌, ◌++◌, length, map, refl, ap, sym}
-use Rattle.std.proofs.Common.{◌∙◌, subst, arith}
+use Rattle.std.proofs.{Common.{◌∙◌, subst, arith}, lemmas.List.Elements.{All-nil, All-cons, All-head, All-tail}}
 use Rattle.std.specs.List.{All, AllZip}
-use Rattle.std.proofs.lemmas.List.Elements.{All-nil, All-cons, All-head, All-tail}
 use Rattle.xa_xid.specs.declared.statement.Statement.{Statement}
 use Rattle.xa_words.specs.Entry.{Entry}
 use Rattle.xa_server.specs.State.{no_state}
-use Rattle.decision_log.specs.Known.{newcomer}
-use Rattle.decision_log.specs.History.{Begins}
-use Rattle.decision_log.proofs.Histories.{begins_through}
-use Rattle.xa_session.specs.Replay.{state_after}
-use Rattle.xa_session.specs.declared.answer.Answer.{Answer}
-use Rattle.xa_endless.specs.declared.session.EndlessSession.{EndlessSession}
-use Rattle.xa_endless.specs.declared.store.EndlessStore.{EndlessStore}
-use Rattle.xa_store.specs.Legal.{IsLegal}
-use Rattle.xa_store.specs.declared.race_fault.RaceFault.{RaceFault}
-use Rattle.xa_store.specs.declared.race_fault.RaceFault.TheVariants.{GateShut, Full, NoMemory, ThreadRefused}
-use Rattle.xa_races.specs.Long.{known_in, HoldsAll, BlamesLong}
-use Rattle.xa_races.specs.Outcome.{script_fault_of}
-use Rattle.xa_races.specs.declared.long_run.LongRun.{LongRun}
-use Rattle.xa_orders.specs.Orders.{Told}
-use Rattle.xa_races.specs.CountedRaced.{statements_of}
-use Rattle.xa_races.specs.CountedHeld.{list_at, AreNumbered, AreRunsOf}
-use Rattle.xa_races.specs.Came.{IsOfRace}
+use Rattle.decision_log.{specs.{Known.newcomer, History.Begins}, proofs.Histories.begins_through}
+use Rattle.xa_session.specs.{Replay.state_after, declared.answer.Answer.Answer}
+use Rattle.xa_endless.specs.declared.{session.EndlessSession.EndlessSession, store.EndlessStore.EndlessStore}
+use Rattle.xa_store.specs.{Legal.IsLegal, declared.race_fault.RaceFault.RaceFault}
+use Rattle.xa_races.specs.{Long.{known_in, HoldsAll, BlamesLong}, Outcome.script_fault_of}
+use Rattle.xa_races.specs.{declared.long_run.LongRun.LongRun, CountedRaced.statements_of}
+use Rattle.xa_races.specs.{CountedHeld.{list_at, AreNumbered, AreRunsOf}, Came.IsOfRace}
 use Rattle.xa_races.proofs.Earlier.{earlier, legal_earlier}
+use Rattle.xa_orders.specs.Orders.{Told}
 
 -- the fault of a race over a store without an end is one that the clauses on races allow
 pub race_fault : (gate : ℕ → ℕ → Bool → Type 0) (renews : Bool) (runs : List LongRun) (fault : RaceFault)
     → BlamesLong gate runs fault
     → IsOfRace renews (script_fault_of fault)
-race_fault gate renews runs (GateShut session line) blamed = tt
-race_fault gate renews runs (Full session line) blamed = absurd blamed
-race_fault gate renews runs NoMemory blamed = tt
-race_fault gate renews runs ThreadRefused blamed = tt
+race_fault gate renews runs (RaceFault.GateShut session line) blamed = tt
+race_fault gate renews runs (RaceFault.Full session line) blamed = absurd blamed
+race_fault gate renews runs RaceFault.NoMemory blamed = tt
+race_fault gate renews runs RaceFault.ThreadRefused blamed = tt
 
 -- the runs are of the store that the sessions are of
 pub runs_mine : (store : EndlessStore) (n : ℕ) (lines : List Told) (sessions : List EndlessSession)

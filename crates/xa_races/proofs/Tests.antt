@@ -2,10 +2,8 @@
 -- change.
 use Rattle.std.proofs.Common.{◌≡◌, ◌≢◌, ◌⊎◌, ℕ, zero, suc, ◌+◌, ◌<◌, ◌==◌, Bool, true, false, not, cond, Some, None}
 use Rattle.std.proofs.Common.{List, [], ◌∷◌, length, position, inl, inr, refl, ap, ◌∙◌, subst, arith}
-use Rattle.std.specs.Prelude.{slice_get, nat_lt}
-use Rattle.std.specs.List.{All, prefix_len, position_or_len}
-use Rattle.std.proofs.lemmas.Bool.Decides.{nat_tests}
-use Rattle.std.proofs.lemmas.Option.{slice_get_within, get_or_from_slice_get}
+use Rattle.std.proofs.lemmas.{Bool.Decides.nat_tests, Option.{slice_get_within, get_or_from_slice_get}}
+use Rattle.std.specs.{Prelude.{slice_get, nat_lt}, List.{All, prefix_len, position_or_len}}
 use Rattle.xa_races.specs.LinesLeft.{with_lines}
 
 -- a number is equal to itself by the test

@@ -13,30 +13,21 @@
 --     said_of        statements, each with its answer
 --     laid_one, laid_none     the answers laid out along lines, and along none
 use Rattle.std.proofs.Common.{◌≡◌, ◌≢◌, ◌⊎◌, ℕ, zero, suc, ◌+◌, ◌<◌, ◌≤◌, ◌==◌, ◌&&◌, Bool, true, false, cond, Option}
-use Rattle.std.proofs.Common.{Some, None, Result, Ok, List, [], ◌∷◌, ◌++◌}
-use Rattle.std.proofs.Common.{length, map, drop, replicate, decimal, refl, ap, sym, ◌∙◌, subst, inl, inr, arith}
-use Rattle.std.specs.Prelude.{slice_get, slice_set}
-use Rattle.std.specs.List.{All, zip, position_or_len, cons_option, sum_by}
-use Rattle.std.specs.Option.{option_map}
-use Rattle.std.proofs.lemmas.List.Elements.{All-head, All-tail}
-use Rattle.std.proofs.lemmas.List.Sums.{sum_by-append}
+use Rattle.std.proofs.Common.{Some, None, Result, Ok, List, [], ◌∷◌, ◌++◌, length, map, drop, replicate, decimal, refl}
+use Rattle.std.proofs.{Common.{ap, sym, ◌∙◌, subst, inl, inr, arith}, lemmas.List.Elements.{All-head, All-tail}}
+use Rattle.std.{proofs.lemmas.List.Sums.sum_by-append, specs.Prelude.{slice_get, slice_set}}
+use Rattle.std.specs.{List.{All, zip, position_or_len, cons_option, sum_by}, Option.option_map}
 use Rattle.xa_xid.specs.declared.statement.Statement.{Statement}
 use Rattle.xa_statement.specs.Reading.{read_of}
-use Rattle.xa_server.specs.State.{State}
-use Rattle.xa_server.specs.declared.reply.Reply.{Reply}
-use Rattle.xa_server.specs.Replies.{reply_to}
-use Rattle.xa_server.specs.Step.{after}
+use Rattle.xa_server.specs.{State.State, declared.reply.Reply.Reply, Replies.reply_to, Step.after}
 use Rattle.xa_session.specs.declared.answer.Answer.{Answer}
-use Rattle.xa_lines.specs.Script.{is_empty_line}
-use Rattle.xa_lines.specs.Printed.{reply_text, converts, answer_text}
+use Rattle.xa_lines.specs.{Script.is_empty_line, Printed.{reply_text, converts, answer_text}}
 use Rattle.xa_lines.specs.Transcript.{answer_to, state_then}
 use Rattle.xa_orders.specs.Orders.{Told, Config, is_left, text_at, carried_out, turn, IsSession, LeadsTo}
 use Rattle.xa_races.specs.CountedRaced.{IsReadLine, statement_in, statements_of, converts_in, line_text, rank_in}
-use Rattle.xa_races.specs.CountedRaced.{laid_texts}
-use Rattle.xa_races.proofs.Tests.{same_number, same_test, apart_test, same_of_test, first_passes, first_fails}
-use Rattle.xa_races.proofs.Tests.{position_is, lines_own, lines_other}
-use Rattle.xa_races.proofs.Histories.{Said}
-use Rattle.xa_races.specs.LinesLeft.{with_lines}
+use Rattle.xa_races.{specs.{CountedRaced.laid_texts, LinesLeft.with_lines}, proofs.Tests.{same_number, same_test}}
+use Rattle.xa_races.proofs.Tests.{apart_test, same_of_test, first_passes, first_fails, position_is, lines_own}
+use Rattle.xa_races.proofs.{Tests.lines_other, Histories.Said}
 
 -- each line has no answer yet (an empty text), or that of the end: what the lines have so far comes first, what they
 -- have in the end behind it. Both have as many texts as there are lines

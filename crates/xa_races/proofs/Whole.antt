@@ -1,18 +1,15 @@
 -- Lines that are laid out, carried out one after another, and raced part by part.
 use Rattle.std.proofs.Common.{◌≡◌, ℕ, zero, suc, ◌+◌, ◌-◌, ◌<◌, ◌≤◌, List, [], ◌∷◌, ◌++◌, length, take, drop, get_or}
-use Rattle.std.proofs.Common.{refl, ap, sym, ◌∙◌, subst, arith, append_assoc}
-use Rattle.std.specs.Prelude.{slice_get}
+use Rattle.std.{proofs.Common.{refl, ap, sym, ◌∙◌, subst, arith, append_assoc}, specs.Prelude.slice_get}
+use Rattle.std.proofs.lemmas.List.{take_more, drop_more, drop_all, Elements.{All-nil, All-cons, All-get_or}}
 use Rattle.std.specs.List.{All, concat}
-use Rattle.std.proofs.lemmas.List.{take_more, drop_more, drop_all}
-use Rattle.std.proofs.lemmas.List.Elements.{All-nil, All-cons, All-get_or}
 use Rattle.xa_statement.specs.Reading.{read_of}
 use Rattle.xa_server.specs.State.{State, no_state}
 use Rattle.xa_session.specs.declared.answer.Answer.{Answer}
 use Rattle.xa_lines.specs.Transcript.{answer_to, state_then}
 use Rattle.xa_orders.specs.Orders.{Told, Parts, told_text, told_state}
 use Rattle.xa_races.specs.CountedRaced.{rank_in, line_text, laid_texts, IsRaced, GivesRaced, HasCome}
-use Rattle.xa_races.proofs.Turns.{laid_one, laid_none}
-use Rattle.xa_races.proofs.Law.{one_line}
+use Rattle.xa_races.proofs.{Turns.{laid_one, laid_none}, Law.one_line}
 
 -- the loop over lines: the answer of one more was laid out
 pub laid_step : (lines : List Told) (answers : ℕ → List Answer) (index : ℕ) (told : Told) (session rank : ℕ)

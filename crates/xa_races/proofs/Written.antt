@@ -2,12 +2,11 @@
 use Rattle.std.proofs.Common.{◌≡◌, ℕ, Bool, Option, Some, None, Result, Ok, Err, List, ◌++◌, refl, ap, sym, ◌∙◌, subst}
 use Rattle.std.proofs.Common.{append-nil, IfSome, IfOk, IfErr, OnOk, OnErr}
 use Rattle.std.specs.Io.KnownBytes.{Keeps, Appends, Consumes, IsAtEnd}
-use Rattle.xa_lines.specs.declared.script_fault.ScriptFault.{ScriptFault}
-use Rattle.xa_lines.specs.declared.script_fault.ScriptFault.TheVariants as fault
-use Rattle.xa_lines.specs.Transcript.{AppendsPrefix}
+use Rattle.xa_lines.specs.{declared.script_fault.ScriptFault.ScriptFault, Transcript.AppendsPrefix}
 use Rattle.xa_orders.specs.declared.ended.Ended.{Ended}
 use Rattle.xa_races.specs.Came.{IsRunsText, AppendsRuns, AppendsRunsPrefix, IsWellRead, IsOfRace, IsOfRuns}
 use Rattle.xa_races.specs.Came.{AfterRunsFault}
+use Rattle.xa_lines.specs.declared.script_fault.ScriptFault.TheVariants as fault
 
 -- what holds of the bytes that were read up to the end holds of all that the reader had
 pub read_whole : (P : List ℕ → Type 0) (input rest : Option (List ℕ)) (given : List ℕ) → Consumes input rest given

@@ -19,21 +19,13 @@
 --     IsOfRace, IsOfRuns     a fault with which a race ends;  a fault before anything is written
 --     AfterRunsFault     what the writer got after a fault
 use Rattle.std.specs.Prelude.{◌≡◌, ℕ, zero, suc, ◌+◌, ◌≤◌, nat_lt, nat_eq, Bool, false, count_by, Option, List, [], ◌∷◌}
-use Rattle.std.specs.Prelude.{◌++◌, length, map, codes, decimal, IfSome, ◌⊎◌}
-use Rattle.std.specs.List.{All, Contains}
-use Rattle.std.specs.Cmp.Lexicographic.{pointwise}
-use Rattle.std.specs.declared.cmp.Ordering.TheVariants.{Less}
-use Rattle.std.specs.Io.KnownBytes.{Keeps, Appends}
+use Rattle.std.specs.{Prelude.{◌++◌, length, map, codes, decimal, IfSome, ◌⊎◌}, List.{All, Contains}}
+use Rattle.std.specs.{Cmp.Lexicographic.pointwise, declared.cmp.Ordering.Ordering, Io.KnownBytes.{Keeps, Appends}}
 use Rattle.xa_xid.specs.Xid.{bytes_cmp}
-use Rattle.xa_lines.specs.Transcript.{AppendsPrefix}
-use Rattle.xa_lines.specs.declared.script_fault.ScriptFault.{ScriptFault}
+use Rattle.xa_lines.specs.{Transcript.AppendsPrefix, declared.script_fault.ScriptFault.ScriptFault}
 use Rattle.xa_lines.specs.declared.script_fault.ScriptFault.TheVariants.{Write, NoMemory, Full, GateShut, ThreadRefused}
-use Rattle.xa_orders.specs.declared.ended.Ended.{Ended}
-use Rattle.xa_orders.specs.declared.ended.Ended.TheVariants.{Done, Undecided, Faulty}
-use Rattle.xa_orders.specs.declared.outcome.Outcome.{Outcome}
-use Rattle.xa_orders.specs.Orders.{Parts, base_of, IsExplored, Pairwise}
-use Rattle.xa_orders.specs.Found.{IsWide}
-use Rattle.xa_orders.specs.Scripts.{script_read, parts_of}
+use Rattle.xa_orders.specs.{declared.{ended.Ended.Ended, outcome.Outcome.Outcome}, Scripts.{script_read, parts_of}}
+use Rattle.xa_orders.specs.{Orders.{Parts, base_of, IsExplored, Pairwise}, Found.IsWide}
 use Rattle.xa_races.specs.CountedRaced.{HasCome}
 
 -- from 1 to 1,000,000 races (own rule)
@@ -76,7 +68,7 @@ some_seen_text came listed = came_texts 1 came listed ++ codes "SEEN " ++ decima
 
 -- the text comes before the other, byte by byte
 abbrev pub ComesBefore : List ℕ → List ℕ → Type 0
-ComesBefore one other = bytes_cmp one other ≡ Less
+ComesBefore one other = bytes_cmp one other ≡ Ordering.Less
 
 -- there are this many texts, and each is what a race of the parts gave; two of them may be of one race
 pub record HaveCome (parts : Parts) (runs : ℕ) (came : List (List ℕ)) : Type 0 where
@@ -112,10 +104,10 @@ IsPartsCome parts runs text = IsSeenOfAll parts runs text ⊎ IsSeenOfSome parts
 -- if no line is faulty, the text is that of races of the parts, and they end with `Done`; else it is that of the faulty
 -- lines, and they end with `Faulty`
 abbrev pub IsRunsTold : List ℕ → Parts → ℕ → Ended → List ℕ → Type 0
-IsRunsTold [] parts runs Done text = IsPartsCome parts runs text
-IsRunsTold [] parts runs Undecided text = ⊥
-IsRunsTold [] parts runs Faulty text = ⊥
-IsRunsTold (byte ∷ faults) parts runs ended text = (ended ≡ Faulty) × (text ≡ byte ∷ faults)
+IsRunsTold [] parts runs Ended.Done text = IsPartsCome parts runs text
+IsRunsTold [] parts runs Ended.Undecided text = ⊥
+IsRunsTold [] parts runs Ended.Faulty text = ⊥
+IsRunsTold (byte ∷ faults) parts runs ended text = (ended ≡ Ended.Faulty) × (text ≡ byte ∷ faults)
 
 -- what is written for this many races of a script, and how they end
 abbrev pub IsRunsText : ℕ → List ℕ → Ended → List ℕ → Type 0

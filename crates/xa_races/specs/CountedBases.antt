@@ -2,8 +2,7 @@
 --     base_of       the state after all that the last session has seen
 use Rattle.xa_server.specs.State.{State, no_state}
 use Rattle.xa_session.specs.Replay.{state_after}
-use Rattle.xa_races.specs.Long.{seen_by_last}
-use Rattle.xa_races.specs.declared.counted_opened.Opened.{Opened}
+use Rattle.xa_races.specs.{Long.seen_by_last, declared.counted_opened.Opened.Opened}
 
 -- the state after all entries that the last session has seen; the store begins with no branch and no row
 abbrev pub base_of : Opened → State

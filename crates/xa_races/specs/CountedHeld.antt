@@ -5,14 +5,11 @@
 --     AreNumbered        sessions of consecutive numbers
 --     numbers_from       so many consecutive numbers
 --     AreRunsOf          the runs of these sessions
-use Rattle.std.specs.Prelude.{◌≡◌, ◌≤◌, ◌+◌, ◌-◌, ℕ, zero, suc, List, [], ◌∷◌}
-use Rattle.std.specs.List.{All}
+use Rattle.std.specs.{Prelude.{◌≡◌, ◌≤◌, ◌+◌, ◌-◌, ℕ, zero, suc, List, [], ◌∷◌}, List.All}
 use Rattle.xa_session.specs.declared.answer.Answer.{Answer}
 use Rattle.xa_endless.specs.declared.session.EndlessSession.{EndlessSession}
-use Rattle.xa_races.specs.Long.{known_in}
-use Rattle.xa_races.specs.declared.long_run.LongRun.{LongRun}
+use Rattle.xa_races.specs.{Long.known_in, declared.long_run.LongRun.LongRun, CountedRaced.statements_of}
 use Rattle.xa_orders.specs.Orders.{Told, IsSession}
-use Rattle.xa_races.specs.CountedRaced.{statements_of}
 
 -- the list at a place, or an empty list past the end
 abbrev pub list_at : {A : Type 0} → List (List A) → ℕ → List A

@@ -9,15 +9,13 @@
 --     GivesRaced         the same as one text
 --     HasCome            what all lines were answered in a race of the parts
 use Rattle.std.specs.Prelude.{◌≡◌, ℕ, Bool, false, cond, ◌==◌, count_by, Option, Some, None, Result, Ok, Err, List, []}
-use Rattle.std.specs.Prelude.{◌∷◌, ◌++◌, slice_get, decimal}
-use Rattle.std.specs.List.{All, concat, filter_map}
+use Rattle.std.specs.{Prelude.{◌∷◌, ◌++◌, slice_get, decimal}, List.{All, concat, filter_map}}
 use Rattle.xa_xid.specs.declared.statement.Statement.{Statement}
 use Rattle.xa_statement.specs.Reading.{read_of}
 use Rattle.xa_words.specs.Entry.{Entry}
 use Rattle.xa_server.specs.State.{State, no_state}
 use Rattle.decision_log.specs.Known.{AllOf, newcomer}
-use Rattle.xa_session.specs.Replay.{state_after}
-use Rattle.xa_session.specs.declared.answer.Answer.{Answer}
+use Rattle.xa_session.specs.{Replay.state_after, declared.answer.Answer.Answer}
 use Rattle.xa_store.specs.Legal.{IsLegal}
 use Rattle.xa_lines.specs.Printed.{reply_text, converts, answer_text}
 use Rattle.xa_orders.specs.Orders.{Told, Parts, IsSession, told_text, told_state}

@@ -6,24 +6,14 @@
 --     IsCaused        memory ran out, or such a race ended with this fault
 --     AppendsHeld     if no line is faulty, the writer got such a text
 --     IsCausedIn      a fault that only a race has is one with which such a race ended
-use Rattle.std.specs.Prelude.{◌≡◌, ◌⊎◌, ℕ, Bool, Option, List, length, map}
-use Rattle.std.specs.List.{All}
-use Rattle.std.specs.Io.KnownBytes.{Appends}
+use Rattle.std.specs.{Prelude.{◌≡◌, ◌⊎◌, ℕ, Bool, Option, List, length, map}, List.All, Io.KnownBytes.Appends}
 use Rattle.xa_xid.specs.declared.statement.Statement.{Statement}
 use Rattle.xa_server.specs.State.{no_state}
-use Rattle.xa_store.specs.Passes.{log_of, known_of}
-use Rattle.xa_store.specs.Legal.{LetsIn, Blames}
-use Rattle.xa_store.specs.declared.run.Run.{Run}
-use Rattle.xa_store.specs.declared.outcome.Outcome.{Outcome}
-use Rattle.xa_store.specs.declared.race_fault.RaceFault.{RaceFault}
-use Rattle.xa_lines.specs.Script.{lines_of}
-use Rattle.xa_lines.specs.declared.script_fault.ScriptFault.{ScriptFault}
-use Rattle.xa_lines.specs.declared.script_fault.ScriptFault.TheVariants.{Read, TooLong, Write, NoMemory, Full, GateShut}
-use Rattle.xa_lines.specs.declared.script_fault.ScriptFault.TheVariants.{ThreadRefused}
-use Rattle.xa_races.specs.Race.{AreRuns, IsReadable}
-use Rattle.xa_races.specs.Outcome.{IsHeld, AreLists, outcome_text, script_fault_of}
-use Rattle.xa_races.specs.LongRace.{IsLongRace, BlamesRace}
-use Rattle.xa_races.specs.declared.long_outcome.LongOutcome.{LongOutcome}
+use Rattle.xa_store.specs.{Passes.{log_of, known_of}, Legal.{LetsIn, Blames}, declared.run.Run.Run}
+use Rattle.xa_store.specs.declared.{outcome.Outcome.Outcome, race_fault.RaceFault.RaceFault}
+use Rattle.xa_lines.specs.{Script.lines_of, declared.script_fault.ScriptFault.ScriptFault}
+use Rattle.xa_races.specs.{Race.{AreRuns, IsReadable}, Outcome.{IsHeld, AreLists, outcome_text, script_fault_of}}
+use Rattle.xa_races.specs.{LongRace.{IsLongRace, BlamesRace}, declared.long_outcome.LongOutcome.LongOutcome}
 
 -- the log to which the runs belong has room for this number of entries
 abbrev pub HaveRoom : ℕ → List Run → Type 0
@@ -71,7 +61,7 @@ pub record EndsEndless (gate : ℕ → ℕ → Bool → Type 0) (lines : List (L
 
 -- why holding a race failed: `NoMemory` may come from anywhere, each other fault comes from the race
 abbrev pub IsCaused : (ScriptFault → Type 0) → ScriptFault → Type 0
-IsCaused Ends fault = (fault ≡ NoMemory) ⊎ Ends fault
+IsCaused Ends fault = (fault ≡ ScriptFault.NoMemory) ⊎ Ends fault
 
 -- if no line is faulty, the writer got a text of a race that was held as `IsHeldText` says
 abbrev pub AppendsHeld : (List (List ℕ) → List ℕ → Type 0) → List ℕ → Option (List ℕ) → Option (List ℕ) → Type 0
@@ -81,10 +71,10 @@ AppendsHeld IsHeldText script old new = IsReadable script
 -- why a script's race failed: a race ended with `Full`, `GateShut` or `ThreadRefused` as `Ends` says. Nothing is said
 -- of the other faults: those of a stream aren't a race's, and memory may be missing anywhere
 abbrev pub IsCausedIn : (List (List ℕ) → ScriptFault → Type 0) → List ℕ → ScriptFault → Type 0
-IsCausedIn Ends script Read = Unit {0}
-IsCausedIn Ends script TooLong = Unit {0}
-IsCausedIn Ends script Write = Unit {0}
-IsCausedIn Ends script NoMemory = Unit {0}
-IsCausedIn Ends script Full = Ends (lines_of script) Full
-IsCausedIn Ends script GateShut = Ends (lines_of script) GateShut
-IsCausedIn Ends script ThreadRefused = Ends (lines_of script) ThreadRefused
+IsCausedIn Ends script ScriptFault.Read = Unit {0}
+IsCausedIn Ends script ScriptFault.TooLong = Unit {0}
+IsCausedIn Ends script ScriptFault.Write = Unit {0}
+IsCausedIn Ends script ScriptFault.NoMemory = Unit {0}
+IsCausedIn Ends script ScriptFault.Full = Ends (lines_of script) ScriptFault.Full
+IsCausedIn Ends script ScriptFault.GateShut = Ends (lines_of script) ScriptFault.GateShut
+IsCausedIn Ends script ScriptFault.ThreadRefused = Ends (lines_of script) ScriptFault.ThreadRefused

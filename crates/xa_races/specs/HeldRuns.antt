@@ -16,26 +16,19 @@
 --     IsOverlong, EndsLong     runs add more than there is room for;  why a race of runs fails
 --     IsOfOpen         a fault that a race of one line has at a gate that is always open
 use Rattle.std.specs.Prelude.{◌≡◌, ◌<◌, ◌≤◌, ◌++◌, ◌⊎◌, ℕ, Bool, false, Option, List, length}
-use Rattle.std.specs.List.{All, Contains, concat}
-use Rattle.std.specs.Io.KnownBytes.{Appends}
+use Rattle.std.specs.{List.{All, Contains, concat}, Io.KnownBytes.Appends}
 use Rattle.xa_words.specs.Entry.{Entry}
 use Rattle.xa_server.specs.State.{State, no_state}
 use Rattle.decision_log.specs.Known.{newcomer}
 use Rattle.xa_session.specs.Replay.{state_after}
-use Rattle.xa_endless.specs.declared.session.EndlessSession.{EndlessSession}
-use Rattle.xa_endless.specs.declared.store.EndlessStore.{EndlessStore}
+use Rattle.xa_endless.specs.declared.{session.EndlessSession.EndlessSession, store.EndlessStore.EndlessStore}
 use Rattle.xa_store.specs.Legal.{LetsIn, IsShutAt}
-use Rattle.xa_store.specs.declared.race_fault.RaceFault.TheVariants as race
 use Rattle.xa_lines.specs.declared.script_fault.ScriptFault.{ScriptFault}
-use Rattle.xa_lines.specs.declared.script_fault.ScriptFault.TheVariants.{Read, TooLong, Write, NoMemory, Full, GateShut}
-use Rattle.xa_lines.specs.declared.script_fault.ScriptFault.TheVariants.{ThreadRefused}
-use Rattle.xa_orders.specs.Orders.{Told, Parts, IsSession, told_text, told_state}
-use Rattle.xa_orders.specs.Scripts.{script_read, parts_of}
-use Rattle.xa_races.specs.Long.{seen_by_last, IsLongOutcome, IsBlamed}
-use Rattle.xa_races.specs.CountedRaced.{statements_of, IsRaced}
-use Rattle.xa_races.specs.Came.{seen_text, some_seen_text, IsWellRead}
-use Rattle.xa_races.specs.declared.long_run.LongRun.{LongRun}
+use Rattle.xa_orders.specs.{Orders.{Told, Parts, IsSession, told_text, told_state}, Scripts.{script_read, parts_of}}
+use Rattle.xa_races.specs.{Long.{seen_by_last, IsLongOutcome, IsBlamed}, CountedRaced.{statements_of, IsRaced}}
+use Rattle.xa_races.specs.{Came.{seen_text, some_seen_text, IsWellRead}, declared.long_run.LongRun.LongRun}
 use Rattle.xa_races.specs.declared.long_outcome.LongOutcome.{LongOutcome}
+use Rattle.xa_store.specs.declared.race_fault.RaceFault.TheVariants as race
 
 -- a race that renews its store has room for all that it adds; any other one for so many entries
 abbrev pub FitsIn : ℕ → Bool → List Entry → Type 0
@@ -119,13 +112,13 @@ pub record IsOverfull (gate : ℕ → ℕ → Bool → Type 0) (capacity : ℕ) 
 -- session. Nothing is said of the other faults: those of a stream aren't a race's, and memory or a thread may be
 -- missing anywhere
 abbrev pub EndsBeside : (ℕ → ℕ → Bool → Type 0) → ℕ → Bool → State → List Told → ScriptFault → Type 0
-EndsBeside gate capacity renews base lines Read = Unit {0}
-EndsBeside gate capacity renews base lines TooLong = Unit {0}
-EndsBeside gate capacity renews base lines Write = Unit {0}
-EndsBeside gate capacity renews base lines NoMemory = Unit {0}
-EndsBeside gate capacity renews base lines Full = IsOverfull gate capacity renews base lines
-EndsBeside gate capacity renews base lines GateShut = IsShutBeside gate base lines
-EndsBeside gate capacity renews base lines ThreadRefused = Unit {0}
+EndsBeside gate capacity renews base lines ScriptFault.Read = Unit {0}
+EndsBeside gate capacity renews base lines ScriptFault.TooLong = Unit {0}
+EndsBeside gate capacity renews base lines ScriptFault.Write = Unit {0}
+EndsBeside gate capacity renews base lines ScriptFault.NoMemory = Unit {0}
+EndsBeside gate capacity renews base lines ScriptFault.Full = IsOverfull gate capacity renews base lines
+EndsBeside gate capacity renews base lines ScriptFault.GateShut = IsShutBeside gate base lines
+EndsBeside gate capacity renews base lines ScriptFault.ThreadRefused = Unit {0}
 
 -- why races of a script fail: as `EndsBeside` says of the lines side by side, in the state after the lines before
 abbrev pub EndsRuns : (ℕ → ℕ → Bool → Type 0) → ℕ → Bool → List ℕ → ScriptFault → Type 0
@@ -144,16 +137,16 @@ pub record IsOverlong (gate : ℕ → ℕ → Bool → Type 0) (capacity : ℕ) 
 -- why a race of runs fails: `Full` since they add more than there is room for, `GateShut` since a run stopped. Nothing
 -- is said of the other faults
 abbrev pub EndsLong : (ℕ → ℕ → Bool → Type 0) → ℕ → Bool → ℕ → List LongRun → ScriptFault → Type 0
-EndsLong gate capacity renews from runs Read = Unit {0}
-EndsLong gate capacity renews from runs TooLong = Unit {0}
-EndsLong gate capacity renews from runs Write = Unit {0}
-EndsLong gate capacity renews from runs NoMemory = Unit {0}
-EndsLong gate capacity renews from runs Full = IsOverlong gate capacity renews from runs
-EndsLong gate capacity renews from runs GateShut =
+EndsLong gate capacity renews from runs ScriptFault.Read = Unit {0}
+EndsLong gate capacity renews from runs ScriptFault.TooLong = Unit {0}
+EndsLong gate capacity renews from runs ScriptFault.Write = Unit {0}
+EndsLong gate capacity renews from runs ScriptFault.NoMemory = Unit {0}
+EndsLong gate capacity renews from runs ScriptFault.Full = IsOverlong gate capacity renews from runs
+EndsLong gate capacity renews from runs ScriptFault.GateShut =
     (session : ℕ) × (line : ℕ) × IsBlamed gate runs (race.GateShut session line)
-EndsLong gate capacity renews from runs ThreadRefused = Unit {0}
+EndsLong gate capacity renews from runs ScriptFault.ThreadRefused = Unit {0}
 
 -- a fault that a race of one line has at a gate that is always open: no memory or no thread. Such a gate stops nobody,
 -- and one line always has room
 abbrev pub IsOfOpen : ScriptFault → Type 0
-IsOfOpen fault = (fault ≡ NoMemory) ⊎ (fault ≡ ThreadRefused)
+IsOfOpen fault = (fault ≡ ScriptFault.NoMemory) ⊎ (fault ≡ ScriptFault.ThreadRefused)

@@ -19,28 +19,18 @@
 --     IsBlamed        one of the runs stopped with a fault
 --     BlamesLong      why such a race fails
 use Rattle.std.specs.Prelude.{◌≡◌, ◌<◌, ◌≤◌, ◌++◌, [], ◌∷◌, ℕ, Bool, true, false, Option, Some, None, Result, Ok, Err}
-use Rattle.std.specs.Prelude.{List, length, map, drop, slice_get}
-use Rattle.std.specs.List.{All, AllZip}
+use Rattle.std.specs.{Prelude.{List, length, map, drop, slice_get}, List.{All, AllZip}}
 use Rattle.xa_xid.specs.declared.statement.Statement.{Statement}
 use Rattle.xa_words.specs.Entry.{Entry}
 use Rattle.xa_server.specs.State.{no_state}
-use Rattle.decision_log.specs.declared.known.Known.{Known}
-use Rattle.decision_log.specs.History.{Begins, entries_of}
-use Rattle.decision_log.specs.Known.{AllOf, LogIdentity}
+use Rattle.decision_log.specs.{declared.known.Known.Known, History.{Begins, entries_of}, Known.{AllOf, LogIdentity}}
 use Rattle.xa_session.specs.declared.answer.Answer.{Answer}
 use Rattle.chain_log.specs.RingPass.{log_of, known_of}
-use Rattle.xa_endless.specs.Answers.{IsCaused, HasFailed}
+use Rattle.xa_endless.specs.{Answers.{IsCaused, HasFailed}, declared.session.EndlessSession.EndlessSession}
 use Rattle.xa_endless.specs.declared.fault.EndlessFault.TheVariants.{NoMemory as NoMoreMemory}
-use Rattle.xa_endless.specs.declared.session.EndlessSession.{EndlessSession}
-use Rattle.xa_store.specs.Gathered.{IsTakenIn, AddsNothing, last_known}
-use Rattle.xa_store.specs.Legal.{IsLegal, LetsIn, IsLetIn, IsTurnedAway, IsReachedInRun}
-use Rattle.xa_store.specs.Spread.{HasAnswered}
-use Rattle.xa_store.specs.declared.race_fault.RaceFault.{RaceFault}
-use Rattle.xa_store.specs.declared.race_fault.RaceFault.TheVariants.{GateShut, Full, NoMemory, ThreadRefused}
-use Rattle.xa_races.specs.declared.added.Added.{Added}
-use Rattle.xa_races.specs.declared.said.Said.{Said}
-use Rattle.xa_races.specs.declared.racer.Raced.{Raced}
-use Rattle.xa_races.specs.declared.long_run.LongRun.{LongRun}
+use Rattle.xa_store.specs.{Gathered.{IsTakenIn, AddsNothing, last_known}, declared.race_fault.RaceFault.RaceFault}
+use Rattle.xa_store.specs.{Legal.{IsLegal, LetsIn, IsLetIn, IsTurnedAway, IsReachedInRun}, Spread.HasAnswered}
+use Rattle.xa_races.specs.declared.{added.Added.Added, said.Said.Said, racer.Raced.Raced, long_run.LongRun.LongRun}
 use Rattle.xa_races.specs.declared.long_outcome.LongOutcome.{LongOutcome}
 
 -- what the pass of a session knows
@@ -63,11 +53,11 @@ pub record WantsMemory (gate : ℕ → ℕ → Bool → Type 0) (place : ℕ) (s
 -- that isn't answered; at NoMemory the statement has failed as `WantsMemory` says. No history is full, and no statement
 -- needs a thread. `place` is the line, counted from 0 in the session's own statements
 abbrev pub HaltsAt : (ℕ → ℕ → Bool → Type 0) → ℕ → Statement → RaceFault → EndlessSession → EndlessSession → Type 0
-HaltsAt gate place statement (GateShut session line) old new =
+HaltsAt gate place statement (RaceFault.GateShut session line) old new =
     (session ≡ (known_in old).number) × (line ≡ place) × IsTurnedAway gate session line (known_in old) (known_in new)
-HaltsAt gate place statement (Full session line) old new = ⊥
-HaltsAt gate place statement NoMemory old new = WantsMemory gate place statement old new
-HaltsAt gate place statement ThreadRefused old new = ⊥
+HaltsAt gate place statement (RaceFault.Full session line) old new = ⊥
+HaltsAt gate place statement RaceFault.NoMemory old new = WantsMemory gate place statement old new
+HaltsAt gate place statement RaceFault.ThreadRefused old new = ⊥
 
 -- the statement was answered, or the run stops at it. `place` is the line, counted from 0 in the session's own
 -- statements
@@ -107,11 +97,11 @@ pub record RunsOut (gate : ℕ → ℕ → Bool → Type 0) (before : Known) (st
 -- nothing more of the session. For `GateShut` the fault names that statement, and the gate can stop the session there;
 -- for `NoMemory` see `RunsOut`. There is no other fault
 abbrev pub StopsAt : (ℕ → ℕ → Bool → Type 0) → Known → List Statement → RaceFault → EndlessSession → Type 0
-StopsAt gate before statements (GateShut session line) after =
+StopsAt gate before statements (RaceFault.GateShut session line) after =
     IsReachedInRun no_state (known_in after).seen before statements session line × gate session line false
-StopsAt gate before statements (Full session line) after = ⊥
-StopsAt gate before statements NoMemory after = RunsOut gate before statements after
-StopsAt gate before statements ThreadRefused after = ⊥
+StopsAt gate before statements (RaceFault.Full session line) after = ⊥
+StopsAt gate before statements RaceFault.NoMemory after = RunsOut gate before statements after
+StopsAt gate before statements RaceFault.ThreadRefused after = ⊥
 
 -- without a fault, all statements were answered; else the run stopped with the fault
 abbrev pub EndsAt : (ℕ → ℕ → Bool → Type 0) → Known → List Statement → List Answer → Option RaceFault → EndlessSession
@@ -194,7 +184,7 @@ pub record IsBlamed (gate : ℕ → ℕ → Bool → Type 0) (runs : List LongRu
 -- `GateShut` is the fault of one of the runs. No history is full, memory may be missing anywhere, and a thread is
 -- refused only if there is a run
 abbrev pub BlamesLong : (ℕ → ℕ → Bool → Type 0) → List LongRun → RaceFault → Type 0
-BlamesLong gate runs (GateShut session line) = IsBlamed gate runs (GateShut session line)
-BlamesLong gate runs (Full session line) = ⊥
-BlamesLong gate runs NoMemory = Unit {0}
-BlamesLong gate runs ThreadRefused = 0 < length runs
+BlamesLong gate runs (RaceFault.GateShut session line) = IsBlamed gate runs (RaceFault.GateShut session line)
+BlamesLong gate runs (RaceFault.Full session line) = ⊥
+BlamesLong gate runs RaceFault.NoMemory = Unit {0}
+BlamesLong gate runs RaceFault.ThreadRefused = 0 < length runs

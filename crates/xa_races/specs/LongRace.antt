@@ -5,20 +5,15 @@
 --     IsLongRace              what such a race gives
 --     IsShutIn                the gate can stop one of the sessions
 --     BlamesRace              why such a race fails
-use Rattle.std.specs.Prelude.{◌≡◌, ◌<◌, ◌+◌, ℕ, Bool, Some, List, [], ◌∷◌, length, map, slice_get}
-use Rattle.std.specs.List.{All}
+use Rattle.std.specs.{Prelude.{◌≡◌, ◌<◌, ◌+◌, ℕ, Bool, Some, List, [], ◌∷◌, length, map, slice_get}, List.All}
 use Rattle.xa_xid.specs.declared.statement.Statement.{Statement}
 use Rattle.xa_words.specs.Entry.{Entry}
 use Rattle.xa_server.specs.State.{State, no_state}
 use Rattle.decision_log.specs.Known.{AllOf, newcomer}
 use Rattle.xa_session.specs.declared.answer.Answer.{Answer}
 use Rattle.xa_endless.specs.declared.store.EndlessStore.{EndlessStore}
-use Rattle.xa_store.specs.Legal.{IsLegal, LetsIn, IsShutAt}
-use Rattle.xa_store.specs.declared.race_fault.RaceFault.{RaceFault}
-use Rattle.xa_store.specs.declared.race_fault.RaceFault.TheVariants.{GateShut, Full, NoMemory, ThreadRefused}
-use Rattle.xa_races.specs.Long.{known_in}
-use Rattle.xa_races.specs.declared.long_run.LongRun.{LongRun}
-use Rattle.xa_races.specs.declared.long_outcome.LongOutcome.{LongOutcome}
+use Rattle.xa_store.specs.{Legal.{IsLegal, LetsIn, IsShutAt}, declared.race_fault.RaceFault.RaceFault}
+use Rattle.xa_races.specs.{Long.known_in, declared.{long_run.LongRun.LongRun, long_outcome.LongOutcome.LongOutcome}}
 
 -- the run has these statements, and is that of the store's session of this number, which has seen and added nothing
 pub record IsNewRun (store : EndlessStore) (number : ℕ) (statements : List Statement) (run : LongRun) : Type 0 where
@@ -70,7 +65,7 @@ pub record IsShutIn (gate : ℕ → ℕ → Bool → Type 0) (lists : List (List
 -- why such a race fails. GateShut: the gate can stop one of the sessions. Of NoMemory nothing is said; ThreadRefused
 -- comes only if there is a list; no history is full
 abbrev pub BlamesRace : (ℕ → ℕ → Bool → Type 0) → List (List Statement) → RaceFault → Type 0
-BlamesRace gate lists (GateShut session line) = IsShutIn gate lists session line
-BlamesRace gate lists (Full session line) = ⊥
-BlamesRace gate lists NoMemory = Unit {0}
-BlamesRace gate lists ThreadRefused = 0 < length lists
+BlamesRace gate lists (RaceFault.GateShut session line) = IsShutIn gate lists session line
+BlamesRace gate lists (RaceFault.Full session line) = ⊥
+BlamesRace gate lists RaceFault.NoMemory = Unit {0}
+BlamesRace gate lists RaceFault.ThreadRefused = 0 < length lists

@@ -16,26 +16,21 @@
 --     script_fault_of              the fault that is returned for a race's fault
 --     AfterRaceFault               what a fault leaves in the writer
 use Rattle.std.specs.Prelude.{◌≡◌, ◌≤◌, ◌⊎◌, ℕ, Bool, ◌+◌, Option, Some, None, List, [], ◌∷◌, ◌++◌, length, map, codes}
-use Rattle.std.specs.Prelude.{decimal, IfSome}
-use Rattle.std.specs.Io.KnownBytes.{Keeps, Appends}
+use Rattle.std.specs.{Prelude.{decimal, IfSome}, Io.KnownBytes.{Keeps, Appends}}
 use Rattle.xa_statement.specs.Canonical.{statement_text}
 use Rattle.xa_words.specs.Entry.{Entry}
 use Rattle.xa_server.specs.State.{no_state}
 use Rattle.decision_log.specs.Known.{AllOf}
 use Rattle.xa_session.specs.declared.answer.Answer.{Answer}
 use Rattle.xa_xid.specs.declared.statement.Statement.{Statement}
-use Rattle.xa_store.specs.Legal.{IsOutcome}
-use Rattle.xa_store.specs.declared.run.Run.{Run}
-use Rattle.xa_store.specs.declared.outcome.Outcome.{Outcome}
+use Rattle.xa_store.specs.{Legal.IsOutcome, declared.{run.Run.Run, outcome.Outcome.Outcome}}
 use Rattle.xa_store.specs.declared.race_fault.RaceFault.{RaceFault}
-use Rattle.xa_store.specs.declared.race_fault.RaceFault.TheVariants as race
-use Rattle.xa_lines.specs.declared.script_fault.ScriptFault.{ScriptFault}
+use Rattle.xa_lines.specs.{declared.script_fault.ScriptFault.ScriptFault, Script.lines_of}
 use Rattle.xa_lines.specs.declared.script_fault.ScriptFault.TheVariants.{Write, NoMemory, Full, GateShut, ThreadRefused}
-use Rattle.xa_lines.specs.Script.{lines_of}
-use Rattle.xa_lines.specs.Printed.{reply_text, converts}
+use Rattle.xa_lines.specs.{Printed.{reply_text, converts}, Transcript.AppendsPrefix}
 use Rattle.xa_races.specs.LongRace.{AllAnswered}
 use Rattle.xa_races.specs.Race.{AreRuns, IsReadable, last_session, faults_text, part_at, statements_of}
-use Rattle.xa_lines.specs.Transcript.{AppendsPrefix}
+use Rattle.xa_store.specs.declared.race_fault.RaceFault.TheVariants as race
 
 -- place, session and canonical text of an entry
 abbrev pub entry_text : ℕ → Entry → List ℕ

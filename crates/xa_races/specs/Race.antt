@@ -7,16 +7,12 @@
 --     IsGiven, TakesLine, HasRead  lists are what the sessions give;  what reading a line adds;  a script is read
 --     IsRun, AreRuns               a session's run;  the runs of the sessions 1 to the last
 use Rattle.std.specs.Prelude.{◌≡◌, ℕ, zero, suc, map, ◌+◌, max, ◌==◌, cond, Option, Some, None, Result, Ok, Err, List}
-use Rattle.std.specs.Prelude.{[], ◌∷◌, ◌++◌, length, codes, decimal}
-use Rattle.std.specs.List.{filter_map}
-use Rattle.std.specs.Option.{option_to_list}
+use Rattle.std.specs.{Prelude.{[], ◌∷◌, ◌++◌, length, codes, decimal}, List.filter_map, Option.option_to_list}
 use Rattle.xa_xid.specs.declared.statement.Statement.{Statement}
 use Rattle.xa_statement.specs.Reading.{read_of}
 use Rattle.decision_log.specs.Known.{newcomer}
-use Rattle.xa_store.specs.Passes.{known_of}
-use Rattle.xa_store.specs.declared.run.Run.{Run}
-use Rattle.xa_lines.specs.Script.{Line, Blank, Bad, Given, line_of, lines_of}
-use Rattle.xa_lines.specs.Printed.{syntax_text}
+use Rattle.xa_store.specs.{Passes.known_of, declared.run.Run.Run}
+use Rattle.xa_lines.specs.{Script.{Line, Blank, Bad, Given, line_of, lines_of}, Printed.syntax_text}
 use Rattle.xa_races.specs.declared.given.RaceScript.{RaceScript}
 
 -- the place of the fault, if a text isn't read as a statement

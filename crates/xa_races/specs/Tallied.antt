@@ -9,11 +9,8 @@
 --     counted_head, counted_text     the same, and how many of the list came;  and how many outcomes there are, if
 --                                    the list has all
 use Rattle.std.specs.Prelude.{◌≡◌, ℕ, ◌+◌, nat_eq, nat_lt, cond, Bool, true, false, List, [], ◌∷◌, ◌++◌, length, map}
-use Rattle.std.specs.Prelude.{count_by, codes, decimal}
-use Rattle.std.specs.List.{All, Contains}
-use Rattle.std.specs.Cmp.Lexicographic.{pointwise}
-use Rattle.xa_orders.specs.declared.outcome.Outcome.{Outcome}
-use Rattle.xa_orders.specs.Found.{IsWide}
+use Rattle.std.specs.{Prelude.{count_by, codes, decimal}, List.{All, Contains}, Cmp.Lexicographic.pointwise}
+use Rattle.xa_orders.specs.{declared.outcome.Outcome.Outcome, Found.IsWide}
 use Rattle.xa_orders.specs.Orders.{Parts, base_of, IsExplored, Pairwise}
 use Rattle.xa_races.specs.declared.came_tally.CameTally.{CameTally}
 use Rattle.xa_races.specs.Came.{times, came_text, ComesBefore, HaveCome, ways_limit}

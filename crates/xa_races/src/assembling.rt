@@ -1,6 +1,5 @@
 //! Puts the entries together that sessions have added.
-ghost use Rattle.std.specs.Prelude.{◌≡◌, ◌≤◌, ◌-◌, ℕ, List, Some, None, length, map, IfOk};
-ghost use Rattle.std.specs.List.{All};
+ghost use Rattle.std.specs.{Prelude.{◌≡◌, ◌≤◌, ◌-◌, ℕ, List, Some, None, length, map, IfOk}, List.All};
 ghost use Rattle.decision_log.specs.Known.{AllOf};
 ghost use Rattle.xa_words.specs.Entry.{Entry as EntryValue};
 ghost use Rattle.xa_races.specs.Assembled.{HasOnly, IsWithin};

@@ -1,7 +1,6 @@
 //! Writes the outcomes that came.
 ghost use Rattle.std.specs.Prelude.{◌≡◌, ◌++◌, codes, decimal, true, false, nat_lt, count_by, OnOk, IfOk};
-ghost use Rattle.xa_races.specs.Came.{came_text};
-ghost use Rattle.xa_races.specs.Tallied.{tallies_text, counted_text};
+ghost use Rattle.xa_races.specs.{Came.came_text, Tallied.{tallies_text, counted_text}};
 
 use crate::came_tally::CameTally;
 use std::alloc::Global;

@@ -1,8 +1,7 @@
 //! Whatever a race of a script comes to is an outcome of an order: a law, stated as the contract of a
 //! function that does nothing.
 ghost use Rattle.std.specs.Prelude.{◌≡◌, ℕ, List};
-ghost use Rattle.xa_orders.specs.declared.outcome.Outcome.{Outcome};
-ghost use Rattle.xa_orders.specs.Orders.{Parts, Gives, IsExplored, Any};
+ghost use Rattle.xa_orders.specs.{declared.outcome.Outcome.Outcome, Orders.{Parts, Gives, IsExplored, Any}};
 ghost use Rattle.xa_races.specs.CountedRaced.{HasCome};
 
 /// States that whatever all lines of a script are answered in a race is also given by an order of its lines

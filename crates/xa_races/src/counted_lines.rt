@@ -1,12 +1,8 @@
 //! Races lines, and carries lines out one after another.
-ghost use Rattle.std.specs.Prelude.{◌≡◌, ◌++◌, length, IfOk, IfErr, OnOk};
-ghost use Rattle.std.specs.List.{All};
+ghost use Rattle.std.specs.{Prelude.{◌≡◌, ◌++◌, length, IfOk, IfErr, OnOk}, List.All};
 ghost use Rattle.xa_orders.specs.Orders.{told_text, told_state};
-ghost use Rattle.xa_races.specs.CountedRaced.{IsReadLine, GivesRaced};
-ghost use Rattle.xa_races.specs.CountedHeld.{AreWithin, AreRunsOf};
-ghost use Rattle.xa_races.specs.CountedBases.{base_of};
-ghost use Rattle.xa_races.specs.Came.{IsOfRace};
-ghost use Rattle.xa_races.specs.HeldRuns.{GivesRacedBy, EndsBeside, IsOfOpen};
+ghost use Rattle.xa_races.specs.{CountedRaced.{IsReadLine, GivesRaced}, CountedHeld.{AreWithin, AreRunsOf}};
+ghost use Rattle.xa_races.specs.{CountedBases.base_of, Came.IsOfRace, HeldRuns.{GivesRacedBy, EndsBeside, IsOfOpen}};
 
 use crate::counted_opened::Opened;
 use crate::counted_statements::lists_of;

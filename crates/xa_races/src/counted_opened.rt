@@ -1,12 +1,10 @@
 //! A store without an end, and all its sessions.
-ghost use Rattle.std.specs.Prelude.{◌≡◌, ◌≤◌, [], length, map, IfOk};
-ghost use Rattle.std.specs.List.{All};
+ghost use Rattle.std.specs.{Prelude.{◌≡◌, ◌≤◌, [], length, map, IfOk}, List.All};
 ghost use Rattle.decision_log.specs.Opens.{IsCount};
 ghost use Rattle.chain_log.specs.RingOpens.{AreRows};
 ghost use Rattle.xa_server.specs.State.{no_state};
 ghost use Rattle.xa_session.specs.Replay.{state_after};
-ghost use Rattle.xa_races.specs.Long.{known_in, HoldsAll, seen_by_last};
-ghost use Rattle.xa_races.specs.CountedHeld.{AreNumbered, numbers_from};
+ghost use Rattle.xa_races.specs.{Long.{known_in, HoldsAll, seen_by_last}, CountedHeld.{AreNumbered, numbers_from}};
 
 use std::alloc::{AllocError, Global};
 use std::sync::Arc;

@@ -1,15 +1,10 @@
 //! Races the parts of a script once, and notes what each race came to.
 ghost use Rattle.std.specs.Prelude.{◌≡◌, ◌≤◌, ◌++◌, [], ◌∷◌, OnOk, IfOk, IfErr};
 ghost use Rattle.decision_log.specs.Opens.{IsCapacity, IsCount};
-ghost use Rattle.xa_orders.specs.Scripts.{parts_of};
-ghost use Rattle.xa_orders.specs.Kept.{read_kept};
-ghost use Rattle.xa_races.specs.CountedRaced.{AreRead, HasCome};
-ghost use Rattle.xa_races.specs.CountedHeld.{AreWithin};
-ghost use Rattle.xa_races.specs.Came.{IsOfRace};
-ghost use Rattle.xa_races.specs.Course.{held_in};
+ghost use Rattle.xa_orders.specs.{Scripts.parts_of, Kept.read_kept, Orders.told_state};
+ghost use Rattle.xa_races.specs.{CountedRaced.{AreRead, HasCome}, CountedHeld.AreWithin, Came.IsOfRace, Course.held_in};
 ghost use Rattle.xa_races.specs.HeldRuns.{IsHeldOnce, EndsBeside};
 ghost use Rattle.xa_server.specs.State.{no_state};
-ghost use Rattle.xa_orders.specs.Orders.{told_state};
 
 use crate::counted_lines::{race_each, race_lines};
 use crate::counted_opened::Opened;

@@ -1,6 +1,5 @@
 //! The statements that sessions give on lines, and the greatest session of lines.
-ghost use Rattle.std.specs.Prelude.{◌≡◌, ◌<◌, ◌≤◌, ◌+◌, ◌++◌, ℕ, length, map, IfOk, OnOk};
-ghost use Rattle.std.specs.Option.{option_to_list};
+ghost use Rattle.std.specs.{Prelude.{◌≡◌, ◌<◌, ◌≤◌, ◌+◌, ◌++◌, ℕ, length, map, IfOk, OnOk}, Option.option_to_list};
 ghost use Rattle.xa_statement.specs.Reading.{read_of};
 ghost use Rattle.xa_races.specs.CountedRaced.{statements_of, statement_in, statement_by};
 ghost use Rattle.xa_races.specs.CountedHeld.{AreWithin, list_at};

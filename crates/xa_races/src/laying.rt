@@ -1,7 +1,6 @@
 //! Lays the answers of sessions out in the order of their lines.
 ghost use Rattle.std.specs.Prelude.{◌≡◌, ◌≤◌, ◌-◌, ◌++◌, [], map, slice_get, Option, Some, None, IfOk, OnOk, IfSome};
-ghost use Rattle.std.specs.List.{All, concat};
-ghost use Rattle.std.specs.Option.{option_map};
+ghost use Rattle.std.specs.{List.{All, concat}, Option.option_map};
 ghost use Rattle.xa_statement.specs.Reading.{read_of};
 ghost use Rattle.xa_session.specs.declared.answer.Answer.{Answer as Answered};
 ghost use Rattle.xa_orders.specs.Orders.{IsSession};

@@ -1,9 +1,7 @@
 //! Races the sessions of a script over a store without an end, so that the history has any length.
-ghost use Rattle.std.specs.Prelude.{◌≡◌, ◌≤◌, length, IfErr, OnOk, IfSome, Err, None};
-ghost use Rattle.std.specs.Io.KnownBytes.{IsAtEnd};
+ghost use Rattle.std.specs.{Prelude.{◌≡◌, ◌≤◌, length, IfErr, OnOk, IfSome, Err, None}, Io.KnownBytes.IsAtEnd};
 ghost use Rattle.chain_log.specs.RingOpens.{AreRows};
-ghost use Rattle.xa_lines.specs.Calls.{Completes, Stops};
-ghost use Rattle.xa_lines.specs.Limits.{script_bytes, script_reads};
+ghost use Rattle.xa_lines.specs.{Calls.{Completes, Stops}, Limits.{script_bytes, script_reads}};
 ghost use Rattle.xa_lines.specs.Transcript.{ConsumesMoreThan};
 ghost use Rattle.xa_races.specs.Outcome.{AppendsRace, AfterRaceFault, IsRaceText, IsOfText};
 ghost use Rattle.xa_races.specs.HeldOn.{IsHeldEndless, EndsEndless, AppendsHeld, IsCausedIn};

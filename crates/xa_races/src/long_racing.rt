@@ -1,6 +1,5 @@
 //! Races over a store without an end.
-ghost use Rattle.std.specs.Prelude.{◌≡◌, ◌≤◌, length, map, IfOk, IfErr};
-ghost use Rattle.std.specs.List.{All, AllZip};
+ghost use Rattle.std.specs.{Prelude.{◌≡◌, ◌≤◌, length, map, IfOk, IfErr}, List.{All, AllZip}};
 ghost use Rattle.chain_log.specs.RingOpens.{AreRows};
 ghost use Rattle.xa_store.specs.Gathered.{last_known};
 ghost use Rattle.xa_races.specs.Long.{known_in, AreOfOne, Settles, IsLongOutcome, BlamesLong};

@@ -1,8 +1,6 @@
 //! Sessions of a store without an end meet, so that each has seen all that any of them has.
-ghost use Rattle.std.specs.Prelude.{◌≡◌, map, vec_capacity};
-ghost use Rattle.std.specs.List.{All, AllZip};
-ghost use Rattle.decision_log.specs.History.{Begins, entries_of};
-ghost use Rattle.decision_log.specs.Calls.{MeetsFirst};
+ghost use Rattle.std.specs.{Prelude.{◌≡◌, map, vec_capacity}, List.{All, AllZip}};
+ghost use Rattle.decision_log.specs.{History.{Begins, entries_of}, Calls.MeetsFirst};
 ghost use Rattle.chain_log.specs.RingPass.{log_of};
 ghost use Rattle.xa_store.specs.Gathered.{IsTakenIn, AddsNothing, last_known};
 ghost use Rattle.xa_races.specs.Long.{known_in, AreOfOne, Keeps, HoldsAll};

@@ -1,6 +1,5 @@
 //! What the threads of a race over a store without an end returned, as lists.
-ghost use Rattle.std.specs.Prelude.{◌≡◌, Some, None, map, slice_get, IfOk, IfSome};
-ghost use Rattle.std.specs.List.{All};
+ghost use Rattle.std.specs.{Prelude.{◌≡◌, Some, None, map, slice_get, IfOk, IfSome}, List.All};
 ghost use Rattle.xa_races.specs.declared.racer.Raced.{Raced as RacedValue};
 
 use crate::added::Added;

@@ -1,8 +1,7 @@
 //! Reads a script for a race; each line is read once.
 ghost use Rattle.std.specs.Prelude.{◌≡◌, ◌≤◌, ◌==◌, ◌+◌, ◌++◌, [], ℕ, Some, None, cond, length, map, vec_len, IfOk};
 ghost use Rattle.std.specs.Prelude.{OnOk};
-ghost use Rattle.xa_lines.specs.Script.{Given, line_of, lines_of};
-ghost use Rattle.xa_lines.specs.Limits.{script_bytes};
+ghost use Rattle.xa_lines.specs.{Script.{Given, line_of, lines_of}, Limits.script_bytes};
 ghost use Rattle.xa_races.specs.Race.{fault_text, part_at, Gains, TakesLine, HasRead};
 
 use crate::given::RaceScript;

@@ -1,9 +1,6 @@
 //! Holds a race over a store without an end, with room for a number of entries if one is asked for.
-ghost use Rattle.std.specs.Prelude.{◌≡◌, IfOk, IfErr};
-ghost use Rattle.std.specs.List.{All};
-ghost use Rattle.xa_races.specs.Long.{IsLongOutcome};
-ghost use Rattle.xa_races.specs.Outcome.{script_fault_of};
-ghost use Rattle.xa_races.specs.Came.{IsOfRace};
+ghost use Rattle.std.specs.{Prelude.{◌≡◌, IfOk, IfErr}, List.All};
+ghost use Rattle.xa_races.specs.{Long.IsLongOutcome, Outcome.script_fault_of, Came.IsOfRace};
 ghost use Rattle.xa_races.specs.HeldRuns.{FitsIn, EndsLong};
 
 use crate::{LongOutcome, LongRun, race_on};

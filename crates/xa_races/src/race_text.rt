@@ -1,8 +1,7 @@
 //! Prints the outcome of a race.
 ghost use Rattle.std.specs.Prelude.{◌≡◌, ◌++◌, ℕ, List, OnOk, IfOk, map};
-ghost use Rattle.xa_races.specs.Race.{part_at};
-ghost use Rattle.xa_races.specs.Outcome.{entry_text, entries_text, history_text, placed_text, session_text};
-ghost use Rattle.xa_races.specs.Outcome.{answers_text, outcome_text, AreAsked};
+ghost use Rattle.xa_races.specs.{Race.part_at, Outcome.{entry_text, entries_text, history_text, placed_text}};
+ghost use Rattle.xa_races.specs.Outcome.{session_text, answers_text, outcome_text, AreAsked};
 
 use std::alloc::Global;
 use xa_lines::{push_number, push_reply};

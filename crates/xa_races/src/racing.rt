@@ -1,9 +1,7 @@
 //! Races the runs of a script.
-ghost use Rattle.std.specs.Prelude.{◌≡◌, ◌≤◌, length, IfErr, OnOk, IfSome, Err, Some};
-ghost use Rattle.std.specs.Io.KnownBytes.{IsAtEnd};
+ghost use Rattle.std.specs.{Prelude.{◌≡◌, ◌≤◌, length, IfErr, OnOk, IfSome, Err, Some}, Io.KnownBytes.IsAtEnd};
 ghost use Rattle.decision_log.specs.Opens.{IsCapacity};
-ghost use Rattle.xa_lines.specs.Calls.{Completes, Stops};
-ghost use Rattle.xa_lines.specs.Limits.{script_bytes, script_reads};
+ghost use Rattle.xa_lines.specs.{Calls.{Completes, Stops}, Limits.{script_bytes, script_reads}};
 ghost use Rattle.xa_lines.specs.Transcript.{ConsumesMoreThan};
 ghost use Rattle.xa_races.specs.Outcome.{AppendsRace, AfterRaceFault, IsRaceText, IsOfText};
 ghost use Rattle.xa_races.specs.HeldOn.{IsHeldInLog, EndsInLog, AppendsHeld, IsCausedIn};

@@ -4,8 +4,7 @@ ghost use Rattle.std.specs.Prelude.{◌≡◌, ◌≤◌, length, IfOk, IfErr, O
 ghost use Rattle.std.specs.Io.KnownBytes.{Appends, IsAtEnd};
 ghost use Rattle.decision_log.specs.Opens.{IsCapacity};
 ghost use Rattle.xa_lines.specs.Calls.{HasWritten, StopsWriting, Completes, Stops};
-ghost use Rattle.xa_lines.specs.Limits.{script_bytes, script_reads};
-ghost use Rattle.xa_lines.specs.Transcript.{AppendsPrefix, ConsumesMoreThan};
+ghost use Rattle.xa_lines.specs.{Limits.{script_bytes, script_reads}, Transcript.{AppendsPrefix, ConsumesMoreThan}};
 ghost use Rattle.xa_races.specs.Came.{IsRunCount, IsSomeRunsText, AppendsRuns, IsOfRuns, AfterRunsFault};
 ghost use Rattle.xa_races.specs.HeldRuns.{AppendsHeldRuns, EndsRuns};
 

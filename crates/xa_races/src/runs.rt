@@ -1,17 +1,10 @@
 //! Races a script many times, and counts its outcomes.
-ghost use Rattle.std.specs.Prelude.{◌≡◌, [], None, IfOk, IfErr, OnOk, IfSome};
-ghost use Rattle.std.specs.List.{All};
+ghost use Rattle.std.specs.{Prelude.{◌≡◌, [], None, IfOk, IfErr, OnOk, IfSome}, List.All};
 ghost use Rattle.decision_log.specs.Opens.{IsCapacity};
-ghost use Rattle.xa_orders.specs.Orders.{base_of, told_state, IsExplored};
-ghost use Rattle.xa_orders.specs.Found.{IsWide};
-ghost use Rattle.xa_orders.specs.Scripts.{script_read, parts_of};
-ghost use Rattle.xa_orders.specs.Kept.{read_kept};
-ghost use Rattle.xa_races.specs.CountedRaced.{AreRead};
-ghost use Rattle.xa_races.specs.Tallied.{AreFirst, IsCounted};
-ghost use Rattle.xa_races.specs.Came.{IsRunCount, ways_limit, IsRunsText, IsOfRace};
-ghost use Rattle.xa_races.specs.Came.{IsOfRuns};
-ghost use Rattle.xa_races.specs.Came.{IsPartsCome, IsWellRead};
-ghost use Rattle.xa_races.specs.Course.{held_in};
+ghost use Rattle.xa_orders.specs.{Orders.{base_of, told_state, IsExplored}, Found.IsWide};
+ghost use Rattle.xa_orders.specs.{Scripts.{script_read, parts_of}, Kept.read_kept};
+ghost use Rattle.xa_races.specs.{CountedRaced.AreRead, Tallied.{AreFirst, IsCounted}, Course.held_in};
+ghost use Rattle.xa_races.specs.Came.{IsRunCount, ways_limit, IsRunsText, IsOfRace, IsOfRuns, IsPartsCome, IsWellRead};
 ghost use Rattle.xa_races.specs.HeldRuns.{AreHeld, IsSeenOf, EndsBeside, EndsRuns};
 ghost use Rattle.xa_server.specs.State.{no_state};
 

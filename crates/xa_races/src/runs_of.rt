@@ -1,6 +1,5 @@
 //! The runs of a race.
-ghost use Rattle.std.specs.Prelude.{◌≡◌, map, IfOk};
-ghost use Rattle.std.specs.List.{zip};
+ghost use Rattle.std.specs.{Prelude.{◌≡◌, map, IfOk}, List.zip};
 
 use crate::LongRun;
 use std::alloc::Global;

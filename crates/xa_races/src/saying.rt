@@ -1,6 +1,5 @@
 //! One session of a race over a store without an end executes its statements, one after another.
-ghost use Rattle.std.specs.Prelude.{◌≡◌, ◌≤◌, ◌+◌, [], Err, length, vec_capacity, OnOk, OnErr, IfErr};
-ghost use Rattle.std.specs.List.{All};
+ghost use Rattle.std.specs.{Prelude.{◌≡◌, ◌≤◌, ◌+◌, [], Err, length, vec_capacity, OnOk, OnErr, IfErr}, List.All};
 ghost use Rattle.xa_server.specs.State.{no_state};
 ghost use Rattle.xa_store.specs.Spread.{HasAnswered};
 ghost use Rattle.xa_races.specs.Long.{known_in, EndsOne, SaysOne, IsAddedBy, StopsAt, EndsAt};

@@ -1,10 +1,8 @@
 //! Counts outcomes as they come.
 ghost use Rattle.std.specs.Prelude.{◌≡◌, ◌≢◌, ◌<◌, ◌≤◌, ◌++◌, ◌∷◌, [], ℕ, List, true, false, length, map, take, drop};
-ghost use Rattle.std.specs.Prelude.{get_or, nat_eq, cond, IfOk, OnOk};
-ghost use Rattle.std.specs.List.{All, Contains};
+ghost use Rattle.std.specs.{Prelude.{get_or, nat_eq, cond, IfOk, OnOk}, List.{All, Contains}};
 ghost use Rattle.xa_orders.specs.Orders.{Pairwise};
-ghost use Rattle.xa_races.specs.declared.came_tally.CameTally.{CameTally as Counted};
-ghost use Rattle.xa_races.specs.Came.{ComesBefore};
+ghost use Rattle.xa_races.specs.{declared.came_tally.CameTally.CameTally as Counted, Came.ComesBefore};
 ghost use Rattle.xa_races.specs.Tallied.{texts_of, once_if, counted_up, Tallied};
 
 use crate::came_tally::CameTally;

@@ -1,12 +1,10 @@
 -- Allowances, one by one.
 use Rattle.std.proofs.Common.{◌≡◌, ℕ, zero, suc, ◌+◌, ◌<◌, ◌≤◌, ◌==◌, Bool, true, false, if◌then◌else◌, Option, Some}
-use Rattle.std.proofs.Common.{None, Result, Ok, Err, List, [], ◌∷◌, ◌++◌, length, drop, get_or}
-use Rattle.std.proofs.Common.{option_to_list, refl, ap, sym, ◌∙◌, arith, append_assoc, append-nil}
-use Rattle.std.proofs.lemmas.List.{drop_all}
+use Rattle.std.proofs.Common.{None, Result, Ok, Err, List, [], ◌∷◌, ◌++◌, length, drop, get_or, option_to_list, refl}
+use Rattle.std.proofs.{Common.{ap, sym, ◌∙◌, arith, append_assoc, append-nil}, lemmas.List.drop_all}
 use Rattle.std.proofs.lemmas.Grind.{common_steps}
 use Rattle.xa_lines.specs.Script.{lines_of}
-use Rattle.xa_record.specs.declared.allowance.Allowance.{Allowance}
-use Rattle.xa_record.specs.declared.statement_kind.StatementKind.{StatementKind}
+use Rattle.xa_record.specs.declared.{allowance.Allowance.Allowance, statement_kind.StatementKind.StatementKind}
 use Rattle.xa_record.specs.Allowances.{lets_stand, allowed_for, first_allows, line_allows, allowances_in}
 use Rattle.xa_record.proofs.Effects.{dropped}
 

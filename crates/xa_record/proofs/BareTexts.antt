@@ -1,27 +1,19 @@
 -- What sessions call for, as the lines of a record tell, begins with no blank and has no line feed.
 use Rattle.std.proofs.Common.{◌≡◌, ℕ, zero, suc, ◌==◌, true, false, Bool, not, cond, if◌then◌else◌, Option, Some, None}
 use Rattle.std.proofs.Common.{Ok, Err, List, [], ◌∷◌, ◌++◌, reverse, drop, codes, refl, ap, sym, ◌∙◌, subst}
-use Rattle.std.specs.Prelude.{bytes_eq, nat_lt}
+use Rattle.std.{proofs.lemmas.List.reverse-append, specs.Prelude.{bytes_eq, nat_lt}}
 use Rattle.std.specs.List.{AllByRecursion as All, list_all, prefix_len}
-use Rattle.std.proofs.lemmas.List.{reverse-append}
-use Rattle.xa_xid.specs.Bytes.{belongs, behind, unblank}
-use Rattle.xa_xid.specs.Literal.{Reading, literal_ahead}
-use Rattle.xa_xid.specs.Xid.{Text}
+use Rattle.xa_xid.specs.{Bytes.{belongs, behind, unblank}, Literal.{Reading, literal_ahead}, Xid.Text}
 use Rattle.xa_xid.specs.declared.byte_class.ByteClass.TheVariants.{Blank as BlankByte}
 use Rattle.xa_lines.specs.Script.{lines_of, with_first, Line, Blank, line_of, first_word, after_word, behind_word}
-use Rattle.xa_lines.specs.Script.{is_no_blank, is_empty_line}
-use Rattle.xa_lines.specs.Script.{line_given, session_named, filled_line, number_of_word}
+use Rattle.xa_lines.specs.Script.{is_no_blank, is_empty_line, line_given, session_named, filled_line, number_of_word}
 use Rattle.xa_record.specs.Lines.{ShowsOk, ShowsValue, Calls, Returns, ReturnsUnknown, Leaves, LineSaid, Nothing, Bad}
-use Rattle.xa_record.specs.Lines.{Says, Awaits, Closed, is_silent, trimmed, alone}
-use Rattle.xa_record.specs.Lines.{value_said, rows_said, error_said, return_said, loss_said, session_said, filled_said}
-use Rattle.xa_record.specs.Lines.{reading_of_line}
-use Rattle.xa_record.specs.Rows.{leading_number}
-use Rattle.xa_record.specs.Reading.{NumberedEvent, notes_of}
-use Rattle.xa_record.specs.Records.{Tells, no_line, silent_line, call_line, return_line, rows_lines, unknown_line}
-use Rattle.xa_record.specs.Records.{lost_line, gone_line, on_next_line}
-use Rattle.xa_record.specs.Replaying.{HasNoFeed, IsBare, IsBareTold, AreBare}
-use Rattle.xa_record.proofs.Feeds.{both, both_first, both_second, feed-append}
-use Rattle.xa_record.proofs.TextsTold.{text-tells}
+use Rattle.xa_record.specs.Lines.{Says, Awaits, Closed, is_silent, trimmed, alone, value_said, rows_said, error_said}
+use Rattle.xa_record.specs.Lines.{return_said, loss_said, session_said, filled_said, reading_of_line}
+use Rattle.xa_record.specs.{Rows.leading_number, Reading.{NumberedEvent, notes_of}, Records.{Tells, no_line}}
+use Rattle.xa_record.specs.Records.{silent_line, call_line, return_line, rows_lines, unknown_line, lost_line, gone_line}
+use Rattle.xa_record.specs.{Records.on_next_line, Replaying.{HasNoFeed, IsBare, IsBareTold, AreBare}}
+use Rattle.xa_record.proofs.{Feeds.{both, both_first, both_second, feed-append}, TextsTold.text-tells}
 
 -- the first byte of a text that has no line feed isn't one
 first_of : (byte : ℕ) (text : List ℕ) → HasNoFeed (byte ∷ text) → not (byte == 10) ≡ true

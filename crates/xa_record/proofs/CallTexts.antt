@@ -1,8 +1,6 @@
 -- What is written where nothing is called for.
 use Rattle.std.proofs.Common.{◌≡◌, ℕ, List, [], ◌++◌, refl, ap, sym, ◌∙◌, append-nil}
-use Rattle.xa_statement.specs.Token.{pieces}
-use Rattle.xa_statement.specs.Machine.{finish}
-use Rattle.xa_statement.specs.Reading.{read_of, read_from}
+use Rattle.xa_statement.specs.{Token.pieces, Machine.finish, Reading.{read_of, read_from}}
 use Rattle.xa_record.specs.VerdictText.{call_text}
 
 -- nothing is written for an empty text

@@ -1,11 +1,9 @@
 -- Lines that are chosen, one after another.
-use Rattle.std.proofs.Common.{◌≡◌, ◌∙◌, ℕ, ◌+◌, ◌==◌, ◌<◌, ◌≤◌, Bool, true, false, List, [], ◌∷◌, ◌++◌, length}
-use Rattle.std.proofs.Common.{drop, get_or, refl, ap, sym, add-one, append_assoc, append-nil}
-use Rattle.std.proofs.Math.Seq.{drop-cons}
+use Rattle.std.proofs.Common.{◌≡◌, ◌∙◌, ℕ, ◌+◌, ◌==◌, ◌<◌, ◌≤◌, Bool, true, false, List, [], ◌∷◌, ◌++◌, length, drop}
+use Rattle.std.proofs.{Common.{get_or, refl, ap, sym, add-one, append_assoc, append-nil}, Math.Seq.drop-cons}
 use Rattle.std.proofs.lemmas.List.{drop_all}
 use Rattle.xa_lines.specs.Script.{lines_of}
-use Rattle.xa_record.specs.Shrinking.{line_if, chosen_text}
-use Rattle.xa_record.proofs.Reported.{no_fault}
+use Rattle.xa_record.{specs.Shrinking.{line_if, chosen_text}, proofs.Reported.no_fault}
 
 -- without a line nothing is chosen
 chosen-nothing : (keeps : List Bool) → chosen_text keeps [] ≡ []

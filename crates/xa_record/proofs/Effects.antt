@@ -1,21 +1,13 @@
 -- The lines of an order, as a loop over its moves writes them.
 use Rattle.std.proofs.Common.{◌≡◌, ℕ, suc, ◌+◌, ◌<◌, ◌≤◌, Option, Some, List, [], ◌∷◌, ◌++◌, length, map, set, drop}
-use Rattle.std.proofs.Common.{get_or, slice_get, refl, ap, sym, ◌∙◌, arith}
-use Rattle.std.proofs.Common.{add-one, append_assoc, append-nil}
-use Rattle.std.proofs.Math.Seq.{drop-cons}
-use Rattle.std.specs.List.{drop-map}
-use Rattle.std.specs.Option.{option_map}
-use Rattle.std.proofs.lemmas.List.{drop_all, length-map, map-set}
-use Rattle.std.proofs.lemmas.Option.{slice_get-map}
-use Rattle.xa_judge.specs.declared.moves.Act.{Act}
-use Rattle.xa_judge.specs.declared.moves.Move.{Move}
-use Rattle.xa_judge.specs.declared.moves.Move.TheVariants.{Event as Seeing, Effect}
+use Rattle.std.proofs.Common.{get_or, slice_get, refl, ap, sym, ◌∙◌, arith, add-one, append_assoc, append-nil}
+use Rattle.std.proofs.{Math.Seq.drop-cons, lemmas.{List.{drop_all, length-map, map-set}, Option.slice_get-map}}
+use Rattle.std.specs.{List.drop-map, Option.option_map}
+use Rattle.xa_judge.specs.declared.moves.{Act.Act, Move.{Move, TheVariants.{Event as Seeing, Effect}}}
 use Rattle.xa_record.specs.declared.line_event.NumberedEvent.{NumberedEvent as NumberedRead}
-use Rattle.xa_record.specs.declared.last_calls.LastCalls.{LastCalls}
+use Rattle.xa_record.specs.{declared.last_calls.LastCalls.LastCalls, VerdictText.{with_call, effect_text, order_text}}
 use Rattle.xa_record.specs.Kept.{told_kept, text_told, text_at, numbered_kept, calls_kept, with_place}
-use Rattle.xa_record.specs.Lines.{Told, Calls, Returns, ReturnsUnknown, Leaves}
-use Rattle.xa_record.specs.Reading.{NumberedEvent}
-use Rattle.xa_record.specs.VerdictText.{with_call, effect_text, order_text}
+use Rattle.xa_record.specs.{Lines.{Told, Calls, Returns, ReturnsUnknown, Leaves}, Reading.NumberedEvent}
 use Rattle.xa_record.proofs.Places.{text_at-kept}
 
 -- if this is what the list of places has for a session, the list of their texts has the text of the call there, which

@@ -1,16 +1,12 @@
 -- The events that the lines of a record say, one by one.
 use Rattle.std.proofs.Common.{◌≡◌, ℕ, ◌+◌, ◌<◌, ◌≤◌, Option, List, [], ◌∷◌, ◌++◌, map, length, take, get_or, refl, ap}
-use Rattle.std.proofs.Common.{sym, ◌∙◌, subst}
-use Rattle.std.proofs.lemmas.List.{take_more, take_all}
+use Rattle.std.proofs.{Common.{sym, ◌∙◌, subst}, lemmas.List.{take_more, take_all}}
 use Rattle.xa_judge.specs.declared.event.Event.{Event}
-use Rattle.xa_record.specs.declared.allowance.Allowance.{Allowance}
-use Rattle.xa_record.specs.declared.statement_kind.StatementKind.{StatementKind}
+use Rattle.xa_record.specs.declared.{allowance.Allowance.Allowance, statement_kind.StatementKind.StatementKind}
 use Rattle.xa_record.specs.declared.line_event.NumberedEvent.{NumberedEvent as NumberedRead}
-use Rattle.xa_record.specs.Lines.{Told, Calls, Returns, ReturnsUnknown, Leaves}
-use Rattle.xa_record.specs.Reading.{NumberedEvent}
-use Rattle.xa_record.specs.Allowances.{no_kinds, kinds_after}
+use Rattle.xa_record.specs.{Lines.{Told, Calls, Returns, ReturnsUnknown, Leaves}, Reading.NumberedEvent}
+use Rattle.xa_record.specs.{Allowances.{no_kinds, kinds_after}, Kept.{told_kept, numbered_kept}}
 use Rattle.xa_record.specs.Events.{IsEvent, AreEvents, AreEventsAfter, IsCallOf, AreCalls}
-use Rattle.xa_record.specs.Kept.{told_kept, numbered_kept}
 
 -- the kinds of statements that sessions called for last, once these events are seen; `kinds` are those before
 unfoldable pub kinds_through : List Event → List (Option StatementKind) → List (Option StatementKind)

@@ -1,16 +1,11 @@
 -- What was seen at a place, and its call.
 use Rattle.std.proofs.Common.{◌≡◌, ◌∙◌, ℕ, ◌+◌, ◌<◌, ◌≤◌, Bool, true, false, Option, Some, None, List, [], ◌∷◌, length}
-use Rattle.std.proofs.Common.{map, take, drop, get_or, slice_get, refl, ap, sym, arith}
-use Rattle.std.specs.Prelude.{if◌then◌else◌, IfOk}
-use Rattle.std.proofs.Common.{Result, Ok, Err}
-use Rattle.std.proofs.lemmas.List.{drop_all, take-map}
+use Rattle.std.proofs.Common.{map, take, drop, get_or, slice_get, refl, ap, sym, arith, Result, Ok, Err}
+use Rattle.std.{proofs.lemmas.List.{drop_all, take-map}, specs.Prelude.{if◌then◌else◌, IfOk}}
 use Rattle.xa_record.specs.declared.line_event.NumberedEvent.{NumberedEvent as NumberedRead}
+use Rattle.xa_record.specs.{declared.exchange.Exchange.Exchange as ExchangeMade, Kept.{numbered_kept, exchange_kept}}
 use Rattle.xa_record.specs.Exchanges.{Exchange, is_call_by, last_call, exchange_with, exchange_after, exchange_at}
-use Rattle.xa_record.specs.Kept.{numbered_kept, exchange_kept}
-use Rattle.xa_record.specs.declared.exchange.Exchange.{Exchange as ExchangeMade}
-use Rattle.xa_record.specs.Reading.{NumberedEvent, session_of}
-use Rattle.xa_record.proofs.Effects.{dropped}
-use Rattle.xa_record.proofs.Places.{slice_get-kept}
+use Rattle.xa_record.{specs.Reading.{NumberedEvent, session_of}, proofs.{Effects.dropped, Places.slice_get-kept}}
 
 -- the search for a session's last call: the event at this place is a call by it, so it replaces what was found before
 pub call_found : (session : ℕ) (found : Option NumberedEvent) (numbered : List NumberedRead) (index : ℕ)

@@ -1,36 +1,24 @@
 -- What is written for faulty lines is what the rule for one line (`fault_between`) says of each.
-use Rattle.std.proofs.Common.{◌≡◌, ℕ, zero, suc, ◌+◌, ◌-◌, ◌==◌, ◌<◌, Bool, true, false, if◌then◌else◌, Option}
-use Rattle.std.proofs.Common.{Some, None, List, [], ◌∷◌, ◌++◌, length, replicate}
-use Rattle.std.proofs.Common.{slice_get, slice_set, refl, ap, sym, ◌∙◌, subst, arith, append_assoc, append-nil}
-use Rattle.std.proofs.Common.{length-append}
-use Rattle.std.specs.Prelude.{nat_lt}
-use Rattle.std.specs.List.{insert}
-use Rattle.std.proofs.lemmas.Bool.Decides.{nat_tests}
-use Rattle.std.proofs.lemmas.Option.{none-some, slice_get_within}
-use Rattle.xa_xid.specs.Bytes.{unblank}
-use Rattle.xa_xid.specs.declared.xid.Xid.{Xid}
+use Rattle.std.proofs.Common.{◌≡◌, ℕ, zero, suc, ◌+◌, ◌-◌, ◌==◌, ◌<◌, Bool, true, false, if◌then◌else◌, Option, Some}
+use Rattle.std.proofs.Common.{None, List, [], ◌∷◌, ◌++◌, length, replicate, slice_get, slice_set, refl, ap, sym, ◌∙◌}
+use Rattle.std.proofs.{Common.{subst, arith, append_assoc, append-nil, length-append}, lemmas.Bool.Decides.nat_tests}
+use Rattle.std.{proofs.lemmas.Option.{none-some, slice_get_within}, specs.{Prelude.nat_lt, List.insert}}
+use Rattle.xa_xid.specs.{Bytes.unblank, declared.xid.Xid.Xid}
 use Rattle.xa_lines.specs.Script.{lines_of}
-use Rattle.xa_record.specs.declared.line_fault.LineFault.{LineFault}
-use Rattle.xa_record.specs.declared.line_fault.LineFault.TheVariants.{NotARow, RowsMissing}
-use Rattle.xa_record.specs.declared.presence.Presence.{Presence}
-use Rattle.xa_record.specs.declared.presence.Presence.TheVariants.{Idle, Open, Lost}
-use Rattle.xa_record.specs.Lines.{Shown, ShowsRows, Told, Calls, Returns, ReturnsUnknown, Leaves, LineSaid, Nothing}
-use Rattle.xa_record.specs.Lines.{Bad, Says, Awaits, Closed, is_silent, reading_of_line}
-use Rattle.xa_record.specs.Rows.{row_said}
-use Rattle.xa_record.specs.Reading.{NumberedEvent, Awaited, Notes, fault_text, blamed, blamed_too, noted_if, closed_if}
-use Rattle.xa_record.specs.Reading.{cause_of, session_of, presence_after, up_to_return, ended_by, returned, awaiting}
-use Rattle.xa_record.specs.Reading.{with_row, noted_row, noted_said, noted_line, noted_lines, notes_by}
-use Rattle.xa_record.specs.Reading.{fault_called, beyond, blamed_if, note_strictly}
-use Rattle.xa_record.specs.Records.{presence_then, filled}
-use Rattle.xa_record.specs.FaultyLines.{rows_announced, due_after, rows_due, said_alone, said_by, told_by, presence_by}
-use Rattle.xa_record.specs.FaultyLines.{presence_said_from, presence_said, cause_said, fault_said, fault_of_row}
-use Rattle.xa_record.specs.FaultyLines.{first_fault, fault_strictly}
-use Rattle.xa_record.specs.FaultyLines.{fault_in_row, fault_due, fault_between, text_of_fault, faulty_after}
-use Rattle.xa_record.specs.FaultyLines.{faulty_text}
+use Rattle.xa_record.specs.declared.line_fault.LineFault.{LineFault, TheVariants.{NotARow, RowsMissing}}
+use Rattle.xa_record.specs.{declared.presence.Presence.Presence, Lines.{Shown, ShowsRows, Told, Calls, Returns}}
+use Rattle.xa_record.specs.Lines.{ReturnsUnknown, Leaves, LineSaid, Nothing, Bad, Says, Awaits, Closed, is_silent}
+use Rattle.xa_record.specs.{Lines.reading_of_line, Rows.row_said, Reading.{NumberedEvent, Awaited, Notes, fault_text}}
+use Rattle.xa_record.specs.Reading.{blamed, blamed_too, noted_if, closed_if, cause_of, session_of, presence_after}
+use Rattle.xa_record.specs.Reading.{up_to_return, ended_by, returned, awaiting, with_row, noted_row, noted_said}
+use Rattle.xa_record.specs.Reading.{noted_line, noted_lines, notes_by, fault_called, beyond, blamed_if, note_strictly}
+use Rattle.xa_record.specs.{Records.{presence_then, filled}, FaultyLines.{rows_announced, due_after, rows_due}}
+use Rattle.xa_record.specs.FaultyLines.{said_alone, said_by, told_by, presence_by, presence_said_from, presence_said}
+use Rattle.xa_record.specs.FaultyLines.{cause_said, fault_said, fault_of_row, first_fault, fault_strictly, fault_in_row}
+use Rattle.xa_record.specs.FaultyLines.{fault_due, fault_between, text_of_fault, faulty_after, faulty_text}
 use Rattle.xa_record.proofs.Presences.{set_same, set_other, replicated, tested, apart_test, then-after}
-use Rattle.xa_record.proofs.RecordLines.{cause-shown, filled-silent, filled-one}
+use Rattle.xa_record.proofs.{RecordLines.{cause-shown, filled-silent, filled-one}, SessionsWithin.{Within, line_within}}
 use Rattle.xa_record.proofs.RecordReads.{first-awaited, zero-missing, some-missing}
-use Rattle.xa_record.proofs.SessionsWithin.{Within, line_within}
 
 -- no number is below 0
 none-less : (n : ℕ) → nat_lt n 0 ≡ false
@@ -92,22 +80,22 @@ abbrev Known : List Presence → List LineSaid → Type 0
 Known presence said = (session : ℕ) → session < 17 → slice_get presence session ≡ Some (presence_said session said)
 
 -- before the first line every session is idle
-known-first : Known (replicate 17 Idle) []
+known-first : Known (replicate 17 Presence.Idle) []
 unfolding presence_said_from
-known-first session within = replicated 17 session Idle within
+known-first session within = replicated 17 session Presence.Idle within
 
 -- an event that can't happen leaves the session's presence as it was, even if the event is counted
 then-same : (presence : Presence) (told : Told) (fault : LineFault) → cause_of (Some presence) told ≡ Some fault
     → presence_then presence told ≡ presence
-then-same Idle (Calls session text) fault is = absurd (none-some _ is)
-then-same Idle (Returns session shown) fault is = refl
-then-same Idle (ReturnsUnknown session) fault is = refl
-then-same Idle (Leaves session) fault is = absurd (none-some _ is)
-then-same Open (Calls session text) fault is = refl
-then-same Open (Returns session shown) fault is = absurd (none-some _ is)
-then-same Open (ReturnsUnknown session) fault is = absurd (none-some _ is)
-then-same Open (Leaves session) fault is = absurd (none-some _ is)
-then-same Lost told fault is = refl
+then-same Presence.Idle (Calls session text) fault is = absurd (none-some _ is)
+then-same Presence.Idle (Returns session shown) fault is = refl
+then-same Presence.Idle (ReturnsUnknown session) fault is = refl
+then-same Presence.Idle (Leaves session) fault is = absurd (none-some _ is)
+then-same Presence.Open (Calls session text) fault is = refl
+then-same Presence.Open (Returns session shown) fault is = absurd (none-some _ is)
+then-same Presence.Open (ReturnsUnknown session) fault is = absurd (none-some _ is)
+then-same Presence.Open (Leaves session) fault is = absurd (none-some _ is)
+then-same Presence.Lost told fault is = refl
 
 -- what was said up to `after` leaves each session as what was said up to `said` does, changed by this event
 abbrev Follows : List LineSaid → List LineSaid → Told → Type 0
@@ -119,14 +107,14 @@ follows-one : (said : List LineSaid) (one : LineSaid) (told : Told) → told_by 
     → Follows said (said ++ one ∷ []) told
 unfolding presence_said_from
 follows-one said one told is session =
-    presence-append session Idle said (one ∷ []) ∙ ap (presence_by session (presence_said session said)) is
+    presence-append session Presence.Idle said (one ∷ []) ∙ ap (presence_by session (presence_said session said)) is
 
 -- a session's presence after a return doesn't depend on what the return shows
 then-shown : (presence : Presence) (session : ℕ) (one two : Shown)
     → presence_then presence (Returns session one) ≡ presence_then presence (Returns session two)
-then-shown Idle session one two = refl
-then-shown Open session one two = refl
-then-shown Lost session one two = refl
+then-shown Presence.Idle session one two = refl
+then-shown Presence.Open session one two = refl
+then-shown Presence.Lost session one two = refl
 
 -- what was said, with a line more that announces rows, changes sessions as the return, whatever this shows (`Follows`)
 follows-rows : (said : List LineSaid) (session count : ℕ) (shown : Shown)
@@ -142,7 +130,7 @@ known-quiet : (presence : List Presence) (said : List LineSaid) (one : LineSaid)
 unfolding presence_said_from
 known-quiet presence said one none known session below =
     known session below
-    ∙ ap Some (sym (presence-append session Idle said (one ∷ [])
+    ∙ ap Some (sym (presence-append session Presence.Idle said (one ∷ [])
     ∙ ap (presence_by session (presence_said session said)) none))
 
 -- why an event isn't possible, or that it is, is the same by what is kept of sessions as by what was said
@@ -320,7 +308,7 @@ closed-goes : (o : Option LineFault) (list : List NumberedEvent) (faults : List 
 unfolding closed_if blamed
 closed-goes None list faults presence number session said after is within known follows =
     goes-none (insert list (up_to_return session list) (record { number = number; told = Leaves session })) faults
-    (slice_set presence session Lost) after
+    (slice_set presence session Presence.Lost) after
     (known-next presence said after (Leaves session) within known follows is)
 closed-goes (Some fault) list faults presence number session said after is within known follows =
     record {
@@ -836,4 +824,4 @@ both strict (line ∷ rest) =
 -- what is written for the faulty lines of a text is what the rule for one line says of each
 pub text-faulty : (strict : Bool) (text : List ℕ) → (notes_by strict text).faults ≡ faulty_text strict (lines_of text)
 unfolding notes_by rows_due said_by
-text-faulty strict text = (both strict (lines_of text)).0 [] [] [] (replicate 17 Idle) refl known-first
+text-faulty strict text = (both strict (lines_of text)).0 [] [] [] (replicate 17 Presence.Idle) refl known-first

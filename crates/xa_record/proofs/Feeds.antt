@@ -1,17 +1,11 @@
 -- Texts without a line feed, and lines that are cut where they were joined.
 use Rattle.std.proofs.Common.{◌≡◌, ℕ, zero, suc, ◌+◌, ◌<◌, ◌/◌, ◌%◌, ◌^◌, ◌==◌, true, false, Bool, not, ◌&&◌, List, []}
-use Rattle.std.proofs.Common.{◌∷◌, ◌++◌, map, codes, decimal, refl, ap, sym, ◌∙◌, subst}
-use Rattle.std.proofs.Common.{arith, lit<}
-use Rattle.std.specs.Prelude.{slice_index}
-use Rattle.std.specs.List.{AllByRecursion as All, list_all}
-use Rattle.std.proofs.lemmas.Bool.Decides.{nat_tests}
-use Rattle.std.proofs.lemmas.Fmt.{decimal_digit, decimal-digits_of}
-use Rattle.std.specs.Int.Digits.{digits_of}
-use Rattle.std.proofs.lemmas.List.Folds.{list_all-append}
+use Rattle.std.proofs.Common.{◌∷◌, ◌++◌, map, codes, decimal, refl, ap, sym, ◌∙◌, subst, arith, lit<}
+use Rattle.std.proofs.lemmas.{Bool.Decides.nat_tests, Fmt.{decimal_digit, decimal-digits_of}}
+use Rattle.std.{proofs.lemmas.List.Folds.list_all-append, specs.Prelude.slice_index}
+use Rattle.std.specs.{List.{AllByRecursion as All, list_all}, Int.Digits.digits_of}
 use Rattle.hex.specs.Hex.{encode_with, encode_lower, lower_digits}
-use Rattle.xa_xid.specs.XidText.{part_text, xid_text}
-use Rattle.xa_xid.specs.declared.xid.Xid.{Xid}
-use Rattle.xa_xid.specs.declared.statement.Statement.{Statement}
+use Rattle.xa_xid.specs.{XidText.{part_text, xid_text}, declared.{xid.Xid.Xid, statement.Statement.Statement}}
 use Rattle.xa_xid.specs.declared.statement.Statement.TheVariants.{Start, End, Prepare, Commit, Rollback, Recover}
 use Rattle.xa_xid.specs.declared.statement.Statement.TheVariants.{Unsupported, Get, Put, Del, Disconnect}
 use Rattle.xa_statement.specs.Canonical.{statement_text}

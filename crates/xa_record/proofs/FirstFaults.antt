@@ -1,28 +1,21 @@
 -- What is written first for lines of which one is the first faulty one. Where lines are counted as rows, be they enough
 -- or fewer, silent ones don't count (`filled`).
 use Rattle.std.proofs.Common.{◌≡◌, ℕ, zero, suc, ◌+◌, ◌-◌, ◌==◌, ◌<◌, ◌≤◌, Bool, true, false, if◌then◌else◌, Option}
-use Rattle.std.proofs.Common.{Some, None, List, [], ◌∷◌, ◌++◌, length}
-use Rattle.std.proofs.Common.{◌⊎◌, inl, inr, slice_get, refl, ap, sym, ◌∙◌, subst, arith, append_assoc, append-nil}
-use Rattle.xa_xid.specs.Bytes.{unblank}
-use Rattle.xa_xid.specs.declared.xid.Xid.{Xid}
-use Rattle.xa_record.specs.declared.line_fault.LineFault.{LineFault}
-use Rattle.xa_record.specs.declared.line_fault.LineFault.TheVariants.{NotALine, NotARow, RowsMissing}
-use Rattle.xa_record.specs.declared.presence.Presence.{Presence}
-use Rattle.xa_record.specs.Lines.{ShowsRows, Told, Returns, Leaves, LineSaid, Nothing, Bad, Says, Awaits, Closed}
-use Rattle.xa_record.specs.Lines.{is_silent, reading_of_line}
-use Rattle.xa_record.specs.Rows.{row_said}
+use Rattle.std.proofs.Common.{Some, None, List, [], ◌∷◌, ◌++◌, length, ◌⊎◌, inl, inr, slice_get, refl, ap, sym, ◌∙◌}
+use Rattle.std.proofs.Common.{subst, arith, append_assoc, append-nil}
+use Rattle.xa_xid.specs.{Bytes.unblank, declared.xid.Xid.Xid}
+use Rattle.xa_record.specs.declared.line_fault.LineFault.{LineFault, TheVariants.{NotALine, NotARow, RowsMissing}}
+use Rattle.xa_record.specs.{declared.presence.Presence.Presence, Lines.{ShowsRows, Told, Returns, Leaves, LineSaid}}
+use Rattle.xa_record.specs.{Lines.{Nothing, Bad, Says, Awaits, Closed, is_silent, reading_of_line}, Rows.row_said}
 use Rattle.xa_record.specs.Reading.{NumberedEvent, Awaited, Notes, fault_text, blamed, blamed_too, noted_if, closed_if}
-use Rattle.xa_record.specs.Reading.{cause_of, session_of, ended_by}
-use Rattle.xa_record.specs.Reading.{returned, awaiting, with_row, noted_row, noted_said, noted_line, noted_lines}
-use Rattle.xa_record.specs.Reading.{no_notes}
-use Rattle.xa_record.specs.Records.{Fits, cause_next, filled, AreRows, HasFault, bad_line, unfit_line, unfit_gone}
-use Rattle.xa_record.specs.Records.{rows_missing, unfit_rows, bad_row, Begins}
-use Rattle.xa_record.proofs.Presences.{fits-here}
+use Rattle.xa_record.specs.Reading.{cause_of, session_of, ended_by, returned, awaiting, with_row, noted_row, noted_said}
+use Rattle.xa_record.specs.{Reading.{noted_line, noted_lines, no_notes}, Records.{Fits, cause_next, filled, AreRows}}
+use Rattle.xa_record.specs.Records.{HasFault, bad_line, unfit_line, unfit_gone, rows_missing, unfit_rows, bad_row}
+use Rattle.xa_record.{specs.Records.Begins, proofs.Presences.fits-here}
 use Rattle.xa_record.proofs.RecordLines.{cause-shown, filled-append, filled-silent, filled-one}
 use Rattle.xa_record.proofs.RecordReads.{noted_lines-append, noted, waiting, IsRead, said-of, lines-more, waits}
-use Rattle.xa_record.proofs.RecordReads.{all-came, come-silent, come-row, with-row-some}
-use Rattle.xa_record.proofs.RecordReads.{first-awaited, awaits-said, lines-read}
-use Rattle.xa_record.proofs.SessionsWithin.{Within, line_within}
+use Rattle.xa_record.proofs.RecordReads.{all-came, come-silent, come-row, with-row-some, first-awaited, awaits-said}
+use Rattle.xa_record.proofs.{RecordReads.lines-read, SessionsWithin.{Within, line_within}}
 
 -- beginning with a text is transitive: the whole begins with `text`, and `longer` with the whole
 begins-more : (whole longer text : List ℕ) → Begins whole text → Begins longer whole → Begins longer text

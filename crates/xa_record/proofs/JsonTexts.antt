@@ -1,13 +1,9 @@
 -- Texts as strings of JSON: characters; the end of an array and of an object with a verdict and a line.
 use Rattle.std.proofs.Common.{◌≡◌, ℕ, ◌+◌, ◌<◌, ◌==◌, true, Result, Ok, Err, OnOk, List, [], ◌∷◌, ◌++◌, length, take}
-use Rattle.std.proofs.Common.{get_or, codes, decimal, refl, ap, sym, ◌∙◌, arith}
-use Rattle.std.proofs.Common.{append_assoc, append-nil}
-use Rattle.std.proofs.lemmas.Grind.{common_steps}
-use Rattle.std.proofs.lemmas.List.{take_more}
-use Rattle.std.proofs.lemmas.Str.{encodes-append}
+use Rattle.std.proofs.Common.{get_or, codes, decimal, refl, ap, sym, ◌∙◌, arith, append_assoc, append-nil}
+use Rattle.std.proofs.lemmas.{Grind.common_steps, List.take_more, Str.encodes-append}
 use Rattle.std.specs.Prelude.{encode_utf8, encode_utf8_all}
-use Rattle.json.specs.Json.{no_members}
-use Rattle.json.specs.Token.{Token, end_array, end_object, key, string, number}
+use Rattle.json.specs.{Json.no_members, Token.{Token, end_array, end_object, key, string, number}}
 use Rattle.json.specs.Tree.{items_tokens, members_tokens}
 use Rattle.xa_lines.specs.Script.{lines_of}
 use Rattle.xa_record.specs.Forms.{values_of, with_verdict, with_line}

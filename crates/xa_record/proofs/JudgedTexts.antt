@@ -1,14 +1,9 @@
 -- A record was read to its end and judged, and the text was written, or writing failed: what is promised holds.
 use Rattle.std.proofs.Common.{◌≡◌, ℕ, Option, Some, None, Result, Ok, Err, List, ◌++◌, IfSome, IfOk, IfErr, OnOk, OnErr}
-use Rattle.std.proofs.Common.{ap, sym, ◌∙◌, subst, append-nil}
-use Rattle.std.specs.Io.KnownBytes.{Appends, Consumes, IsAtEnd}
-use Rattle.xa_lines.specs.declared.script_fault.ScriptFault.{ScriptFault}
-use Rattle.xa_lines.specs.declared.script_fault.ScriptFault.TheVariants.{Write}
-use Rattle.xa_lines.specs.Transcript.{AppendsPrefix}
+use Rattle.std.{proofs.Common.{ap, sym, ◌∙◌, subst, append-nil}, specs.Io.KnownBytes.{Appends, Consumes, IsAtEnd}}
+use Rattle.xa_lines.specs.{declared.script_fault.ScriptFault.{ScriptFault, TheVariants.Write}, Transcript.AppendsPrefix}
 use Rattle.xa_server.specs.State.{State}
-use Rattle.xa_record.specs.declared.allowance.Allowance.{Allowance}
-use Rattle.xa_record.specs.declared.asked.Asked.{Asked}
-use Rattle.xa_record.specs.declared.outcome.Outcome.{Outcome}
+use Rattle.xa_record.specs.declared.{allowance.Allowance.Allowance, asked.Asked.Asked, outcome.Outcome.Outcome}
 use Rattle.xa_record.specs.Judged.{IsJudgedFrom, AppendsJudgedFrom, AppendsJudgedPrefix, AfterJudgeFaultFrom}
 
 -- what holds of the bytes that were read up to the end holds of all that the reader had, if that is known

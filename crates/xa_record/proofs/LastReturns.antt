@@ -1,12 +1,8 @@
 -- Where the last return to a session stands, and what is put behind it.
 use Rattle.std.proofs.Common.{◌≡◌, ◌⊎◌, inl, inr, ℕ, zero, suc, ◌+◌, Bool, true, false, List, [], ◌∷◌, ◌++◌, length}
-use Rattle.std.proofs.Common.{take, drop}
-use Rattle.std.proofs.Common.{refl, ap, sym, ◌∙◌, subst, arith, add-one}
-use Rattle.std.proofs.lemmas.Grind.{common_steps}
-use Rattle.std.proofs.Math.Seq.{take-append_seam, drop-append_seam}
-use Rattle.std.specs.List.{insert}
-use Rattle.xa_record.specs.Reading.{NumberedEvent}
-use Rattle.xa_record.specs.Reading.{is_return_of, one_more, up_to_return}
+use Rattle.std.proofs.{Common.{take, drop, refl, ap, sym, ◌∙◌, subst, arith, add-one}, lemmas.Grind.common_steps}
+use Rattle.std.{proofs.Math.Seq.{take-append_seam, drop-append_seam}, specs.List.insert}
+use Rattle.xa_record.specs.Reading.{NumberedEvent, is_return_of, one_more, up_to_return}
 use Rattle.xa_record.specs.Records.{EndsInReturn, HasNoReturn}
 
 -- a front of no elements is empty

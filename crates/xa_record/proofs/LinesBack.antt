@@ -1,20 +1,14 @@
 -- The line of an effect, read back.
 use Rattle.std.proofs.Common.{◌≡◌, ◌≢◌, ℕ, zero, suc, true, false, Result, Ok, Err, List, [], ◌∷◌, ◌++◌, codes, decimal}
-use Rattle.std.proofs.Common.{refl, ap, sym, ◌∙◌, subst}
-use Rattle.std.proofs.Common.{◌<◌, ◌≤◌, ◌^◌, arith, lit<, lit≤}
+use Rattle.std.proofs.Common.{refl, ap, sym, ◌∙◌, subst, ◌<◌, ◌≤◌, ◌^◌, arith, lit<, lit≤}
 use Rattle.std.proofs.lemmas.Fmt.{decimal_digit, decimal_step}
-use Rattle.xa_xid.specs.Bytes.{belongs, behind, unblank}
-use Rattle.xa_xid.specs.declared.statement.Statement.{Statement}
-use Rattle.xa_xid.specs.declared.statement.Statement.TheVariants.{Start, End, Prepare, Commit, Rollback, Recover}
-use Rattle.xa_xid.specs.declared.statement.Statement.TheVariants.{Unsupported, Get, Put, Del, Disconnect}
-use Rattle.xa_statement.specs.Canonical.{statement_text}
-use Rattle.xa_statement.specs.Grammar.{Spells}
-use Rattle.xa_statement.specs.Reading.{read_of}
-use Rattle.xa_statement.proofs.Faults.{reads_spelled}
+use Rattle.xa_xid.specs.{Bytes.{belongs, behind, unblank}, declared.statement.Statement.{Statement, TheVariants.Start}}
+use Rattle.xa_xid.specs.declared.statement.Statement.TheVariants.{End, Prepare, Commit, Rollback, Recover, Unsupported}
+use Rattle.xa_xid.specs.declared.statement.Statement.TheVariants.{Get, Put, Del, Disconnect}
+use Rattle.xa_statement.{specs.{Canonical.statement_text, Grammar.Spells, Reading.read_of}, proofs.Faults.reads_spelled}
 use Rattle.xa_lines.specs.Script.{Given, line_of}
 use Rattle.xa_judge.specs.Explained.{IsSession}
-use Rattle.xa_record.specs.Events.{request_read, request_called}
-use Rattle.xa_record.specs.VerdictText.{call_text, text_read, canonical_text}
+use Rattle.xa_record.specs.{Events.{request_read, request_called}, VerdictText.{call_text, text_read, canonical_text}}
 use Rattle.xa_record.specs.Replaying.{HasNoFeed, IsWrittenBack, IsWellCalled}
 use Rattle.xa_record.proofs.Feeds.{feed-append, decimal_feed}
 

@@ -2,16 +2,11 @@
 use Rattle.std.proofs.Common.{◌≡◌, ℕ, Result, Ok, Err, IfOk, List, [], ◌∷◌, refl, subst}
 use Rattle.xa_server.specs.State.{State}
 use Rattle.xa_lines.specs.Script.{lines_of}
-use Rattle.xa_record.specs.declared.allowance.Allowance.{Allowance}
-use Rattle.xa_record.specs.declared.asked.Asked.{Asked}
-use Rattle.xa_record.specs.declared.report.Report.{Report as ReportMade}
+use Rattle.xa_record.specs.declared.{allowance.Allowance.Allowance, asked.Asked.Asked}
+use Rattle.xa_record.specs.{declared.report.Report.Report as ReportMade, Kept.report_kept}
 use Rattle.xa_record.specs.Judged.{IsReported, IsReportedOf, IsReportedWith, IsReportedByNotes, IsReportedOfNotes}
-use Rattle.xa_record.specs.Kept.{report_kept}
-use Rattle.xa_record.specs.Reading.{NumberedEvent, notes_by, notes_of}
-use Rattle.xa_record.specs.Reports.{Report}
-use Rattle.xa_record.proofs.FaultyTexts.{text-faulty}
-use Rattle.xa_record.proofs.StrictNotes.{told-same, clean-too}
-use Rattle.xa_record.proofs.TextsTold.{text-tells}
+use Rattle.xa_record.specs.{Reading.{NumberedEvent, notes_by, notes_of}, Reports.Report}
+use Rattle.xa_record.proofs.{FaultyTexts.text-faulty, StrictNotes.{told-same, clean-too}, TextsTold.text-tells}
 
 -- a report on the notes that a record leaves is a report on what its lines say
 lines-reported : (base : State) (allowances : List Allowance) (text : List ℕ) (asked : Asked) (report : Report)

@@ -1,18 +1,12 @@
 -- Reading a record line by line.
 use Rattle.std.proofs.Common.{◌≡◌, ℕ, ◌+◌, ◌==◌, Bool, true, Option, None, List, [], ◌∷◌, ◌++◌, map, take, drop, length}
-use Rattle.std.proofs.Common.{slice_get, slice_set, refl, ap, sym, ◌∙◌, arith}
-use Rattle.std.proofs.lemmas.Grind.{common_steps}
-use Rattle.std.proofs.lemmas.List.{map-append}
-use Rattle.std.specs.List.{insert, take-map, drop-map}
+use Rattle.std.proofs.{Common.{slice_get, slice_set, refl, ap, sym, ◌∙◌, arith}, lemmas.Grind.common_steps}
+use Rattle.std.{proofs.lemmas.List.map-append, specs.List.{insert, take-map, drop-map}}
 use Rattle.xa_lines.specs.Script.{lines_of}
-use Rattle.xa_record.specs.declared.line_fault.LineFault.{LineFault}
-use Rattle.xa_record.specs.declared.presence.Presence.{Presence}
-use Rattle.xa_record.specs.declared.presence.Presence.TheVariants.{Lost}
-use Rattle.xa_record.specs.declared.line_event.NumberedEvent.{NumberedEvent as NumberedRead}
-use Rattle.xa_record.specs.Kept.{numbered_kept}
-use Rattle.xa_record.specs.Lines.{Told, Leaves}
-use Rattle.xa_record.specs.Reading.{NumberedEvent, Notes, session_of, presence_after, cause_of, note_of, noted_if}
-use Rattle.xa_record.specs.Reading.{up_to_return, closed_if, note_closed, noted_line, noted_lines}
+use Rattle.xa_record.specs.declared.{line_fault.LineFault.LineFault, presence.Presence.{Presence, TheVariants.Lost}}
+use Rattle.xa_record.specs.{declared.line_event.NumberedEvent.NumberedEvent as NumberedRead, Kept.numbered_kept}
+use Rattle.xa_record.specs.{Lines.{Told, Leaves}, Reading.{NumberedEvent, Notes, session_of, presence_after, cause_of}}
+use Rattle.xa_record.specs.Reading.{note_of, noted_if, up_to_return, closed_if, note_closed, noted_line, noted_lines}
 
 -- the loop over lines: once one was cut off and noted, the lines behind it are noted with the notes that it leaves
 pub noted_lines-line : (strict : Bool) (notes : Notes) (number : ℕ) (text line rest : List ℕ) → lines_of text

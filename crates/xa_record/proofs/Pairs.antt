@@ -1,13 +1,9 @@
 -- The calls that the lines of a record say.
-use Rattle.std.proofs.Common.{◌≡◌, ℕ, zero, suc, ◌<◌, Some, List, [], ◌∷◌, map, length, get_or, slice_get, refl}
-use Rattle.std.proofs.Common.{ap, sym, ◌∙◌, subst}
-use Rattle.std.proofs.lemmas.List.{length-map}
-use Rattle.std.proofs.lemmas.Option.{slice_get_read}
+use Rattle.std.proofs.Common.{◌≡◌, ℕ, zero, suc, ◌<◌, Some, List, [], ◌∷◌, map, length, get_or, slice_get, refl, ap}
+use Rattle.std.proofs.{Common.{sym, ◌∙◌, subst}, lemmas.{List.length-map, Option.slice_get_read}}
 use Rattle.xa_judge.specs.declared.event.Event.{Event}
-use Rattle.xa_record.specs.declared.line_event.NumberedEvent.{NumberedEvent as NumberedRead}
-use Rattle.xa_record.specs.Reading.{NumberedEvent}
-use Rattle.xa_record.specs.Events.{IsCallOf, AreCalls}
-use Rattle.xa_record.specs.Kept.{told_kept, numbered_kept}
+use Rattle.xa_record.specs.{declared.line_event.NumberedEvent.NumberedEvent as NumberedRead, Reading.NumberedEvent}
+use Rattle.xa_record.specs.{Events.{IsCallOf, AreCalls}, Kept.{told_kept, numbered_kept}}
 use Rattle.xa_record.proofs.Places.{slice_get-kept}
 
 -- there are as many events as things that the lines say

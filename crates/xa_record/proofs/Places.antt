@@ -1,7 +1,6 @@
 -- What stands at a place of what happens, in the list as the program keeps it.
 use Rattle.std.proofs.Common.{◌≡◌, ℕ, ◌<◌, ◌≤◌, Some, None, List, [], length, map, get_or, slice_get, refl, ap, sym}
-use Rattle.std.proofs.Common.{◌∙◌}
-use Rattle.std.proofs.lemmas.Option.{slice_get-map, slice_get_read, slice_get_past}
+use Rattle.std.proofs.{Common.◌∙◌, lemmas.Option.{slice_get-map, slice_get_read, slice_get_past}}
 use Rattle.std.specs.Option.{option_map}
 use Rattle.xa_record.specs.declared.line_event.NumberedEvent.{NumberedEvent as NumberedRead}
 use Rattle.xa_record.specs.Kept.{told_kept, text_told, text_numbered, text_at, numbered_kept}

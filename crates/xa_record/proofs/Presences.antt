@@ -1,11 +1,8 @@
 -- Whether a session is idle, has an open call or is lost: what events say, and what is kept in a list, agree.
 use Rattle.std.proofs.Common.{◌≡◌, ◌≢◌, ℕ, zero, suc, ◌<◌, ◌==◌, Bool, true, false, if◌then◌else◌, Option, Some, None}
-use Rattle.std.proofs.Common.{List, [], ◌∷◌, ◌++◌, length}
-use Rattle.std.proofs.Common.{replicate, slice_get, slice_set, refl, ap, sym, ◌∙◌, arith}
-use Rattle.std.proofs.lemmas.Bool.Decides.{nat_tests}
-use Rattle.std.proofs.lemmas.Option.{none-some, slice_get_within}
-use Rattle.xa_record.specs.declared.presence.Presence.{Presence}
-use Rattle.xa_record.specs.declared.presence.Presence.TheVariants.{Idle, Open, Lost}
+use Rattle.std.proofs.Common.{List, [], ◌∷◌, ◌++◌, length, replicate, slice_get, slice_set, refl, ap, sym, ◌∙◌, arith}
+use Rattle.std.proofs.lemmas.{Bool.Decides.nat_tests, Option.{none-some, slice_get_within}}
+use Rattle.xa_record.specs.declared.presence.Presence.{Presence, TheVariants.{Idle, Open, Lost}}
 use Rattle.xa_record.specs.Lines.{Told, Calls, Returns, ReturnsUnknown, Leaves}
 use Rattle.xa_record.specs.Reading.{NumberedEvent, session_of, presence_after, cause_of}
 use Rattle.xa_record.specs.Records.{presence_then, presence_from, presence_in, cause_next, Fits}

@@ -1,24 +1,13 @@
 -- An order that explains what is before a line, and the store after it.
 use Rattle.std.proofs.Common.{◌≡◌, ℕ, zero, suc, ◌≤◌, Option, Some, Result, Ok, Err, IfOk, MatchOption, List, [], ◌∷◌}
-use Rattle.std.proofs.Common.{◌++◌, Vec, Global, length, map, take, ap, sym, ◌∙◌, subst}
-use Rattle.std.proofs.Common.{arith}
-use Rattle.std.specs.List.{AllZip}
-use Rattle.std.proofs.lemmas.List.{take-map, length-take-le}
+use Rattle.std.proofs.Common.{◌++◌, Vec, Global, length, map, take, ap, sym, ◌∙◌, subst, arith}
+use Rattle.std.{proofs.lemmas.List.{take-map, length-take-le}, specs.List.AllZip}
 use Rattle.xa_server.specs.State.{State}
 use Rattle.xa_lines.specs.Listing.{listing}
-use Rattle.xa_judge.specs.declared.answer.Answer.{Answer}
-use Rattle.xa_judge.specs.declared.event.Event.{Event}
-use Rattle.xa_judge.specs.declared.moves.Move.{Move}
-use Rattle.xa_judge.specs.declared.verdict.Verdict.{Verdict}
-use Rattle.xa_judge.specs.declared.verdict.Verdict.TheVariants.{Legal as LegalBy, Illegal as IllegalAt}
-use Rattle.xa_judge.specs.Explained.{Config, opening_config, LeadsThrough, Explained}
-use Rattle.xa_judge.specs.Verdicts.{IsVerdict, IsWide}
-use Rattle.xa_record.specs.declared.line_event.NumberedEvent.{NumberedEvent as NumberedRead}
-use Rattle.xa_record.specs.Events.{IsCallOf, AreCalls}
-use Rattle.xa_record.specs.Kept.{numbered_kept}
-use Rattle.xa_record.specs.Reading.{NumberedEvent}
-use Rattle.xa_record.specs.Reports.{keys_named}
-use Rattle.xa_record.proofs.Pairs.{calls-length}
+use Rattle.xa_judge.specs.declared.{answer.Answer.Answer, event.Event.Event, moves.Move.Move, verdict.Verdict.Verdict}
+use Rattle.xa_judge.specs.{Explained.{Config, opening_config, LeadsThrough, Explained}, Verdicts.{IsVerdict, IsWide}}
+use Rattle.xa_record.{specs.declared.line_event.NumberedEvent.NumberedEvent as NumberedRead, proofs.Pairs.calls-length}
+use Rattle.xa_record.specs.{Events.{IsCallOf, AreCalls}, Kept.numbered_kept, Reading.NumberedEvent, Reports.keys_named}
 
 -- the moves lead through the events, to some configuration
 abbrev pub Lead : State → List Event → List Move → Type 0
@@ -43,13 +32,13 @@ listed (Err fault) base events moves store keys front none lead named is = tt
 
 -- the moves of a right LEGAL verdict lead through what is seen
 pub legal_leads : (base : State) (events : List Event) (limit : ℕ) (verdict : Verdict) (moves : Vec Move Global)
-    → IsVerdict base events limit verdict → verdict ≡ LegalBy moves → Lead base events moves.items
+    → IsVerdict base events limit verdict → verdict ≡ Verdict.Legal moves → Lead base events moves.items
 legal_leads base events limit verdict moves right is = subst (IsVerdict base events limit) is right
 
 -- a right verdict on events that an order explains isn't ILLEGAL
 pub illegal_not : (base : State) (events : List Event) (limit : ℕ) (verdict : Verdict) (place : ℕ)
     (answers : Vec Answer Global)
-    → IsVerdict base events limit verdict → verdict ≡ IllegalAt place answers → Explained base events → ⊥
+    → IsVerdict base events limit verdict → verdict ≡ Verdict.Illegal place answers → Explained base events → ⊥
 illegal_not base events limit verdict place answers right is explained =
     (subst (IsVerdict base events limit) is right).0.whole explained
 

@@ -1,32 +1,21 @@
 -- What is read of a record is what its lines tell, or one of its lines is the first faulty one.
 use Rattle.std.proofs.Common.{◌≡◌, ◌⊎◌, inl, inr, ℕ, zero, suc, ◌+◌, ◌-◌, ◌==◌, ◌<◌, ◌≤◌, nat_le, Bool, true, false}
-use Rattle.std.proofs.Common.{if◌then◌else◌, Option, Some, None, List, [], ◌∷◌, ◌++◌}
-use Rattle.std.proofs.Common.{length, take, drop, slice_get, refl, ap, sym, ◌∙◌, subst, arith, append_assoc, append-nil}
+use Rattle.std.proofs.Common.{if◌then◌else◌, Option, Some, None, List, [], ◌∷◌, ◌++◌, length, take, drop, slice_get}
+use Rattle.std.proofs.Common.{refl, ap, sym, ◌∙◌, subst, arith, append_assoc, append-nil}
+use Rattle.std.proofs.lemmas.{Bool.Decides.nat_tests, Grind.common_steps, List.take-append-drop}
 use Rattle.std.specs.List.{AllByRecursion as All}
-use Rattle.std.proofs.lemmas.Bool.Decides.{nat_tests}
-use Rattle.std.proofs.lemmas.Grind.{common_steps}
-use Rattle.std.proofs.lemmas.List.{take-append-drop}
-use Rattle.xa_xid.specs.Bytes.{unblank}
-use Rattle.xa_xid.specs.declared.xid.Xid.{Xid}
-use Rattle.xa_record.specs.declared.line_fault.LineFault.{LineFault}
-use Rattle.xa_record.specs.declared.line_fault.LineFault.TheVariants.{NotALine, NotARow, RowsMissing}
-use Rattle.xa_record.specs.declared.presence.Presence.{Presence}
-use Rattle.xa_record.specs.declared.presence.Presence.TheVariants.{Idle, Open, Lost}
-use Rattle.xa_record.specs.Lines.{Shown, ShowsRows, Told, Calls, Returns, ReturnsUnknown, Leaves, LineSaid, Nothing}
-use Rattle.xa_record.specs.Lines.{Bad, Says, Awaits, Closed, is_silent, reading_of_line}
-use Rattle.xa_record.specs.Rows.{row_said}
-use Rattle.xa_record.specs.Reading.{NumberedEvent, Awaited, Notes, blamed_too, noted_if, closed_if, cause_of}
-use Rattle.xa_record.specs.Reading.{session_of}
-use Rattle.xa_record.specs.Reading.{up_to_return, returned, with_row, noted_row, noted_said, noted_line, noted_lines}
-use Rattle.xa_record.specs.Reading.{no_notes, awaiting}
-use Rattle.xa_record.specs.Records.{RowsOf, no_row, silent_row, one_row, on_next_line, Fits, cause_next, presence_in}
-use Rattle.xa_record.specs.Records.{filled, AreRows}
-use Rattle.xa_record.specs.Records.{Tells, no_line, silent_line, call_line, return_line, rows_lines, unknown_line}
-use Rattle.xa_record.specs.Records.{lost_line, gone_line}
-use Rattle.xa_record.specs.Records.{HasFault, bad_line, unfit_line, unfit_gone, rows_missing, unfit_rows, bad_row}
-use Rattle.xa_record.proofs.LastReturns.{ends, ends-in}
+use Rattle.xa_xid.specs.{Bytes.unblank, declared.xid.Xid.Xid}
+use Rattle.xa_record.specs.{declared.{line_fault.LineFault.LineFault, presence.Presence.Presence}, Lines.Shown}
+use Rattle.xa_record.specs.Lines.{ShowsRows, Told, Calls, Returns, ReturnsUnknown, Leaves, LineSaid, Nothing, Bad, Says}
+use Rattle.xa_record.specs.{Lines.{Awaits, Closed, is_silent, reading_of_line}, Rows.row_said, Reading.NumberedEvent}
+use Rattle.xa_record.specs.Reading.{Awaited, Notes, blamed_too, noted_if, closed_if, cause_of, session_of, up_to_return}
+use Rattle.xa_record.specs.Reading.{returned, with_row, noted_row, noted_said, noted_line, noted_lines, no_notes}
+use Rattle.xa_record.specs.{Reading.awaiting, Records.{RowsOf, no_row, silent_row, one_row, on_next_line, Fits}}
+use Rattle.xa_record.specs.Records.{cause_next, presence_in, filled, AreRows, Tells, no_line, silent_line, call_line}
+use Rattle.xa_record.specs.Records.{return_line, rows_lines, unknown_line, lost_line, gone_line, HasFault, bad_line}
+use Rattle.xa_record.specs.Records.{unfit_line, unfit_gone, rows_missing, unfit_rows, bad_row}
+use Rattle.xa_record.proofs.{LastReturns.{ends, ends-in}, SessionsWithin.{Within, line_within}}
 use Rattle.xa_record.proofs.Presences.{Placed, placed-none, fits-here, placed-next, placed-closed}
-use Rattle.xa_record.proofs.SessionsWithin.{Within, line_within}
 
 -- an empty list has no line that isn't silent
 filled-none : filled [] ≡ 0
@@ -123,9 +112,9 @@ told-at lines list done number told is tells =
 pub cause-shown : (o : Option Presence) (session : ℕ) (one two : Shown)
     → cause_of o (Returns session one) ≡ cause_of o (Returns session two)
 cause-shown None session one two = refl
-cause-shown (Some Idle) session one two = refl
-cause-shown (Some Open) session one two = refl
-cause-shown (Some Lost) session one two = refl
+cause-shown (Some Presence.Idle) session one two = refl
+cause-shown (Some Presence.Open) session one two = refl
+cause-shown (Some Presence.Lost) session one two = refl
 
 -- a return whose rows are to come is of a session below 17
 part-within : (done : List (List ℕ)) (a : Awaited) (list : List NumberedEvent) → Part done a list → a.session < 17
@@ -308,7 +297,7 @@ unfolding noted_said
 said-next Nothing list presence done number line todo is at within placed tells =
     inl (record { clean = refl; placed = placed; stands = silent_line done line list tells is })
 said-next Bad list presence done number line todo is at within placed tells =
-    inr (length done + 1, NotALine, bad_line done line todo list tells is)
+    inr (length done + 1, LineFault.NotALine, bad_line done line todo list tells is)
 said-next (Says told) list presence done number line todo is at within placed tells =
     happens-next told list presence done number line todo is at within placed tells
 said-next (Closed session) list presence done number line todo is at within placed tells =
@@ -430,7 +419,7 @@ bad-found list done line todo a is full said part = found-as _ _ (behind done (l
         → part.count ≤ filled (part.came ++ line ∷ todo) → Found lines
     cause None fits enough = (
       length part.before + 1 + (length part.came + 1),
-      NotARow,
+      LineFault.NotARow,
       bad_row part.before part.line part.came line todo list a.session part.count part.tells part.says fits part.rows
           fewer full said enough,
     )
@@ -445,7 +434,7 @@ bad-found list done line todo a is full said part = found-as _ _ (behind done (l
     by true enough = cause (cause_next list (Returns a.session (ShowsRows []))) refl (grind (arith, nat_tests))
     by false short = (
       length part.before + 1,
-      RowsMissing,
+      LineFault.RowsMissing,
       rows_missing part.before part.line (part.came ++ line ∷ todo) list a.session part.count part.tells part.says
           (grind (arith, nat_tests)),
     )
@@ -540,7 +529,7 @@ ended-told lines list faults presence (Some a) clean (part, is) =
     omega (arith, part.counted, some-missing a.missing is, filled-append part.came [], filled-none) in
     inr (found-as _ _ (behind lines [] a list part ∙ append-nil lines) (
       length part.before + 1,
-      RowsMissing,
+      LineFault.RowsMissing,
       rows_missing part.before part.line
           (part.came ++ []) list a.session part.count part.tells part.says short,
     ))

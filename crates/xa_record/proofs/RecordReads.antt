@@ -1,27 +1,17 @@
 -- Lines tell nothing but what is read of them.
 use Rattle.std.proofs.Common.{◌≡◌, ℕ, suc, ◌+◌, ◌-◌, ◌==◌, ◌<◌, Bool, true, false, if◌then◌else◌, Option, Some, None}
-use Rattle.std.proofs.Common.{List, [], ◌∷◌, ◌++◌, length}
-use Rattle.std.proofs.Common.{slice_get, slice_set, refl, ap, sym, ◌∙◌, subst, arith, append_assoc, append-nil}
-use Rattle.std.specs.List.{insert}
-use Rattle.std.proofs.lemmas.Bool.Decides.{nat_tests}
-use Rattle.xa_xid.specs.Bytes.{unblank}
-use Rattle.xa_xid.specs.declared.xid.Xid.{Xid}
-use Rattle.xa_record.specs.declared.line_fault.LineFault.{LineFault}
-use Rattle.xa_record.specs.declared.presence.Presence.{Presence}
-use Rattle.xa_record.specs.declared.presence.Presence.TheVariants.{Idle, Lost}
-use Rattle.xa_record.specs.Lines.{ShowsRows, Told, Calls, Returns, ReturnsUnknown, Leaves, LineSaid, Nothing, Says}
-use Rattle.xa_record.specs.Lines.{Awaits, Closed, is_silent, reading_of_line}
-use Rattle.xa_record.specs.Rows.{row_said}
-use Rattle.xa_record.specs.Reading.{NumberedEvent, Awaited, Notes, blamed_too, noted_if, closed_if, cause_of}
-use Rattle.xa_record.specs.Reading.{session_of, presence_after}
-use Rattle.xa_record.specs.Reading.{up_to_return, returned, awaiting, with_row, noted_row, noted_said, noted_line}
-use Rattle.xa_record.specs.Reading.{noted_lines, no_notes}
-use Rattle.xa_record.specs.Records.{RowsOf, no_row, silent_row, one_row, EndsInReturn, HasNoReturn, Fits}
-use Rattle.xa_record.specs.Records.{Tells, no_line, silent_line, call_line, return_line, rows_lines, unknown_line}
-use Rattle.xa_record.specs.Records.{lost_line, gone_line}
-use Rattle.xa_record.proofs.LastReturns.{inserted}
+use Rattle.std.proofs.Common.{List, [], ◌∷◌, ◌++◌, length, slice_get, slice_set, refl, ap, sym, ◌∙◌, subst, arith}
+use Rattle.std.{proofs.{Common.{append_assoc, append-nil}, lemmas.Bool.Decides.nat_tests}, specs.List.insert}
+use Rattle.xa_xid.specs.{Bytes.unblank, declared.xid.Xid.Xid}
+use Rattle.xa_record.specs.{declared.{line_fault.LineFault.LineFault, presence.Presence.Presence}, Lines.ShowsRows}
+use Rattle.xa_record.specs.Lines.{Told, Calls, Returns, ReturnsUnknown, Leaves, LineSaid, Nothing, Says, Awaits, Closed}
+use Rattle.xa_record.specs.{Lines.{is_silent, reading_of_line}, Rows.row_said, Reading.{NumberedEvent, Awaited, Notes}}
+use Rattle.xa_record.specs.Reading.{blamed_too, noted_if, closed_if, cause_of, session_of, presence_after, up_to_return}
+use Rattle.xa_record.specs.Reading.{returned, awaiting, with_row, noted_row, noted_said, noted_line, noted_lines}
+use Rattle.xa_record.specs.{Reading.no_notes, Records.{RowsOf, no_row, silent_row, one_row, EndsInReturn, HasNoReturn}}
+use Rattle.xa_record.specs.Records.{Fits, Tells, no_line, silent_line, call_line, return_line, rows_lines, unknown_line}
+use Rattle.xa_record.{specs.Records.{lost_line, gone_line}, proofs.{LastReturns.inserted, RecordLines.cause-shown}}
 use Rattle.xa_record.proofs.Presences.{Placed, placed-none, fits-here, placed-next, placed-closed}
-use Rattle.xa_record.proofs.RecordLines.{cause-shown}
 use Rattle.xa_record.proofs.SessionsWithin.{Within, line_within}
 
 -- reading two lists of lines is reading the second from where the first ends
@@ -109,7 +99,7 @@ closed-so : (o : Option LineFault) (list : List NumberedEvent) (presence : List 
     → o ≡ None
     → closed_if o (noted list presence) number session
     ≡ noted (insert list (up_to_return session list) (record { number = number; told = Leaves session }))
-    (slice_set presence session Lost)
+    (slice_set presence session Presence.Lost)
 unfolding closed_if
 closed-so None list presence number session none = refl
 closed-so (Some fault) list presence number session some = absurd (cc)
@@ -141,13 +131,13 @@ closed-read session lines line before after is ends_so last fits read =
     let within : session < 17 = subst Within is (line_within line) in
     let one : NumberedEvent = record { number = length lines + 1; told = Leaves session } in
     record {
-      presence = slice_set read.presence session Lost;
+      presence = slice_set read.presence session Presence.Lost;
       placed = placed-closed read.presence before after (length lines + 1) session within read.placed;
       is =
           line-more lines line (before ++ after) read (Closed session) is
           ∙ closed-so _ (before ++ after) read.presence (length lines + 1) session
           (fits-here read.presence (before ++ after) (Leaves session) within read.placed ∙ fits)
-          ∙ ap (λ (l : List NumberedEvent). noted l (slice_set read.presence session Lost))
+          ∙ ap (λ (l : List NumberedEvent). noted l (slice_set read.presence session Presence.Lost))
           (inserted session before after one ends_so last);
     }
 
@@ -205,14 +195,14 @@ returned-so : (list : List NumberedEvent) (presence : List Presence) (a : Awaite
     → cause_of (slice_get presence a.session) (Returns a.session (ShowsRows [])) ≡ None
     → returned (noted list presence) a
     ≡ noted (list ++ record { number = a.number; told = Returns a.session (ShowsRows a.rows) } ∷ [])
-    (slice_set presence a.session Idle)
+    (slice_set presence a.session Presence.Idle)
 returned-so list presence a clean fits =
     ap (λ (n : Notes). blamed_too n a.faults)
     (noted-so _ list presence a.number (Returns a.session (ShowsRows a.rows))
     (cause-shown (slice_get presence a.session) a.session (ShowsRows a.rows) (ShowsRows []) ∙ fits))
     ∙ ap (λ (f : List ℕ). blamed_too (noted (list ++ record
     { number = a.number; told = Returns a.session (ShowsRows a.rows) } ∷ [])
-    (slice_set presence a.session Idle)) f) clean
+    (slice_set presence a.session Presence.Idle)) f) clean
 
 -- if a return can happen, and no faulty line came, the lines of the rows that are missing are read as that return, with
 -- the rows that came and exactly these
@@ -222,12 +212,12 @@ rows-read : (count : ℕ) (lines : List (List ℕ)) (more : List Xid) → RowsOf
     ≡ None
     → noted_lines false (awaiting (noted list presence) a) number lines
     ≡ noted (list ++ record { number = a.number; told = Returns a.session (ShowsRows (a.rows ++ more)) } ∷ [])
-    (slice_set presence a.session Idle)
+    (slice_set presence a.session Presence.Idle)
 unfolding noted_lines
 rows-read count lines more no_row list presence a number is clean fits =
     all-came list presence a is ∙ returned-so list presence a clean fits
     ∙ ap (λ (l : List Xid). noted (list ++ record { number = a.number; told = Returns a.session (ShowsRows l) } ∷ [])
-    (slice_set presence a.session Idle)) (sym (append-nil a.rows))
+    (slice_set presence a.session Presence.Idle)) (sym (append-nil a.rows))
 rows-read count lines more (silent_row {count = c} {line = line}
     {lines = rest} silent came) list presence a number is clean fits =
     let here = waits list presence a (omega (arith, is)) in
@@ -244,7 +234,7 @@ rows-read count lines more (one_row {count = c} {line = line} {lines = rest} {xi
     ∙ with-row-some list presence a number xid)
     ∙ rows-read c rest fewer came list presence b (number + 1) (omega (arith, is)) clean fits
     ∙ ap (λ (l : List Xid). noted (list ++ record { number = a.number; told = Returns a.session (ShowsRows l) } ∷ [])
-    (slice_set presence a.session Idle))
+    (slice_set presence a.session Presence.Idle))
     (append_assoc a.rows (xid ∷ []) fewer)
 
 -- a return of this many rows, before the first of them was read
@@ -280,7 +270,7 @@ rows-lines-read lines line more list session count rows is came fits read =
     let here = cause-shown (slice_get read.presence session) session (ShowsRows []) (ShowsRows rows)
     ∙ fits-here read.presence list told within read.placed ∙ fits in
     record {
-      presence = slice_set read.presence session Idle;
+      presence = slice_set read.presence session Presence.Idle;
       placed = placed-next read.presence list (length lines + 1) told within read.placed fits;
       is =
           awaits-said lines line more list read session count is

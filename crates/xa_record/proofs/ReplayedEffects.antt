@@ -1,41 +1,26 @@
 -- The lines of an order along the moves that lead through the events.
 --     Kept         at each session's number, the text of what it has called for that may still take effect
 use Rattle.std.proofs.Common.{◌≡◌, ℕ, zero, suc, ◌<◌, Option, Some, None, List, [], ◌∷◌, ◌++◌, length, codes, decimal}
-use Rattle.std.proofs.Common.{set, slice_get, replicate, refl, ap, sym}
-use Rattle.std.proofs.Common.{◌∙◌, subst, inl, inr, arith}
+use Rattle.std.proofs.Common.{set, slice_get, replicate, refl, ap, sym, ◌∙◌, subst, inl, inr, arith}
 use Rattle.std.proofs.lemmas.Option.{none-some, same_Some, slice_get_within, cond_some}
-use Rattle.xa_statement.specs.Canonical.{statement_text}
-use Rattle.xa_statement.proofs.Canon.{disconnect_spelled}
-use Rattle.xa_statement.proofs.Faults.{reads_spelled}
-use Rattle.xa_xid.specs.Bytes.{behind, belongs}
-use Rattle.xa_xid.specs.declared.statement.Statement.TheVariants.{Disconnect}
+use Rattle.xa_statement.{specs.Canonical.statement_text, proofs.{Canon.disconnect_spelled, Faults.reads_spelled}}
+use Rattle.xa_xid.specs.{Bytes.{behind, belongs}, declared.statement.Statement.TheVariants.Disconnect}
 use Rattle.xa_server.specs.State.{State}
 use Rattle.xa_lines.specs.Script.{line_of}
-use Rattle.xa_judge.specs.declared.request.Request.{Request}
-use Rattle.xa_judge.specs.declared.request.Request.TheVariants.{Statement as Asked}
-use Rattle.xa_judge.specs.declared.event.Seen.{Seen}
-use Rattle.xa_judge.specs.declared.event.Event.{Event}
-use Rattle.xa_judge.specs.declared.event.Event.TheVariants.{Call, Return, Lost, Unknown}
-use Rattle.xa_judge.specs.declared.client_state.ClientState.{ClientState}
+use Rattle.xa_judge.specs.declared.{request.Request.{Request, TheVariants.Statement as Asked}, event.Seen.Seen}
+use Rattle.xa_judge.specs.declared.event.Event.{Event, TheVariants.{Call, Return, Lost, Unknown}}
+use Rattle.xa_judge.specs.declared.{client_state.ClientState.ClientState, moves.{Act.Act, Move.Move}}
 use Rattle.xa_judge.specs.declared.client_state.ClientState.TheVariants.{Idle, Called, Answered, Gone, Left}
-use Rattle.xa_judge.specs.declared.moves.Act.{Act}
-use Rattle.xa_judge.specs.declared.moves.Act.TheVariants.{Statement as ItsStatement, Disconnect as ItsDisconnect}
-use Rattle.xa_judge.specs.declared.moves.Move.{Move}
-use Rattle.xa_judge.specs.declared.moves.Move.TheVariants.{Event as Seeing, Effect}
 use Rattle.xa_judge.specs.Explained.{Config, opening_config, with_client, effect_of, carried_out, disconnected}
-use Rattle.xa_judge.specs.Explained.{observed, called, returned, lost}
-use Rattle.xa_judge.specs.Explained.{answered_unknown, shows_answer, IsSession}
-use Rattle.xa_judge.specs.Explained.{LeadsThrough}
-use Rattle.xa_judge.proofs.Places.{same_number, get_written, get_apart, get_within}
-use Rattle.xa_record.specs.declared.allowance.Allowance.{Allowance}
-use Rattle.xa_record.specs.declared.statement_kind.StatementKind.{StatementKind}
-use Rattle.xa_record.specs.Lines.{Told, Calls, Returns, ReturnsUnknown, Leaves}
-use Rattle.xa_record.specs.Reading.{NumberedEvent}
+use Rattle.xa_judge.specs.Explained.{observed, called, returned, lost, answered_unknown, shows_answer, IsSession}
+use Rattle.xa_judge.{specs.Explained.LeadsThrough, proofs.Places.{same_number, get_written, get_apart, get_within}}
+use Rattle.xa_record.specs.declared.{allowance.Allowance.Allowance, statement_kind.StatementKind.StatementKind}
+use Rattle.xa_record.specs.{Lines.{Told, Calls, Returns, ReturnsUnknown, Leaves}, Reading.NumberedEvent}
 use Rattle.xa_record.specs.Allowances.{no_kinds, kinds_after}
 use Rattle.xa_record.specs.Events.{request_read, request_called, IsEvent, AreEventsAfter, AreEvents}
-use Rattle.xa_record.specs.VerdictText.{call_text, text_of_call, with_call, no_calls}
-use Rattle.xa_record.specs.Replaying.{HasNoFeed, effect_line, order_lines, open_request, IsEffectLine, AreEffects}
-use Rattle.xa_record.specs.Replaying.{IsWellCalled, IsWellTold, AreWellCalled}
+use Rattle.xa_record.specs.{VerdictText.{call_text, text_of_call, with_call, no_calls}, Replaying.HasNoFeed}
+use Rattle.xa_record.specs.Replaying.{effect_line, order_lines, open_request, IsEffectLine, AreEffects, IsWellCalled}
+use Rattle.xa_record.specs.Replaying.{IsWellTold, AreWellCalled}
 use Rattle.xa_record.proofs.LinesBack.{line_back, line_feed, call_bare, call_feed, call_back}
 
 -- the list has, at the session's number, the text of this request, which is well called
@@ -153,10 +138,10 @@ kept_unasked calls clients session text before next found none kept = record {
 statement_line : (calls : List (List ℕ)) (config : Config) (session : ℕ) (request : Request) → IsSession session
     → Kept calls config.clients
     → open_request (slice_get config.clients session) ≡ Some request
-    → IsEffectLine config session ItsStatement (effect_line calls session ItsStatement)
+    → IsEffectLine config session Act.Statement (effect_line calls session Act.Statement)
 statement_line calls config session request is kept opened =
     let keeps : KeepsText calls session request = kept.each session request opened in
-    let line : effect_line calls session ItsStatement ≡ decimal session ++ codes " " ++ call_text keeps.text =
+    let line : effect_line calls session Act.Statement ≡ decimal session ++ codes " " ++ call_text keeps.text =
     ap (λ (o : Option (List ℕ)). decimal session ++ codes " " ++ text_of_call o) keeps.found in
     record {
       request = request;
@@ -172,7 +157,7 @@ statement_line calls config session request is kept opened =
 
 -- the line that is written for a session's `DISCONNECT` gives that request, and has no line feed (`IsEffectLine`)
 disconnect_line : (calls : List (List ℕ)) (config : Config) (session : ℕ) → IsSession session
-    → IsEffectLine config session ItsDisconnect (effect_line calls session ItsDisconnect)
+    → IsEffectLine config session Act.Disconnect (effect_line calls session Act.Disconnect)
 unfolding statement_text behind belongs
 disconnect_line calls config session is = record {
   request = Asked Disconnect;
@@ -199,7 +184,7 @@ standings_of first second same = ap (λ (c : Config). c.clients) (same_Some firs
 statement_by : (o : Option ClientState) (calls : List (List ℕ)) (config : Config) (session : ℕ) (mid : Config)
     → slice_get config.clients session ≡ o
     → IsSession session → Kept calls config.clients → carried_out o config session ≡ Some mid
-    → HasLine calls config session ItsStatement mid
+    → HasLine calls config session Act.Statement mid
 unfolding carried_out
 statement_by None calls config session mid found is kept at = absurd (none-some mid at)
 statement_by (Some Idle) calls config session mid found is kept at = absurd (none-some mid at)
@@ -222,7 +207,7 @@ statement_by (Some Left) calls config session mid found is kept at = absurd (non
 disconnect_by : (o : Option ClientState) (calls : List (List ℕ)) (config : Config) (session : ℕ) (mid : Config)
     → slice_get config.clients session ≡ o
     → IsSession session → Kept calls config.clients → disconnected o config session ≡ Some mid
-    → HasLine calls config session ItsDisconnect mid
+    → HasLine calls config session Act.Disconnect mid
 unfolding disconnected
 disconnect_by None calls config session mid found is kept at = absurd (none-some mid at)
 disconnect_by (Some Idle) calls config session mid found is kept at = absurd (none-some mid at)
@@ -240,9 +225,9 @@ has_line : (calls : List (List ℕ)) (config : Config) (session : ℕ) (act : Ac
     → Kept calls config.clients
     → effect_of config session act ≡ Some mid → HasLine calls config session act mid
 unfolding effect_of
-has_line calls config session ItsStatement mid is kept at =
+has_line calls config session Act.Statement mid is kept at =
     statement_by (slice_get config.clients session) calls config session mid refl is kept at
-has_line calls config session ItsDisconnect mid is kept at =
+has_line calls config session Act.Disconnect mid is kept at =
     disconnect_by (slice_get config.clients session) calls config session mid refl is kept at
 
 -- the texts are still kept after a call, with its text put in its session's place; `o` is where its client stood
@@ -340,7 +325,7 @@ pub are_effects : (allowances : List Allowance) (kinds : List (Option StatementK
     → AreEventsAfter allowances kinds numbered events → Kept calls old.clients → LeadsThrough old events moves new
     → AreEffects old events moves (order_lines calls numbered moves)
 unfolding order_lines AreEventsAfter
-are_effects allowances kinds calls numbered events (Effect session act ∷ moves) old new well are kept runs =
+are_effects allowances kinds calls numbered events (Move.Effect session act ∷ moves) old new well are kept runs =
     let has : HasLine calls old session act runs.0 = has_line calls old session act runs.0 runs.1 kept runs.2 in (
       runs.0,
       runs.2,
@@ -348,9 +333,9 @@ are_effects allowances kinds calls numbered events (Effect session act ∷ moves
       are_effects allowances kinds calls numbered events moves runs.0 new well are has.kept
           runs.3,
     )
-are_effects allowances kinds calls numbered [] (Seeing ∷ moves) old new well are kept runs = absurd runs
-are_effects allowances kinds calls [] (event ∷ events) (Seeing ∷ moves) old new well are kept runs = absurd are
-are_effects allowances kinds calls (one ∷ numbered) (event ∷ events) (Seeing ∷ moves) old new well are kept runs = (
+are_effects allowances kinds calls numbered [] (Move.Event ∷ moves) old new well are kept runs = absurd runs
+are_effects allowances kinds calls [] (event ∷ events) (Move.Event ∷ moves) old new well are kept runs = absurd are
+are_effects allowances kinds calls (one ∷ numbered) (event ∷ events) (Move.Event ∷ moves) old new well are kept runs = (
   runs.0,
   runs.1,
   are_effects allowances (kinds_after event kinds) (with_call one.told calls) numbered events moves runs.0 new well.1

@@ -1,40 +1,23 @@
 -- An order that is run as a script gives the answers that its moves give.
 use Rattle.std.proofs.Common.{◌≡◌, ℕ, Option, Some, None, List, [], ◌∷◌, ◌++◌, slice_get, refl, ap, sym, ◌∙◌, subst}
-use Rattle.std.proofs.lemmas.Option.{none-some, same_Some, cond_some}
-use Rattle.std.specs.List.{AllByRecursion as All}
+use Rattle.std.{proofs.lemmas.Option.{none-some, same_Some, cond_some}, specs.List.AllByRecursion as All}
 use Rattle.xa_server.specs.State.{State}
-use Rattle.xa_lines.specs.Script.{lines_of, line_of}
-use Rattle.xa_lines.specs.Transcript.{answer_of, run_text}
-use Rattle.xa_judge.specs.declared.request.Request.{Request}
-use Rattle.xa_judge.specs.declared.event.Seen.{Seen}
-use Rattle.xa_judge.specs.declared.event.Event.{Event}
-use Rattle.xa_judge.specs.declared.event.Event.TheVariants.{Call, Return, Lost, Unknown}
-use Rattle.xa_judge.specs.declared.client_state.ClientState.{ClientState}
+use Rattle.xa_lines.specs.{Script.{lines_of, line_of}, Transcript.{answer_of, run_text}}
+use Rattle.xa_judge.specs.declared.{request.Request.Request, event.{Seen.Seen, Event.Event}}
+use Rattle.xa_judge.specs.declared.{event.Event.TheVariants.{Call, Return, Lost, Unknown}, verdict.Verdict.Verdict}
+use Rattle.xa_judge.specs.declared.{client_state.ClientState.ClientState, moves.{Act.Act, Move.Move}}
 use Rattle.xa_judge.specs.declared.client_state.ClientState.TheVariants.{Idle, Called, Answered, Gone, Left}
-use Rattle.xa_judge.specs.declared.moves.Act.{Act}
-use Rattle.xa_judge.specs.declared.moves.Act.TheVariants.{Statement as ItsStatement, Disconnect as ItsDisconnect}
-use Rattle.xa_judge.specs.declared.moves.Move.{Move}
-use Rattle.xa_judge.specs.declared.moves.Move.TheVariants.{Event as Seeing, Effect}
-use Rattle.xa_judge.specs.declared.verdict.Verdict.{Verdict}
-use Rattle.xa_judge.specs.declared.verdict.Verdict.TheVariants.{Legal as LegalBy, Illegal as IllegalAt}
-use Rattle.xa_judge.specs.declared.verdict.Verdict.TheVariants.{Undecided as UndecidedAt}
 use Rattle.xa_judge.specs.Explained.{Config, opening_config, with_client, next_state, effect_of, carried_out}
-use Rattle.xa_judge.specs.Explained.{disconnected, observed, called, returned, lost, answered_unknown}
-use Rattle.xa_judge.specs.Explained.{shows_answer, LeadsThrough}
-use Rattle.xa_judge.specs.Verdicts.{IsVerdict}
-use Rattle.xa_record.specs.declared.allowance.Allowance.{Allowance}
-use Rattle.xa_record.specs.declared.statement_kind.StatementKind.{StatementKind}
-use Rattle.xa_record.specs.Lines.{Told, Calls, Returns, ReturnsUnknown, Leaves}
-use Rattle.xa_record.specs.Reading.{NumberedEvent}
-use Rattle.xa_record.specs.Allowances.{kinds_after, no_kinds}
+use Rattle.xa_judge.specs.Explained.{disconnected, observed, called, returned, lost, answered_unknown, shows_answer}
+use Rattle.xa_judge.specs.{Explained.LeadsThrough, Verdicts.IsVerdict}
+use Rattle.xa_record.specs.declared.{allowance.Allowance.Allowance, statement_kind.StatementKind.StatementKind}
+use Rattle.xa_record.specs.{Lines.{Told, Calls, Returns, ReturnsUnknown, Leaves}, Reading.NumberedEvent}
+use Rattle.xa_record.specs.{Allowances.{kinds_after, no_kinds}, VerdictText.{order_text, no_calls}}
 use Rattle.xa_record.specs.Events.{request_read, request_called, IsEvent, AreEventsAfter, AreEvents}
-use Rattle.xa_record.specs.VerdictText.{order_text, no_calls}
 use Rattle.xa_record.specs.Replaying.{HasNoFeed, order_lines, open_request, requested, AreEffects, IsWellCalled}
-use Rattle.xa_record.specs.Replaying.{IsWellTold, AreWellCalled}
-use Rattle.xa_record.specs.Replaying.{IsBare, IsBareTold, AreBare, IsWrittenCall, AnswersAlong, IsReplayed}
-use Rattle.xa_record.proofs.Feeds.{cut_where_joined}
-use Rattle.xa_record.proofs.ReplayedEffects.{order_gives}
-use Rattle.xa_record.proofs.RunAnswers.{line_answered, line_followed, order_joined}
+use Rattle.xa_record.specs.Replaying.{IsWellTold, AreWellCalled, IsBare, IsBareTold, AreBare, IsWrittenCall}
+use Rattle.xa_record.{specs.Replaying.{AnswersAlong, IsReplayed}, proofs.Feeds.cut_where_joined}
+use Rattle.xa_record.proofs.{ReplayedEffects.order_gives, RunAnswers.{line_answered, line_followed, order_joined}}
 
 -- equal configurations have equal states of the store
 state_of : (first second : Config) → Some first ≡ Some second → first.state ≡ second.state
@@ -58,7 +41,7 @@ statement_state (Some Left) config session mid request at is = absurd (none-some
 -- a DISCONNECT that takes effect leaves the state that its request leads to
 disconnect_state : (o : Option ClientState) (config : Config) (session : ℕ) (mid : Config) (request : Request)
     → disconnected o config session ≡ Some mid
-    → requested config session ItsDisconnect ≡ Some request → mid.state ≡ next_state config.state session request
+    → requested config session Act.Disconnect ≡ Some request → mid.state ≡ next_state config.state session request
 unfolding disconnected
 disconnect_state None config session mid request at is = absurd (none-some mid at)
 disconnect_state (Some Idle) config session mid request at is = absurd (none-some mid at)
@@ -73,9 +56,9 @@ effect_state : (config : Config) (session : ℕ) (act : Act) (mid : Config) (req
     → effect_of config session act ≡ Some mid
     → requested config session act ≡ Some request → mid.state ≡ next_state config.state session request
 unfolding effect_of
-effect_state config session ItsStatement mid request at is =
+effect_state config session Act.Statement mid request at is =
     statement_state (slice_get config.clients session) config session mid request at is
-effect_state config session ItsDisconnect mid request at is =
+effect_state config session Act.Disconnect mid request at is =
     disconnect_state (slice_get config.clients session) config session mid request at is
 
 -- a call changes nothing in the store
@@ -141,11 +124,11 @@ observed_state config (Unknown session) mid at = unknown_state (slice_get config
 -- no line that is written for an order has a line feed in it
 lines_whole : (old : Config) (events : List Event) (moves : List Move) (lines : List (List ℕ))
     → AreEffects old events moves lines → All HasNoFeed lines
-lines_whole old events (Effect session act ∷ moves) [] are = absurd are
-lines_whole old events (Effect session act ∷ moves) (line ∷ lines) are =
+lines_whole old events (Move.Effect session act ∷ moves) [] are = absurd are
+lines_whole old events (Move.Effect session act ∷ moves) (line ∷ lines) are =
     (are.2.whole, lines_whole are.0 events moves lines are.3)
-lines_whole old [] (Seeing ∷ moves) lines are = absurd are
-lines_whole old (event ∷ events) (Seeing ∷ moves) lines are = lines_whole are.0 events moves lines are.2
+lines_whole old [] (Move.Event ∷ moves) lines are = absurd are
+lines_whole old (event ∷ events) (Move.Event ∷ moves) lines are = lines_whole are.0 events moves lines are.2
 lines_whole old [] [] [] are = tt
 lines_whole old [] [] (line ∷ lines) are = absurd are
 lines_whole old (event ∷ events) [] lines are = absurd are
@@ -155,8 +138,8 @@ answers_along : (old : Config) (events : List Event) (moves : List Move) (lines 
     → AreEffects old events moves lines
     → AnswersAlong old events moves (run_text old.state lines)
 unfolding run_text
-answers_along old events (Effect session act ∷ moves) [] are = absurd are
-answers_along old events (Effect session act ∷ moves) (line ∷ lines) are =
+answers_along old events (Move.Effect session act ∷ moves) [] are = absurd are
+answers_along old events (Move.Effect session act ∷ moves) (line ∷ lines) are =
     let mid = are.0 in
     let gives = are.2.gives in
     let followed = line_followed old.state line session are.2.request gives
@@ -174,8 +157,8 @@ answers_along old events (Effect session act ∷ moves) (line ∷ lines) are =
       ap (λ (s : State). answer_of old.state (line_of line) ++ run_text s lines) followed,
       answers_along mid events moves lines are.3,
     )
-answers_along old [] (Seeing ∷ moves) lines are = absurd are
-answers_along old (event ∷ events) (Seeing ∷ moves) lines are = (
+answers_along old [] (Move.Event ∷ moves) lines are = absurd are
+answers_along old (event ∷ events) (Move.Event ∷ moves) lines are = (
   are.0,
   are.1,
   subst (λ (s : State). AnswersAlong are.0 events moves (run_text s lines)) (sym (observed_state old event are.0 are.1))
@@ -239,10 +222,10 @@ pub verdict_replayed : (base : State) (allowances : List Allowance) (numbered : 
     (events : List Event) (limit : ℕ) (verdict : Verdict)
     → AreWellCalled numbered → AreEvents allowances numbered events → IsVerdict base events limit verdict
     → IsReplayed base numbered events verdict
-verdict_replayed base allowances numbered events limit (LegalBy moves) well are right =
+verdict_replayed base allowances numbered events limit (Verdict.Legal moves) well are right =
     order_answered base allowances numbered events moves.items right.0 well are right.1
-verdict_replayed base allowances numbered events limit (IllegalAt place answers) well are right = tt
-verdict_replayed base allowances numbered events limit (UndecidedAt place) well are right = tt
+verdict_replayed base allowances numbered events limit (Verdict.Illegal place answers) well are right = tt
+verdict_replayed base allowances numbered events limit (Verdict.Undecided place) well are right = tt
 
 -- the order of a right LEGAL verdict, run as a script, gives the answers of its moves, if the texts of calls are bare,
 -- and supported statements among them are written back

@@ -1,23 +1,14 @@
 -- What is told of a record of which no line is faulty.
 use Rattle.std.proofs.Common.{◌≡◌, ℕ, ◌==◌, true, false, Result, Ok, Err, IfOk, List, [], ◌∷◌, length, map, refl, sym}
-use Rattle.std.proofs.Common.{subst, arith}
+use Rattle.std.proofs.{Common.{subst, arith}, lemmas.{List.Elements.recursion_from_All, Grind.common_steps}}
 use Rattle.std.specs.List.{All}
-use Rattle.std.proofs.lemmas.List.Elements.{recursion_from_All}
-use Rattle.std.proofs.lemmas.Grind.{common_steps}
 use Rattle.xa_server.specs.State.{State}
-use Rattle.xa_judge.specs.declared.event.Event.{Event}
-use Rattle.xa_judge.specs.declared.verdict.Verdict.{Verdict}
-use Rattle.xa_judge.specs.Verdicts.{IsVerdict}
-use Rattle.xa_record.specs.declared.allowance.Allowance.{Allowance}
-use Rattle.xa_record.specs.declared.asked.Asked.{Asked}
+use Rattle.xa_judge.specs.{declared.{event.Event.Event, verdict.Verdict.Verdict}, Verdicts.IsVerdict}
+use Rattle.xa_record.specs.declared.{allowance.Allowance.Allowance, asked.Asked.Asked}
 use Rattle.xa_record.specs.declared.line_event.NumberedEvent.{NumberedEvent as NumberedRead}
-use Rattle.xa_record.specs.declared.report.Report.{Report as ReportMade}
-use Rattle.xa_record.specs.Judged.{IsJudgement, IsReportedOf, IsReportedByNotes}
-use Rattle.xa_record.specs.Kept.{numbered_kept, report_kept}
-use Rattle.xa_record.specs.Reading.{NumberedEvent}
-use Rattle.xa_record.specs.Events.{AreEvents}
-use Rattle.xa_record.specs.Replaying.{AreBare, IsWrittenCall}
-use Rattle.xa_record.specs.Reports.{Report, IsReportOf}
+use Rattle.xa_record.specs.{declared.report.Report.Report as ReportMade, Reading.NumberedEvent, Events.AreEvents}
+use Rattle.xa_record.specs.{Judged.{IsJudgement, IsReportedOf, IsReportedByNotes}, Kept.{numbered_kept, report_kept}}
+use Rattle.xa_record.specs.{Replaying.{AreBare, IsWrittenCall}, Reports.{Report, IsReportOf}}
 use Rattle.xa_record.proofs.Replays.{bare_replayed}
 
 -- with at least one event the report is the judgement on the events

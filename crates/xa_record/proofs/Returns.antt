@@ -4,8 +4,7 @@ use Rattle.std.proofs.Common.{get_or, refl, ap, sym, ◌∙◌, arith, add-one}
 use Rattle.std.proofs.lemmas.List.{take_more, length-take-le, length-map}
 use Rattle.xa_record.specs.declared.line_event.NumberedEvent.{NumberedEvent as NumberedRead}
 use Rattle.xa_record.specs.Reading.{NumberedEvent, is_return_of, one_more, up_to_return}
-use Rattle.xa_record.specs.Kept.{told_kept, numbered_kept}
-use Rattle.xa_record.proofs.EventLists.{map-push}
+use Rattle.xa_record.{specs.Kept.{told_kept, numbered_kept}, proofs.EventLists.map-push}
 
 -- once a session's last return is found (count + 1 isn't 0), one more event in front moves its place by one
 more-two : (count : ℕ) (returns : Bool) → one_more (count + 1) returns ≡ count + 1 + 1

@@ -1,10 +1,8 @@
 -- The identifiers that texts say, one by one.
 use Rattle.std.proofs.Common.{◌≡◌, ℕ, ◌+◌, ◌<◌, Option, Some, None, List, [], ◌∷◌, ◌++◌, length, take, get_or, refl, ap}
-use Rattle.std.proofs.Common.{sym, ◌∙◌, Bor}
-use Rattle.std.proofs.lemmas.List.{take_more}
+use Rattle.std.proofs.{Common.{sym, ◌∙◌, Bor}, lemmas.List.take_more}
 use Rattle.xa_xid.specs.declared.xid.Xid.{Xid}
-use Rattle.xa_record.specs.Rows.{row_said}
-use Rattle.xa_record.specs.Kept.{row_before, rows_kept}
+use Rattle.xa_record.specs.{Rows.row_said, Kept.{row_before, rows_kept}}
 
 -- putting a row, if there is one, before two joined lists is putting it before the first of them
 row_before-append : (row : Option Xid) (rows more : List Xid)

@@ -4,34 +4,21 @@
 --     named_after, named_made     the same where the key was noted;  and after all rows and branches were made
 --     is_listed      a text that is a server's listing
 --     free_told      what a session that has nothing open is answered to `XA END`
-use Rattle.std.proofs.Common.{◌≡◌, ◌≢◌, ℕ, List, [], ◌∷◌, ◌++◌, ◌⊎◌, true, false, inl, inr}
-use Rattle.std.proofs.Common.{refl, ap, sym, ◌∙◌, subst, arith}
-use Rattle.std.specs.Prelude.{Option, Some, None}
-use Rattle.std.specs.List.{Contains}
-use Rattle.std.specs.Option.{option_map_or}
-use Rattle.std.specs.Ordering.{eq_by_cmp}
-use Rattle.std.specs.FinMap as map
+use Rattle.std.proofs.Common.{◌≡◌, ◌≢◌, ℕ, List, [], ◌∷◌, ◌++◌, ◌⊎◌, true, false, inl, inr, refl, ap, sym, ◌∙◌, subst}
+use Rattle.std.proofs.{Common.arith, lemmas.List.Elements.{Contains-append_left, Contains-append_right}}
+use Rattle.std.specs.{Prelude.{Option, Some, None}, List.Contains, Option.option_map_or, Ordering.eq_by_cmp}
 use Rattle.std.specs.FinMap.{get-empty}
-use Rattle.std.proofs.lemmas.List.Elements.{Contains-append_left, Contains-append_right}
 use mathlib.Core.Bool.{true≢false}
-use Rattle.xa_xid.specs.declared.xid.Xid.{Xid}
-use Rattle.xa_xid.specs.Xid.{Text, bytes_cmp}
+use Rattle.xa_xid.specs.{declared.{xid.Xid.Xid, statement.Statement.Statement}, Xid.{Text, bytes_cmp}}
 use Rattle.xa_xid.proofs.Orders.{bytes_total, exact_texts}
-use Rattle.xa_xid.specs.declared.statement.Statement.{Statement}
-use Rattle.xa_xid.specs.declared.statement.Statement.TheVariants.{Start, End, Prepare, Commit, Rollback}
-use Rattle.xa_xid.specs.declared.statement.Statement.TheVariants.{Recover, Unsupported, Get, Put, Del, Disconnect}
-use Rattle.xa_server.specs.declared.reply.Reply.{Reply}
-use Rattle.xa_server.specs.declared.reply.Reply.TheVariants.{Ok as Accepted, Value, Recovered, Refused}
-use Rattle.xa_server.specs.declared.xa_error.XaError.TheVariants.{Rmfail}
-use Rattle.xa_server.specs.declared.xa_error.BranchState.TheVariants.{NonExisting}
+use Rattle.xa_server.specs.declared.{reply.Reply.Reply, xa_error.{XaError.XaError, BranchState.BranchState}}
 use Rattle.xa_server.specs.declared.association.Association.{Association}
-use Rattle.xa_server.specs.declared.association.Association.TheVariants.{Free, Active, Idle}
-use Rattle.xa_server.specs.State.{Branch, State, no_state, association_of}
-use Rattle.xa_server.specs.Replies.{table, reply_to}
+use Rattle.xa_server.specs.{State.{Branch, State, no_state, association_of}, Replies.{table, reply_to}}
 use Rattle.xa_server.specs.Step.{with_branch, with_changed, with_own_write, unless_refused, effect, after}
 use Rattle.xa_server.proofs.Maps.{same_or_apart, get_inserted_apart}
 use Rattle.xa_lines.specs.Listing.{listing}
 use Rattle.xa_record.specs.States.{NamesAllRows, IsStateOf, leaves_rows}
+use Rattle.std.specs.FinMap as map
 
 -- changing a branch changes no committed value
 changed_rows : (state : State) (xid : Xid) (change : Branch → Branch)
@@ -48,33 +35,33 @@ effect_rows : (state : State) (session : ℕ) (association : Association) (state
     → leaves_rows association statement ≡ true
     → (effect state session association statement).rows ≡ state.rows
 unfolding effect
-effect_rows state session association (Start xid) is = refl
-effect_rows state session association (End xid) is = changed_rows state xid _
-effect_rows state session association (Prepare xid) is = changed_rows state xid _
-effect_rows state session association (Commit xid one_phase) is = absurd (true≢false (sym is))
-effect_rows state session association (Rollback xid) is = refl
-effect_rows state session association (Recover convert) is = refl
-effect_rows state session association Unsupported is = refl
-effect_rows state session Free (Get key) is = refl
-effect_rows state session (Active own) (Get key) is = changed_rows state own _
-effect_rows state session (Idle own) (Get key) is = refl
-effect_rows state session Free (Put key value) is = absurd (true≢false (sym is))
-effect_rows state session (Active own) (Put key value) is = changed_rows state own _
-effect_rows state session (Idle own) (Put key value) is = refl
-effect_rows state session Free (Del key) is = absurd (true≢false (sym is))
-effect_rows state session (Active own) (Del key) is = changed_rows state own _
-effect_rows state session (Idle own) (Del key) is = refl
-effect_rows state session Free Disconnect is = refl
-effect_rows state session (Active own) Disconnect is = refl
-effect_rows state session (Idle own) Disconnect is = refl
+effect_rows state session association (Statement.Start xid) is = refl
+effect_rows state session association (Statement.End xid) is = changed_rows state xid _
+effect_rows state session association (Statement.Prepare xid) is = changed_rows state xid _
+effect_rows state session association (Statement.Commit xid one_phase) is = absurd (true≢false (sym is))
+effect_rows state session association (Statement.Rollback xid) is = refl
+effect_rows state session association (Statement.Recover convert) is = refl
+effect_rows state session association Statement.Unsupported is = refl
+effect_rows state session Association.Free (Statement.Get key) is = refl
+effect_rows state session (Association.Active own) (Statement.Get key) is = changed_rows state own _
+effect_rows state session (Association.Idle own) (Statement.Get key) is = refl
+effect_rows state session Association.Free (Statement.Put key value) is = absurd (true≢false (sym is))
+effect_rows state session (Association.Active own) (Statement.Put key value) is = changed_rows state own _
+effect_rows state session (Association.Idle own) (Statement.Put key value) is = refl
+effect_rows state session Association.Free (Statement.Del key) is = absurd (true≢false (sym is))
+effect_rows state session (Association.Active own) (Statement.Del key) is = changed_rows state own _
+effect_rows state session (Association.Idle own) (Statement.Del key) is = refl
+effect_rows state session Association.Free Statement.Disconnect is = refl
+effect_rows state session (Association.Active own) Statement.Disconnect is = refl
+effect_rows state session (Association.Idle own) Statement.Disconnect is = refl
 
 -- a statement that leaves committed values leaves them if it is refused, too
 unless_rows : (reply : Reply) (state new : State) → new.rows ≡ state.rows
     → (unless_refused reply state new).rows ≡ state.rows
-unless_rows Accepted state new same = same
-unless_rows (Value value) state new same = same
-unless_rows (Recovered xids) state new same = same
-unless_rows (Refused error) state new same = refl
+unless_rows Reply.Ok state new same = same
+unless_rows (Reply.Value value) state new same = same
+unless_rows (Reply.Recovered xids) state new same = same
+unless_rows (Reply.Refused error) state new same = refl
 
 -- after a statement that leaves rows (`leaves_rows`) all committed values are as before
 pub rows_left : (state : State) (session : ℕ) (statement : Statement)
@@ -115,36 +102,36 @@ named_put state keys key value other all has (inr apart) =
 -- after the effect of a `PUT`, at once or in a branch, the keys with its own name all rows
 named_by_effect : (state : State) (session : ℕ) (association : Association) (keys : List (List ℕ)) (key : List ℕ)
     (value : Text) → NamesAllRows keys state
-    → NamesAllRows (keys ++ key ∷ []) (effect state session association (Put key value))
+    → NamesAllRows (keys ++ key ∷ []) (effect state session association (Statement.Put key value))
 unfolding effect
-named_by_effect state session Free keys key value all =
+named_by_effect state session Association.Free keys key value all =
     record {
       names = λ other has.
           named_put state keys key value other all has (same_or_apart bytes_total exact_texts other key);
     }
-named_by_effect state session (Active own) keys key value all =
+named_by_effect state session (Association.Active own) keys key value all =
     named_by_rows state (with_changed state own (with_own_write key (Some value))) (keys ++ key ∷ [])
     (changed_rows state own _)
     (named_still state keys key all)
-named_by_effect state session (Idle own) keys key value all = named_still state keys key all
+named_by_effect state session (Association.Idle own) keys key value all = named_still state keys key all
 
 -- keys that name all rows before a statement, and after its effect, do so whether it is refused or not
 unless_named : (reply : Reply) (state new : State) (keys : List (List ℕ)) → NamesAllRows keys state
     → NamesAllRows keys new
     → NamesAllRows keys (unless_refused reply state new)
-unless_named Accepted state new keys old after = after
-unless_named (Value value) state new keys old after = after
-unless_named (Recovered xids) state new keys old after = after
-unless_named (Refused error) state new keys old after = old
+unless_named Reply.Ok state new keys old after = after
+unless_named (Reply.Value value) state new keys old after = after
+unless_named (Reply.Recovered xids) state new keys old after = after
+unless_named (Reply.Refused error) state new keys old after = old
 
 -- after a `PUT`, carried out or refused, the keys with its own name all rows
 pub row_named : (state : State) (session : ℕ) (keys : List (List ℕ)) (key : List ℕ) (value : Text)
     → NamesAllRows keys state
-    → NamesAllRows (keys ++ key ∷ []) (after state session (Put key value))
+    → NamesAllRows (keys ++ key ∷ []) (after state session (Statement.Put key value))
 unfolding after
 row_named state session keys key value all =
-    unless_named (reply_to state session (Put key value)) state
-    (effect state session (association_of state session) (Put key value)) (keys ++ key ∷ [])
+    unless_named (reply_to state session (Statement.Put key value)) state
+    (effect state session (association_of state session) (Statement.Put key value)) (keys ++ key ∷ [])
     (named_still state keys key all) (named_by_effect state session (association_of state session) keys key value all)
 
 -- any keys name all rows of a server that holds nothing
@@ -156,11 +143,11 @@ none_named state keys is = record {
 
 -- after a `PUT` whose key was noted, the noted keys still name all rows
 pub named_after : (state new : State) (session : ℕ) (keys longer : List (List ℕ)) (key : List ℕ) (value : Text)
-    → longer ≡ keys ++ key ∷ [] → new ≡ after state session (Put key value)
+    → longer ≡ keys ++ key ∷ [] → new ≡ after state session (Statement.Put key value)
     → NamesAllRows keys state → NamesAllRows longer new
 named_after state new session keys longer key value is done named =
     subst (λ (s : State). NamesAllRows longer s) (sym done)
-    (subst (λ (l : List (List ℕ)). NamesAllRows l (after state session (Put key value))) (sym is)
+    (subst (λ (l : List (List ℕ)). NamesAllRows l (after state session (Statement.Put key value))) (sym is)
     (row_named state session keys key value named))
 
 -- if rows were made over a server that holds nothing, and then branches, which leave rows as they are, the noted keys
@@ -177,7 +164,7 @@ pub is_listed : (text : List ℕ) (state : State) (keys : List (List ℕ)) → t
 is_listed text state keys lists all = record { keys = keys; lists = lists; all = all }
 
 -- a session that has nothing open is answered RMFAIL, state NON-EXISTING, to each `XA END`
-pub free_told : (state : State) (session : ℕ) (xid : Xid) → association_of state session ≡ Free
-    → reply_to state session (End xid) ≡ Refused (Rmfail NonExisting)
+pub free_told : (state : State) (session : ℕ) (xid : Xid) → association_of state session ≡ Association.Free
+    → reply_to state session (Statement.End xid) ≡ Reply.Refused (XaError.Rmfail BranchState.NonExisting)
 unfolding reply_to table
-free_told state session xid free = ap (λ association. table state association (End xid)) free
+free_told state session xid free = ap (λ association. table state association (Statement.End xid)) free

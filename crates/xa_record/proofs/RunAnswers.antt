@@ -5,12 +5,8 @@ use Rattle.xa_server.specs.State.{State}
 use Rattle.xa_statement.specs.Reading.{read_of}
 use Rattle.xa_lines.specs.Script.{Line, Given, line_of}
 use Rattle.xa_lines.specs.Transcript.{answer_of, state_after_line, answer_to as written_for, state_then}
-use Rattle.xa_judge.specs.declared.request.Request.{Request}
-use Rattle.xa_judge.specs.Explained.{next_state}
-use Rattle.xa_judge.specs.declared.moves.Move.{Move}
-use Rattle.xa_judge.specs.declared.moves.Move.TheVariants.{Event as Seeing, Effect}
-use Rattle.xa_record.specs.Events.{request_read}
-use Rattle.xa_record.specs.Reading.{NumberedEvent}
+use Rattle.xa_judge.specs.{declared.{request.Request.Request, moves.Move.Move}, Explained.next_state}
+use Rattle.xa_record.specs.{Events.request_read, Reading.NumberedEvent}
 use Rattle.xa_record.specs.VerdictText.{with_call, effect_text, order_text}
 use Rattle.xa_record.specs.Replaying.{order_lines, joined, GivesRequest, AnswersSo}
 
@@ -60,7 +56,7 @@ pub order_joined : (calls : List (List ℕ)) (numbered : List NumberedEvent) (mo
     → order_text calls numbered moves ≡ joined (order_lines calls numbered moves)
 unfolding order_text order_lines joined
 order_joined calls numbered [] = refl
-order_joined calls numbered (Effect session act ∷ moves) =
+order_joined calls numbered (Move.Effect session act ∷ moves) =
     ap (λ (l : List ℕ). effect_text calls session act ++ l) (order_joined calls numbered moves)
-order_joined calls [] (Seeing ∷ moves) = order_joined calls [] moves
-order_joined calls (one ∷ more) (Seeing ∷ moves) = order_joined (with_call one.told calls) more moves
+order_joined calls [] (Move.Event ∷ moves) = order_joined calls [] moves
+order_joined calls (one ∷ more) (Move.Event ∷ moves) = order_joined (with_call one.told calls) more moves

@@ -1,19 +1,13 @@
 -- If a line of a record names a session, that is below 17, as each session's number is.
 use Rattle.std.proofs.Common.{◌≡◌, ℕ, ◌+◌, ◌-◌, ◌<◌, nat_le, ◌&&◌, ◌==◌, Bool, true, false, cond, if◌then◌else◌, Option}
-use Rattle.std.proofs.Common.{Some, None, Ok, Err, List, [], ◌∷◌, codes, refl, arith}
-use Rattle.std.specs.Prelude.{bytes_eq, nat_lt}
-use Rattle.std.proofs.lemmas.Bool.Decides.{nat_tests}
-use Rattle.std.proofs.lemmas.Grind.{common_steps}
-use Rattle.xa_xid.specs.Bytes.{unblank}
-use Rattle.xa_xid.specs.Literal.{Reading, literal_ahead}
-use Rattle.xa_xid.specs.Xid.{Text}
+use Rattle.std.proofs.{Common.{Some, None, Ok, Err, List, [], ◌∷◌, codes, refl, arith}, lemmas.Bool.Decides.nat_tests}
+use Rattle.std.{proofs.lemmas.Grind.common_steps, specs.Prelude.{bytes_eq, nat_lt}}
+use Rattle.xa_xid.specs.{Bytes.unblank, Literal.{Reading, literal_ahead}, Xid.Text}
 use Rattle.xa_lines.specs.Script.{Line, Blank, line_of, first_word, behind_word, is_empty_line, line_given}
 use Rattle.xa_lines.specs.Script.{session_named, filled_line, number_of_word}
 use Rattle.xa_record.specs.Lines.{ShowsOk, ShowsValue, Returns, ReturnsUnknown, Leaves, LineSaid, Nothing, Bad, Says}
-use Rattle.xa_record.specs.Lines.{Awaits, Closed, is_silent, alone}
-use Rattle.xa_record.specs.Lines.{value_said, rows_said, error_said, return_said, loss_said, session_said, filled_said}
-use Rattle.xa_record.specs.Lines.{reading_of_line}
-use Rattle.xa_record.specs.Rows.{leading_number}
+use Rattle.xa_record.specs.Lines.{Awaits, Closed, is_silent, alone, value_said, rows_said, error_said, return_said}
+use Rattle.xa_record.specs.{Lines.{loss_said, session_said, filled_said, reading_of_line}, Rows.leading_number}
 use Rattle.xa_record.specs.Reading.{session_of}
 
 -- the session that a line names, if it names one, is below 17

@@ -1,24 +1,16 @@
 -- Whether the texts of calls are tested changes only what is written for faulty lines.
 use Rattle.std.proofs.Common.{◌≡◌, ℕ, zero, suc, ◌+◌, ◌-◌, ◌==◌, Bool, true, false, if◌then◌else◌, Option, Some, None}
 use Rattle.std.proofs.Common.{List, [], ◌∷◌, ◌++◌, length, slice_get, refl, ap, sym, ◌∙◌, subst}
-use Rattle.xa_xid.specs.Bytes.{unblank}
-use Rattle.xa_xid.specs.declared.xid.Xid.{Xid}
+use Rattle.xa_xid.specs.{Bytes.unblank, declared.xid.Xid.Xid}
 use Rattle.xa_lines.specs.Script.{lines_of}
-use Rattle.xa_record.specs.declared.line_fault.LineFault.{LineFault}
-use Rattle.xa_record.specs.declared.line_fault.LineFault.TheVariants.{NotALine, NotARow}
-use Rattle.xa_record.specs.Lines.{ShowsRows, Told, Returns, LineSaid, Nothing, Bad, Says, Awaits, Closed, is_silent}
-use Rattle.xa_record.specs.Lines.{reading_of_line}
-use Rattle.xa_record.specs.Rows.{row_said}
-use Rattle.xa_record.specs.Reading.{Awaited, Notes, fault_text, blamed, blamed_too, noted_if, closed_if}
-use Rattle.xa_record.specs.Reading.{cause_of, fault_called, session_of, beyond, blamed_if, note_of, note_strictly}
-use Rattle.xa_record.specs.Reading.{returned, with_row, noted_row, noted_said, noted_by}
-use Rattle.xa_record.specs.Reading.{noted_line, noted_lines, ended_by, no_notes, notes_by, notes_of}
-use Rattle.xa_record.specs.FaultyLines.{rows_due, said_by, cause_said, first_fault, fault_said, fault_due}
-use Rattle.xa_record.specs.FaultyLines.{fault_between}
-use Rattle.xa_record.specs.FaultyLines.{text_of_fault, faulty_after}
-use Rattle.xa_record.proofs.RecordReads.{first-awaited}
-use Rattle.xa_record.proofs.TextsTold.{nothing-before}
-use Rattle.xa_record.proofs.FaultyTexts.{text-faulty}
+use Rattle.xa_record.specs.{declared.line_fault.LineFault.LineFault, Lines.{ShowsRows, Told, Returns, LineSaid}}
+use Rattle.xa_record.specs.{Lines.{Nothing, Bad, Says, Awaits, Closed, is_silent, reading_of_line}, Rows.row_said}
+use Rattle.xa_record.specs.Reading.{Awaited, Notes, fault_text, blamed, blamed_too, noted_if, closed_if, cause_of}
+use Rattle.xa_record.specs.Reading.{fault_called, session_of, beyond, blamed_if, note_of, note_strictly, returned}
+use Rattle.xa_record.specs.Reading.{with_row, noted_row, noted_said, noted_by, noted_line, noted_lines, ended_by}
+use Rattle.xa_record.specs.{Reading.{no_notes, notes_by, notes_of}, FaultyLines.{rows_due, said_by, cause_said}}
+use Rattle.xa_record.specs.FaultyLines.{first_fault, fault_said, fault_due, fault_between, text_of_fault, faulty_after}
+use Rattle.xa_record.proofs.{RecordReads.first-awaited, TextsTold.nothing-before, FaultyTexts.text-faulty}
 
 -- two notes that differ at most in what is written for faulty lines
 record Alike (one two : Notes) : Type 0 where
@@ -93,7 +85,7 @@ alike-said : (strict : Bool) (said : LineSaid) (f : List ℕ) (n : Notes) (numbe
     → Alike (noted_said strict (with_faults f n) number said) (noted_said false n number said)
 unfolding noted_said blamed
 alike-said strict Nothing f n number = alike-same f n
-alike-said strict Bad f n number = record { faults = f ++ fault_text number NotALine; is = refl }
+alike-said strict Bad f n number = record { faults = f ++ fault_text number LineFault.NotALine; is = refl }
 alike-said strict (Says told) f n number = alike-strictly strict f n number told
 alike-said strict (Closed session) f n number = alike-closed _ f n number session
 alike-said strict (Awaits session count) f n number =
@@ -105,7 +97,7 @@ alike-row : (row : Option Xid) (f : List ℕ) (n : Notes) (a : Awaited) (number 
 unfolding with_row
 alike-row None f n a number =
     alike-awaiting (a.missing - 1 == 0) f n
-    (record a { missing = a.missing - 1; faults = a.faults ++ fault_text number NotARow })
+    (record a { missing = a.missing - 1; faults = a.faults ++ fault_text number LineFault.NotARow })
 alike-row (Some xid) f n a number =
     alike-awaiting (a.missing - 1 == 0) f n (record a { missing = a.missing - 1; rows = a.rows ++ xid ∷ [] })
 

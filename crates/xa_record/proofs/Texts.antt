@@ -1,18 +1,12 @@
 -- The texts of answers, and the number of a line.
 use Rattle.std.proofs.Common.{◌≡◌, ℕ, ◌+◌, ◌<◌, ◌≤◌, List, [], ◌∷◌, ◌++◌, map, length, take, get_or, codes, refl, ap}
-use Rattle.std.proofs.Common.{sym, ◌∙◌, append_assoc, append-nil}
-use Rattle.std.proofs.lemmas.List.{take_more}
-use Rattle.std.specs.BTreeSet.{insert_key}
-use Rattle.std.specs.declared.cmp.Ordering.{Ordering}
-use Rattle.std.specs.declared.cmp.Ordering.TheVariants.{Less, Equal, Greater}
-use Rattle.std.specs.Ordering.{match_ordering}
+use Rattle.std.{proofs.{Common.{sym, ◌∙◌, append_assoc, append-nil}, lemmas.List.take_more}, specs.BTreeSet.insert_key}
+use Rattle.std.specs.{declared.cmp.Ordering.{Ordering, TheVariants.{Less, Equal, Greater}}, Ordering.match_ordering}
 use Rattle.xa_xid.specs.Xid.{bytes_cmp}
 use Rattle.xa_judge.specs.declared.answer.Answer.{Answer}
-use Rattle.xa_record.specs.declared.line_event.NumberedEvent.{NumberedEvent as NumberedRead}
-use Rattle.xa_record.specs.Kept.{numbered_kept}
+use Rattle.xa_record.specs.{declared.line_event.NumberedEvent.NumberedEvent as NumberedRead, Kept.numbered_kept}
 use Rattle.xa_record.specs.VerdictText.{answer_text, with_answers, texts_of, answers_text, number_of_line}
-use Rattle.xa_record.specs.VerdictText.{line_number_at}
-use Rattle.xa_record.proofs.Places.{slice_get-kept, slice_get-kept_past}
+use Rattle.xa_record.{specs.VerdictText.line_number_at, proofs.Places.{slice_get-kept, slice_get-kept_past}}
 
 -- putting in two lists of answers is putting in the first and then the second
 with_answers-append : (texts : List (List ℕ)) (answers more : List Answer)

@@ -2,14 +2,10 @@
 use Rattle.std.proofs.Common.{◌≡◌, ◌≢◌, ◌⊎◌, inl, inr, ℕ, false, Option, None, List, [], ◌∷◌, ◌++◌, refl, ap, sym, ◌∙◌}
 use Rattle.std.proofs.Common.{subst}
 use Rattle.xa_lines.specs.Script.{lines_of}
-use Rattle.xa_record.specs.declared.line_fault.LineFault.{LineFault}
-use Rattle.xa_record.specs.Reading.{NumberedEvent, Awaited, Notes, fault_text, no_notes, noted_lines, notes_by}
-use Rattle.xa_record.specs.Reading.{notes_of}
-use Rattle.xa_record.specs.Reading.{ended_by}
-use Rattle.xa_record.specs.Records.{Tells, HasFault, Begins}
-use Rattle.xa_record.proofs.RecordLines.{AllTold, Found, lines-told}
-use Rattle.xa_record.proofs.RecordReads.{lines-read}
-use Rattle.xa_record.proofs.FirstFaults.{first-fault}
+use Rattle.xa_record.specs.{declared.line_fault.LineFault.LineFault, Reading.{NumberedEvent, Awaited, Notes}}
+use Rattle.xa_record.specs.Reading.{fault_text, no_notes, noted_lines, notes_by, notes_of, ended_by}
+use Rattle.xa_record.{specs.Records.{Tells, HasFault, Begins}, proofs.RecordLines.{AllTold, Found, lines-told}}
+use Rattle.xa_record.proofs.{RecordReads.lines-read, FirstFaults.first-fault}
 
 -- if two texts together are empty, so is the first
 pub nothing-before : (xs ys : List ℕ) → xs ++ ys ≡ [] → xs ≡ []

@@ -1,8 +1,7 @@
 -- A text without the blanks at its end.
 use Rattle.std.proofs.Common.{◌≡◌, ℕ, true, false, List, [], ◌∷◌, ◌++◌, reverse, length, refl, ap, sym, ◌∙◌, arith}
 use Rattle.std.proofs.lemmas.List.{reverse-append, reverse-reverse}
-use Rattle.xa_xid.specs.Bytes.{belongs, behind}
-use Rattle.xa_xid.specs.declared.byte_class.ByteClass.TheVariants.{Blank}
+use Rattle.xa_xid.specs.{Bytes.{belongs, behind}, declared.byte_class.ByteClass.TheVariants.Blank}
 use Rattle.xa_record.specs.Lines.{trimmed}
 
 -- reversing a text puts its last byte first

@@ -2,14 +2,9 @@
 use Rattle.std.proofs.Common.{◌≡◌, ◌∙◌, Bool, true, Result, Ok, Err, IfOk, List, [], ℕ, sym}
 use Rattle.xa_server.specs.State.{State}
 use Rattle.xa_judge.specs.declared.event.Event.{Event}
-use Rattle.xa_record.specs.declared.allowance.Allowance.{Allowance}
-use Rattle.xa_record.specs.declared.asked.Asked.{Asked}
-use Rattle.xa_record.specs.Events.{AreEvents}
-use Rattle.xa_record.specs.Reading.{notes_by, notes_of}
-use Rattle.xa_record.specs.Shrinking.{AreUnexplained, IsUnexplained}
-use Rattle.xa_record.proofs.FaultyTexts.{text-faulty}
-use Rattle.xa_record.proofs.StrictNotes.{clean-too}
-use Rattle.xa_record.proofs.TextsTold.{text-tells}
+use Rattle.xa_record.specs.{declared.{allowance.Allowance.Allowance, asked.Asked.Asked}, Events.AreEvents}
+use Rattle.xa_record.specs.{Reading.{notes_by, notes_of}, Shrinking.{AreUnexplained, IsUnexplained}}
+use Rattle.xa_record.proofs.{FaultyTexts.text-faulty, StrictNotes.clean-too, TextsTold.text-tells}
 
 -- if no line is faulty, a result that says of the events that were read that no order explains them says so of the
 -- record

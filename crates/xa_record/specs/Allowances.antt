@@ -10,64 +10,49 @@
 --     IsAllowFaultOf    why a text couldn't be read
 use Rattle.std.specs.Prelude.{◌≡◌, ℕ, ◌+◌, ◌==◌, nat_lt, Bool, ◌&&◌, bytes_eq, if◌then◌else◌, Option, Some, None}
 use Rattle.std.specs.Prelude.{Result, Ok, Err, List, [], ◌∷◌, codes, replicate, slice_get, slice_set}
-use Rattle.xa_xid.specs.Bytes.{unblank}
-use Rattle.xa_xid.specs.declared.statement.Statement.{Statement}
-use Rattle.xa_xid.specs.declared.statement.Statement.TheVariants.{Start as ItsStart, End as ItsEnd}
-use Rattle.xa_xid.specs.declared.statement.Statement.TheVariants.{Prepare as ItsPrepare, Commit as ItsCommit}
-use Rattle.xa_xid.specs.declared.statement.Statement.TheVariants.{Rollback as ItsRollback, Recover as ItsRecover}
-use Rattle.xa_xid.specs.declared.statement.Statement.TheVariants.{Unsupported, Get as ItsGet, Put as ItsPut}
-use Rattle.xa_xid.specs.declared.statement.Statement.TheVariants.{Del as ItsDel, Disconnect as ItsDisconnect}
+use Rattle.xa_xid.specs.{Bytes.unblank, declared.statement.Statement.Statement}
 use Rattle.xa_lines.specs.Script.{lines_of, first_word, behind_word, number_of_word}
-use Rattle.xa_judge.specs.declared.request.Request.{Request}
-use Rattle.xa_judge.specs.declared.request.Request.TheVariants.{Statement as Given, Unread}
-use Rattle.xa_judge.specs.declared.event.Event.{Event}
-use Rattle.xa_judge.specs.declared.event.Event.TheVariants.{Call}
-use Rattle.xa_record.specs.declared.statement_kind.StatementKind.{StatementKind}
-use Rattle.xa_record.specs.declared.statement_kind.StatementKind.TheVariants.{Start, End, Prepare, Commit}
-use Rattle.xa_record.specs.declared.statement_kind.StatementKind.TheVariants.{CommitOnePhase, Rollback, Recover, Get}
-use Rattle.xa_record.specs.declared.statement_kind.StatementKind.TheVariants.{Put, Del, Disconnect}
-use Rattle.xa_record.specs.declared.allowance.Allowance.{Allowance}
-use Rattle.xa_record.specs.declared.allow_fault.AllowFault.{AllowFault}
-use Rattle.xa_record.specs.declared.allow_fault.AllowFault.TheVariants.{Line as LineFault, NoMemory}
-use Rattle.xa_record.specs.Lines.{is_silent}
+use Rattle.xa_judge.specs.declared.{request.Request.Request, event.Event.{Event, TheVariants.Call}}
+use Rattle.xa_record.specs.declared.{statement_kind.StatementKind.StatementKind, allowance.Allowance.Allowance}
+use Rattle.xa_record.specs.{declared.allow_fault.AllowFault.AllowFault, Lines.is_silent}
 
 -- the words of a kind of statement, as an allowance names it: those of the canonical form, without identifiers, keys,
 -- values and CONVERT XID
 abbrev pub words_of : StatementKind → List ℕ
-words_of Start = codes "XA START"
-words_of End = codes "XA END"
-words_of Prepare = codes "XA PREPARE"
-words_of Commit = codes "XA COMMIT"
-words_of CommitOnePhase = codes "XA COMMIT ONE PHASE"
-words_of Rollback = codes "XA ROLLBACK"
-words_of Recover = codes "XA RECOVER"
-words_of Get = codes "GET"
-words_of Put = codes "PUT"
-words_of Del = codes "DEL"
-words_of Disconnect = codes "DISCONNECT"
+words_of StatementKind.Start = codes "XA START"
+words_of StatementKind.End = codes "XA END"
+words_of StatementKind.Prepare = codes "XA PREPARE"
+words_of StatementKind.Commit = codes "XA COMMIT"
+words_of StatementKind.CommitOnePhase = codes "XA COMMIT ONE PHASE"
+words_of StatementKind.Rollback = codes "XA ROLLBACK"
+words_of StatementKind.Recover = codes "XA RECOVER"
+words_of StatementKind.Get = codes "GET"
+words_of StatementKind.Put = codes "PUT"
+words_of StatementKind.Del = codes "DEL"
+words_of StatementKind.Disconnect = codes "DISCONNECT"
 
 -- the kind of an `XA COMMIT`, with ONE PHASE or without
 abbrev pub kind_of_commit : Bool → StatementKind
-kind_of_commit one_phase = if one_phase then CommitOnePhase else Commit
+kind_of_commit one_phase = if one_phase then StatementKind.CommitOnePhase else StatementKind.Commit
 
 -- the kind of a statement; one that isn't supported has none
 abbrev pub kind_of_statement : Statement → Option StatementKind
-kind_of_statement (ItsStart xid) = Some Start
-kind_of_statement (ItsEnd xid) = Some End
-kind_of_statement (ItsPrepare xid) = Some Prepare
-kind_of_statement (ItsCommit xid one_phase) = Some (kind_of_commit one_phase)
-kind_of_statement (ItsRollback xid) = Some Rollback
-kind_of_statement (ItsRecover convert) = Some Recover
-kind_of_statement Unsupported = None
-kind_of_statement (ItsGet key) = Some Get
-kind_of_statement (ItsPut key value) = Some Put
-kind_of_statement (ItsDel key) = Some Del
-kind_of_statement ItsDisconnect = Some Disconnect
+kind_of_statement (Statement.Start xid) = Some StatementKind.Start
+kind_of_statement (Statement.End xid) = Some StatementKind.End
+kind_of_statement (Statement.Prepare xid) = Some StatementKind.Prepare
+kind_of_statement (Statement.Commit xid one_phase) = Some (kind_of_commit one_phase)
+kind_of_statement (Statement.Rollback xid) = Some StatementKind.Rollback
+kind_of_statement (Statement.Recover convert) = Some StatementKind.Recover
+kind_of_statement Statement.Unsupported = None
+kind_of_statement (Statement.Get key) = Some StatementKind.Get
+kind_of_statement (Statement.Put key value) = Some StatementKind.Put
+kind_of_statement (Statement.Del key) = Some StatementKind.Del
+kind_of_statement Statement.Disconnect = Some StatementKind.Disconnect
 
 -- the kind of a request; a text that isn't a statement has none
 abbrev pub kind_of : Request → Option StatementKind
-kind_of (Given statement) = kind_of_statement statement
-kind_of Unread = None
+kind_of (Request.Statement statement) = kind_of_statement statement
+kind_of Request.Unread = None
 
 -- whether a number that the server gave may stand for the rules' number by this allowance, as the answer to a
 -- statement of this kind
@@ -126,27 +111,27 @@ allowance_with rules kind text = allowance_by rules kind (number_of_word (first_
 unfoldable pub one_phase_allowed : ℕ → List ℕ → List ℕ → Option Allowance
 one_phase_allowed rules word text =
     if bytes_eq word (codes "ONE") && bytes_eq (first_word text)
-    (codes "PHASE:") then allowance_with rules CommitOnePhase (behind_word text) else None
+    (codes "PHASE:") then allowance_with rules StatementKind.CommitOnePhase (behind_word text) else None
 
 -- an allowance whose word XA was read: the next word and the text behind it say the rest
 unfoldable pub xa_allowed : ℕ → List ℕ → List ℕ → Option Allowance
 xa_allowed rules word text =
-    if bytes_eq word (codes "START:") then allowance_with rules Start text else
-    if bytes_eq word (codes "END:") then allowance_with rules End text else
-    if bytes_eq word (codes "PREPARE:") then allowance_with rules Prepare text else
-    if bytes_eq word (codes "COMMIT:") then allowance_with rules Commit text else
+    if bytes_eq word (codes "START:") then allowance_with rules StatementKind.Start text else
+    if bytes_eq word (codes "END:") then allowance_with rules StatementKind.End text else
+    if bytes_eq word (codes "PREPARE:") then allowance_with rules StatementKind.Prepare text else
+    if bytes_eq word (codes "COMMIT:") then allowance_with rules StatementKind.Commit text else
     if bytes_eq word (codes "COMMIT") then one_phase_allowed rules (first_word text) (behind_word text) else
-    if bytes_eq word (codes "ROLLBACK:") then allowance_with rules Rollback text else
-    if bytes_eq word (codes "RECOVER:") then allowance_with rules Recover text else None
+    if bytes_eq word (codes "ROLLBACK:") then allowance_with rules StatementKind.Rollback text else
+    if bytes_eq word (codes "RECOVER:") then allowance_with rules StatementKind.Recover text else None
 
 -- an allowance whose rules' number was read: the next word and the text behind it say the rest
 unfoldable pub allowed : ℕ → List ℕ → List ℕ → Option Allowance
 allowed rules word text =
     if bytes_eq word (codes "XA") then xa_allowed rules (first_word text) (behind_word text) else
-    if bytes_eq word (codes "GET:") then allowance_with rules Get text else
-    if bytes_eq word (codes "PUT:") then allowance_with rules Put text else
-    if bytes_eq word (codes "DEL:") then allowance_with rules Del text else
-    if bytes_eq word (codes "DISCONNECT:") then allowance_with rules Disconnect text else None
+    if bytes_eq word (codes "GET:") then allowance_with rules StatementKind.Get text else
+    if bytes_eq word (codes "PUT:") then allowance_with rules StatementKind.Put text else
+    if bytes_eq word (codes "DEL:") then allowance_with rules StatementKind.Del text else
+    if bytes_eq word (codes "DISCONNECT:") then allowance_with rules StatementKind.Disconnect text else None
 
 -- an allowance from the rules' number, if that could be read, and the text behind it
 abbrev pub allowance_from : Option ℕ → List ℕ → Option Allowance
@@ -193,5 +178,5 @@ allowances_of text = allowances_in 1 (lines_of text)
 -- whether a fault is right for what the lines allow: `Line` has the number of the first faulty line; `NoMemory` may
 -- always be
 abbrev pub IsAllowFaultOf : Result (List Allowance) ℕ → AllowFault → Type 0
-IsAllowFaultOf said (LineFault number) = said ≡ Err number
-IsAllowFaultOf said NoMemory = Unit {0}
+IsAllowFaultOf said (AllowFault.Line number) = said ≡ Err number
+IsAllowFaultOf said AllowFault.NoMemory = Unit {0}

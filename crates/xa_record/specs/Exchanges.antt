@@ -7,13 +7,12 @@
 --     Exchange       what was seen, and the number and the line of its call
 --     exchange_at    what was seen at a place, and the last call of its session before that
 --     exchange_sought    the same, if it is asked for
-use Rattle.std.specs.Prelude.{ℕ, ◌==◌, Bool, true, false, if◌then◌else◌, Option, Some, None, List, [], ◌∷◌, ◌++◌}
-use Rattle.std.specs.Prelude.{codes, decimal, take, slice_get}
+use Rattle.std.specs.Prelude.{ℕ, ◌==◌, Bool, true, false, if◌then◌else◌, Option, Some, None, List, [], ◌∷◌, ◌++◌, codes}
+use Rattle.std.specs.Prelude.{decimal, take, slice_get}
 use Rattle.xa_server.specs.declared.reply.Reply.TheVariants.{Value, Recovered}
 use Rattle.xa_lines.specs.Printed.{reply_text}
 use Rattle.xa_record.specs.Lines.{Shown, ShowsOk, ShowsValue, ShowsRows, ShowsError, Told, Calls, Returns}
-use Rattle.xa_record.specs.Reading.{NumberedEvent, session_of}
-use Rattle.xa_record.specs.VerdictText.{call_text, number_of_line}
+use Rattle.xa_record.specs.{Reading.{NumberedEvent, session_of}, VerdictText.{call_text, number_of_line}}
 
 -- what a return shows, as `run` prints a reply, with rows as CONVERT XID prints them; of a refusal only
 -- `ERROR` and its number

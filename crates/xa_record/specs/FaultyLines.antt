@@ -8,17 +8,11 @@
 --     faulty_text        what is written for the faulty lines
 use Rattle.std.specs.Prelude.{ℕ, zero, suc, ◌+◌, ◌==◌, nat_lt, Bool, true, false, if◌then◌else◌, Option, Some, None}
 use Rattle.std.specs.Prelude.{List, [], ◌∷◌, ◌++◌, length}
-use Rattle.xa_xid.specs.Bytes.{unblank}
-use Rattle.xa_xid.specs.declared.xid.Xid.{Xid}
-use Rattle.xa_record.specs.declared.line_fault.LineFault.{LineFault}
-use Rattle.xa_record.specs.declared.line_fault.LineFault.TheVariants.{NotALine, NotARow, RowsMissing}
-use Rattle.xa_record.specs.declared.presence.Presence.{Presence}
-use Rattle.xa_record.specs.declared.presence.Presence.TheVariants.{Idle}
-use Rattle.xa_record.specs.Lines.{ShowsRows, Told, Returns, Leaves, LineSaid, Nothing, Bad, Says, Awaits, Closed}
-use Rattle.xa_record.specs.Lines.{is_silent, reading_of_line}
-use Rattle.xa_record.specs.Rows.{row_said}
-use Rattle.xa_record.specs.Reading.{session_of, cause_of, fault_called, fault_text}
-use Rattle.xa_record.specs.Records.{presence_then, filled}
+use Rattle.xa_xid.specs.{Bytes.unblank, declared.xid.Xid.Xid}
+use Rattle.xa_record.specs.declared.line_fault.LineFault.{LineFault, TheVariants.{NotALine, NotARow, RowsMissing}}
+use Rattle.xa_record.specs.{declared.presence.Presence.Presence, Lines.{ShowsRows, Told, Returns, Leaves, LineSaid}}
+use Rattle.xa_record.specs.{Lines.{Nothing, Bad, Says, Awaits, Closed, is_silent, reading_of_line}, Rows.row_said}
+use Rattle.xa_record.specs.{Reading.{session_of, cause_of, fault_called, fault_text}, Records.{presence_then, filled}}
 
 -- how many rows have to follow a line that says this
 abbrev pub rows_announced : LineSaid → ℕ
@@ -69,7 +63,7 @@ presence_said_from session presence (said ∷ more) =
 
 -- whether a session has an open call or is lost after all that was said, if it is idle at first
 abbrev pub presence_said : ℕ → List LineSaid → Presence
-presence_said session before = presence_said_from session Idle before
+presence_said session before = presence_said_from session Presence.Idle before
 
 -- why this event isn't possible after what was said; None if it is possible
 abbrev pub cause_said : List LineSaid → Told → Option LineFault

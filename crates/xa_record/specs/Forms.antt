@@ -6,13 +6,9 @@
 --     text_in          in the form that is asked for
 use Rattle.std.specs.Prelude.{ℕ, Option, Some, None, List, [], ◌∷◌, ◌++◌, codes, decimal, encode_utf8_all}
 use Rattle.json.specs.Json.{Json, string, number, array, object, Items, no_items, item, Members, no_members, member}
-use Rattle.json.specs.Print.{print}
-use Rattle.json.specs.Tree.{json_tokens}
+use Rattle.json.specs.{Print.print, Tree.json_tokens}
 use Rattle.xa_lines.specs.Script.{lines_of}
-use Rattle.xa_record.specs.declared.form.Form.{Form}
-use Rattle.xa_record.specs.declared.form.Form.TheVariants.{Plain, Json as AsJson}
-use Rattle.xa_record.specs.VerdictText.{line_text, answers_text}
-use Rattle.xa_record.specs.Exchanges.{Exchange}
+use Rattle.xa_record.specs.{declared.form.Form.Form, VerdictText.{line_text, answers_text}, Exchanges.Exchange}
 use Rattle.xa_record.specs.Reports.{Reason, Report, Faulty, Empty, Legal, Illegal, Undecided}
 
 -- the lines of an order and those of a store, each after its heading; nothing if there is no reason
@@ -117,5 +113,5 @@ json_text report = print (json_tokens (report_value report)) ++ codes "\n"
 
 -- a report in the asked form
 abbrev pub text_in : Form → Report → List ℕ
-text_in Plain report = plain_text report
-text_in AsJson report = json_text report
+text_in Form.Plain report = plain_text report
+text_in Form.Json report = json_text report

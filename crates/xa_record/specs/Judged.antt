@@ -12,25 +12,13 @@
 --     IsJudged, AppendsJudged, IsJudgedText, AfterJudgeFault     the same of a record that begins with a server that
 --                            holds nothing
 --     IsFaultOfJudging       a fault of judging: out of memory
-use Rattle.std.specs.Prelude.{◌≡◌, ℕ, Option, List, [], ◌∷◌, IfSome}
-use Rattle.std.specs.Io.KnownBytes.{Keeps, Appends}
+use Rattle.std.specs.{Prelude.{◌≡◌, ℕ, Option, List, [], ◌∷◌, IfSome}, Io.KnownBytes.{Keeps, Appends}}
 use Rattle.xa_server.specs.State.{State, no_state}
-use Rattle.xa_lines.specs.declared.script_fault.ScriptFault.{ScriptFault}
-use Rattle.xa_lines.specs.declared.script_fault.ScriptFault.TheVariants.{Write, NoMemory, Full, GateShut, ThreadRefused}
-use Rattle.xa_lines.specs.Script.{lines_of}
-use Rattle.xa_lines.specs.Transcript.{AppendsPrefix}
-use Rattle.xa_judge.specs.declared.event.Event.{Event}
-use Rattle.xa_judge.specs.declared.verdict.Verdict.{Verdict}
-use Rattle.xa_judge.specs.Verdicts.{IsVerdict}
-use Rattle.xa_record.specs.declared.allowance.Allowance.{Allowance}
-use Rattle.xa_record.specs.declared.asked.Asked.{Asked}
-use Rattle.xa_record.specs.declared.outcome.Outcome.{Outcome}
-use Rattle.xa_record.specs.Reading.{NumberedEvent, Notes}
-use Rattle.xa_record.specs.Records.{Tells}
-use Rattle.xa_record.specs.FaultyLines.{faulty_text}
-use Rattle.xa_record.specs.Events.{AreEvents}
-use Rattle.xa_record.specs.Replaying.{IsReplayed}
-use Rattle.xa_record.specs.Reports.{Report, Faulty, Empty, outcome_of, IsReportOf}
+use Rattle.xa_lines.specs.{declared.script_fault.ScriptFault.ScriptFault, Script.lines_of, Transcript.AppendsPrefix}
+use Rattle.xa_judge.specs.{declared.{event.Event.Event, verdict.Verdict.Verdict}, Verdicts.IsVerdict}
+use Rattle.xa_record.specs.declared.{allowance.Allowance.Allowance, asked.Asked.Asked, outcome.Outcome.Outcome}
+use Rattle.xa_record.specs.{Reading.{NumberedEvent, Notes}, Records.Tells, FaultyLines.faulty_text, Events.AreEvents}
+use Rattle.xa_record.specs.{Replaying.IsReplayed, Reports.{Report, Faulty, Empty, outcome_of, IsReportOf}}
 use Rattle.xa_record.specs.Forms.{text_in}
 
 -- the greatest length of a record, in bytes: 16 MiB
@@ -123,17 +111,17 @@ IsJudgedText allowances asked written text = IsJudgedTextFrom no_state allowance
 
 -- a fault of judging a record that was read: there was no memory
 abbrev pub IsFaultOfJudging : List ℕ → ScriptFault → Type 0
-IsFaultOfJudging written fault = fault ≡ NoMemory
+IsFaultOfJudging written fault = fault ≡ ScriptFault.NoMemory
 
 -- what a fault leaves in the writer: a prefix of the text if a write failed, else nothing. Judging has no
 -- fault of a race
 abbrev pub AfterJudgeFaultFrom : State → List Allowance → Asked → ScriptFault → Option (List ℕ) → Option (List ℕ)
     → Option (List ℕ) → Type 0
-AfterJudgeFaultFrom base allowances asked Write input old new = IfSome input
+AfterJudgeFaultFrom base allowances asked ScriptFault.Write input old new = IfSome input
     (λ written. AppendsJudgedPrefix base allowances asked written old new)
-AfterJudgeFaultFrom base allowances asked Full input old new = ⊥
-AfterJudgeFaultFrom base allowances asked GateShut input old new = ⊥
-AfterJudgeFaultFrom base allowances asked ThreadRefused input old new = ⊥
+AfterJudgeFaultFrom base allowances asked ScriptFault.Full input old new = ⊥
+AfterJudgeFaultFrom base allowances asked ScriptFault.GateShut input old new = ⊥
+AfterJudgeFaultFrom base allowances asked ScriptFault.ThreadRefused input old new = ⊥
 AfterJudgeFaultFrom base allowances asked fault input old new = Keeps old new
 
 -- what a fault leaves in the writer, for a record that begins with an empty store

@@ -9,35 +9,17 @@
 --     text_told, text_at        the text of a call;  the text of the call at a place
 --     calls_kept                at each session's number, the text that it called for last
 --     with_place                at each session's number, the place of its last call, after an event
-use Rattle.std.specs.Prelude.{ℕ, Option, Some, None, List, [], ◌∷◌, map, slice_get, slice_set}
-use Rattle.std.specs.Borrow.{Bor}
-use Rattle.xa_xid.specs.declared.xid.Xid.{Xid}
-use Rattle.xa_record.specs.Rows.{row_said}
+use Rattle.std.specs.{Prelude.{ℕ, Option, Some, None, List, [], ◌∷◌, map, slice_get, slice_set}, Borrow.Bor}
 use Rattle.std.specs.Option.{option_map}
-use Rattle.xa_record.specs.declared.line_event.LineEvent.{LineEvent}
-use Rattle.xa_record.specs.declared.line_event.LineEvent.TheVariants.{Call, Return, Unknown, Lost}
-use Rattle.xa_record.specs.declared.shown.Shown.{Shown as ShownRead}
-use Rattle.xa_record.specs.declared.shown.Shown.TheVariants.{Ok as OkRead, None as NoneRead, Value as ValueRead}
-use Rattle.xa_record.specs.declared.shown.Shown.TheVariants.{Rows as ManyRead, Error as ErrorRead}
-use Rattle.xa_record.specs.declared.line.RecordLine.{RecordLine}
-use Rattle.xa_record.specs.declared.line.RecordLine.TheVariants.{Nothing as NothingRead, Bad as BadRead, Happens}
-use Rattle.xa_record.specs.declared.line.RecordLine.TheVariants.{Value as OneRead, Rows as RowsRead}
-use Rattle.xa_record.specs.declared.line.RecordLine.TheVariants.{Closed as ClosedRead}
-use Rattle.xa_record.specs.declared.line_event.NumberedEvent.{NumberedEvent as NumberedRead}
-use Rattle.xa_record.specs.declared.pending.Pending.{Pending}
-use Rattle.xa_record.specs.declared.notes.Notes.{Notes as NotesRead}
-use Rattle.xa_record.specs.declared.last_calls.LastCalls.{LastCalls}
-use Rattle.xa_record.specs.Lines.{Shown, ShowsOk, ShowsValue, ShowsRows, ShowsError, Told, Calls, Returns}
-use Rattle.xa_record.specs.Lines.{ReturnsUnknown, Leaves, LineSaid, Nothing, Bad, Says, Awaits, Closed}
-use Rattle.xa_record.specs.Reading.{Awaited, NumberedEvent, Notes}
-use Rattle.xa_record.specs.declared.exchange.Exchange.{Exchange as ExchangeMade}
-use Rattle.xa_record.specs.declared.grounds.Grounds.{Grounds as GroundsMade}
-use Rattle.xa_record.specs.declared.reason.Reason.{Reason as ReasonFound}
-use Rattle.xa_record.specs.declared.report.Report.{Report as ReportMade}
-use Rattle.xa_record.specs.declared.report.Report.TheVariants.{Faulty as FaultyMade, Empty as EmptyMade}
-use Rattle.xa_record.specs.declared.report.Report.TheVariants.{Legal as LegalMade, Illegal as IllegalMade}
-use Rattle.xa_record.specs.declared.report.Report.TheVariants.{Undecided as UndecidedMade}
-use Rattle.xa_record.specs.Exchanges.{Exchange}
+use Rattle.xa_xid.specs.declared.xid.Xid.{Xid}
+use Rattle.xa_record.specs.{Rows.row_said, declared.{line_event.LineEvent.LineEvent, shown.Shown.Shown as ShownRead}}
+use Rattle.xa_record.specs.declared.{line_event.NumberedEvent.NumberedEvent as NumberedRead, line.RecordLine.RecordLine}
+use Rattle.xa_record.specs.declared.{pending.Pending.Pending, notes.Notes.Notes as NotesRead}
+use Rattle.xa_record.specs.declared.{last_calls.LastCalls.LastCalls, exchange.Exchange.Exchange as ExchangeMade}
+use Rattle.xa_record.specs.declared.{grounds.Grounds.Grounds as GroundsMade, reason.Reason.Reason as ReasonFound}
+use Rattle.xa_record.specs.{declared.report.Report.Report as ReportMade, Lines.{Shown, ShowsOk, ShowsValue, ShowsRows}}
+use Rattle.xa_record.specs.Lines.{ShowsError, Told, Calls, Returns, ReturnsUnknown, Leaves, LineSaid, Nothing, Bad}
+use Rattle.xa_record.specs.{Lines.{Says, Awaits, Closed}, Reading.{Awaited, NumberedEvent, Notes}, Exchanges.Exchange}
 use Rattle.xa_record.specs.Reports.{Reason, Grounds, Report, Faulty, Empty, Legal, Illegal, Undecided}
 
 -- a row that could be read, before those after it; a text that is no row adds none
@@ -52,27 +34,27 @@ rows_kept (text ∷ texts) = row_before (row_said text.now) (rows_kept texts)
 
 -- what a return shows, as definitions see it
 abbrev pub shown_kept : ShownRead → Shown
-shown_kept OkRead = ShowsOk
-shown_kept NoneRead = ShowsValue None
-shown_kept (ValueRead value) = ShowsValue (Some value.value)
-shown_kept (ManyRead texts) = ShowsRows (rows_kept texts.value.items)
-shown_kept (ErrorRead number) = ShowsError number
+shown_kept ShownRead.Ok = ShowsOk
+shown_kept ShownRead.None = ShowsValue None
+shown_kept (ShownRead.Value value) = ShowsValue (Some value.value)
+shown_kept (ShownRead.Rows texts) = ShowsRows (rows_kept texts.value.items)
+shown_kept (ShownRead.Error number) = ShowsError number
 
 -- an event, as definitions see it
 abbrev pub told_kept : LineEvent → Told
-told_kept (Call session text) = Calls session text.now
-told_kept (Return session shown) = Returns session (shown_kept shown)
-told_kept (Unknown session) = ReturnsUnknown session
-told_kept (Lost session) = Leaves session
+told_kept (LineEvent.Call session text) = Calls session text.now
+told_kept (LineEvent.Return session shown) = Returns session (shown_kept shown)
+told_kept (LineEvent.Unknown session) = ReturnsUnknown session
+told_kept (LineEvent.Lost session) = Leaves session
 
 -- what a line says, as definitions see it
 abbrev pub line_kept : RecordLine → LineSaid
-line_kept NothingRead = Nothing
-line_kept BadRead = Bad
-line_kept (Happens line_event) = Says (told_kept line_event)
-line_kept (OneRead session value) = Says (Returns session (ShowsValue (Some value)))
-line_kept (RowsRead session count) = Awaits session count
-line_kept (ClosedRead session) = Closed session
+line_kept RecordLine.Nothing = Nothing
+line_kept RecordLine.Bad = Bad
+line_kept (RecordLine.Happens line_event) = Says (told_kept line_event)
+line_kept (RecordLine.Value session value) = Says (Returns session (ShowsValue (Some value)))
+line_kept (RecordLine.Rows session count) = Awaits session count
+line_kept (RecordLine.Closed session) = Closed session
 
 -- an event, with its line's number
 abbrev pub numbered_kept : NumberedRead → NumberedEvent
@@ -120,12 +102,12 @@ grounds_kept grounds =
 
 -- what is reported of a record, as definitions see it
 abbrev pub report_kept : ReportMade → Report
-report_kept (FaultyMade faults) = Faulty faults.items
-report_kept EmptyMade = Empty
-report_kept (LegalMade order) = Legal order.items
-report_kept (IllegalMade number texts grounds) =
+report_kept (ReportMade.Faulty faults) = Faulty faults.items
+report_kept ReportMade.Empty = Empty
+report_kept (ReportMade.Legal order) = Legal order.items
+report_kept (ReportMade.Illegal number texts grounds) =
     Illegal number (map (λ text. text.items) texts.keys) (grounds_kept grounds)
-report_kept (UndecidedMade number) = Undecided number
+report_kept (ReportMade.Undecided number) = Undecided number
 
 -- the text of a call; empty if this is no call
 abbrev pub text_told : Told → List ℕ

@@ -9,10 +9,7 @@
 --     is_no_row        a line in the place of a row isn't one
 use Rattle.std.specs.Prelude.{ℕ, nat_lt, Bool, true, false, not, ◌||◌, bytes_eq, if◌then◌else◌, Option, Some, None}
 use Rattle.std.specs.Prelude.{is_some, Ok, Err, List, [], ◌∷◌, codes, reverse}
-use Rattle.xa_xid.specs.Bytes.{unblank}
-use Rattle.xa_xid.specs.Literal.{Reading, literal_ahead}
-use Rattle.xa_xid.specs.Xid.{Text}
-use Rattle.xa_xid.specs.declared.xid.Xid.{Xid}
+use Rattle.xa_xid.specs.{Bytes.unblank, Literal.{Reading, literal_ahead}, Xid.Text, declared.xid.Xid.Xid}
 use Rattle.xa_lines.specs.Script.{Line, Blank, Bad as BadLine, Given, line_of, first_word, behind_word, is_empty_line}
 use Rattle.xa_lines.specs.Script.{is_comment_line, number_of_word}
 use Rattle.xa_record.specs.Rows.{leading_number, row_said}

@@ -15,23 +15,14 @@
 --     notes_by            the notes after the lines of a text, with the texts of calls tested or not
 --     notes_of            the same without such a test
 use Rattle.std.specs.Prelude.{ℕ, zero, suc, ◌+◌, ◌-◌, ◌==◌, Bool, true, false, if◌then◌else◌, Option, Some, None}
-use Rattle.std.specs.Prelude.{Result, Ok, Err, List}
-use Rattle.std.specs.Prelude.{[], ◌∷◌, ◌++◌, codes, decimal, slice_get, slice_set, replicate}
+use Rattle.std.specs.Prelude.{Result, Ok, Err, List, [], ◌∷◌, ◌++◌, codes, decimal, slice_get, slice_set, replicate}
 use Rattle.std.specs.List.{insert}
-use Rattle.xa_xid.specs.Bytes.{unblank}
-use Rattle.xa_xid.specs.declared.xid.Xid.{Xid}
-use Rattle.xa_xid.specs.declared.statement.Statement.{Statement}
+use Rattle.xa_xid.specs.{Bytes.unblank, declared.{xid.Xid.Xid, statement.Statement.Statement}}
 use Rattle.xa_statement.specs.Reading.{read_of}
 use Rattle.xa_lines.specs.Script.{lines_of}
-use Rattle.xa_record.specs.declared.line_fault.LineFault.{LineFault}
-use Rattle.xa_record.specs.declared.line_fault.LineFault.TheVariants.{NotALine, NotARow, RowsMissing, OpenCall}
-use Rattle.xa_record.specs.declared.line_fault.LineFault.TheVariants.{NotAStatement}
-use Rattle.xa_record.specs.declared.line_fault.LineFault.TheVariants.{NoOpenCall, Lost as WasLost}
-use Rattle.xa_record.specs.declared.presence.Presence.{Presence}
-use Rattle.xa_record.specs.declared.presence.Presence.TheVariants.{Idle, Open, Lost}
-use Rattle.xa_record.specs.Lines.{ShowsRows, Told, Calls, Returns, ReturnsUnknown, Leaves, LineSaid, Nothing, Bad, Says}
-use Rattle.xa_record.specs.Lines.{Awaits, Closed, reading_of_line, is_silent}
-use Rattle.xa_record.specs.Rows.{row_said}
+use Rattle.xa_record.specs.{declared.{line_fault.LineFault.LineFault, presence.Presence.Presence}, Lines.ShowsRows}
+use Rattle.xa_record.specs.Lines.{Told, Calls, Returns, ReturnsUnknown, Leaves, LineSaid, Nothing, Bad, Says, Awaits}
+use Rattle.xa_record.specs.{Lines.{Closed, reading_of_line, is_silent}, Rows.row_said}
 
 -- the session of an event
 abbrev pub session_of : Told → ℕ
@@ -42,24 +33,24 @@ session_of (Leaves session) = session
 
 -- whether the session of this event is idle, has an open call or is lost after it
 abbrev pub presence_after : Told → Presence
-presence_after (Calls session text) = Open
-presence_after (Returns session shown) = Idle
-presence_after (ReturnsUnknown session) = Idle
-presence_after (Leaves session) = Lost
+presence_after (Calls session text) = Presence.Open
+presence_after (Returns session shown) = Presence.Idle
+presence_after (ReturnsUnknown session) = Presence.Idle
+presence_after (Leaves session) = Presence.Lost
 
 -- why an event isn't possible for a session with this presence: a call if the session has an open call, a return if
 -- it has none, and any event if its client is gone; None if it is possible, or there is no presence
 abbrev pub cause_of : Option Presence → Told → Option LineFault
-cause_of (Some Open) (Calls session text) = Some (OpenCall session)
-cause_of (Some Idle) (Returns session shown) = Some (NoOpenCall session)
-cause_of (Some Idle) (ReturnsUnknown session) = Some (NoOpenCall session)
-cause_of (Some Lost) told = Some (WasLost (session_of told))
+cause_of (Some Presence.Open) (Calls session text) = Some (LineFault.OpenCall session)
+cause_of (Some Presence.Idle) (Returns session shown) = Some (LineFault.NoOpenCall session)
+cause_of (Some Presence.Idle) (ReturnsUnknown session) = Some (LineFault.NoOpenCall session)
+cause_of (Some Presence.Lost) told = Some (LineFault.Lost (session_of told))
 cause_of presence told = None
 
 -- the fault of a call's text, if it isn't a statement
 abbrev pub fault_read : Result Statement ℕ → Option LineFault
 fault_read (Ok statement) = None
-fault_read (Err place) = Some NotAStatement
+fault_read (Err place) = Some LineFault.NotAStatement
 
 -- a call of a text that isn't a statement is faulty if the texts of calls are tested
 abbrev pub fault_called : Told → Option LineFault
@@ -68,13 +59,13 @@ fault_called told = None
 
 -- the words for why a line is faulty
 abbrev pub cause_text : LineFault → List ℕ
-cause_text NotALine = codes "not a line of a record"
-cause_text NotARow = codes "not a row"
-cause_text RowsMissing = codes "rows are missing"
-cause_text NotAStatement = codes "not a statement"
-cause_text (OpenCall session) = codes "session " ++ decimal session ++ codes " has an open call"
-cause_text (NoOpenCall session) = codes "session " ++ decimal session ++ codes " has no open call"
-cause_text (WasLost session) = codes "session " ++ decimal session ++ codes " is lost"
+cause_text LineFault.NotALine = codes "not a line of a record"
+cause_text LineFault.NotARow = codes "not a row"
+cause_text LineFault.RowsMissing = codes "rows are missing"
+cause_text LineFault.NotAStatement = codes "not a statement"
+cause_text (LineFault.OpenCall session) = codes "session " ++ decimal session ++ codes " has an open call"
+cause_text (LineFault.NoOpenCall session) = codes "session " ++ decimal session ++ codes " has no open call"
+cause_text (LineFault.Lost session) = codes "session " ++ decimal session ++ codes " is lost"
 
 -- what is written for a faulty line
 abbrev pub fault_text : ℕ → LineFault → List ℕ
@@ -104,7 +95,7 @@ pub record Notes : Type 0 where
 
 -- the notes before the first line; place 0 of presence belongs to no session
 abbrev pub no_notes : Notes
-no_notes = record { told = []; faults = []; presence = replicate 17 Idle; awaited = None }
+no_notes = record { told = []; faults = []; presence = replicate 17 Presence.Idle; awaited = None }
 
 -- the notes once the line of this number is told as faulty
 unfoldable pub blamed : Notes → ℕ → LineFault → Notes
@@ -169,7 +160,7 @@ unfoldable pub closed_if : Option LineFault → Notes → ℕ → ℕ → Notes
 closed_if None notes number session =
     record notes {
       told = insert notes.told (up_to_return session notes.told) (record { number = number; told = Leaves session });
-      presence = slice_set notes.presence session Lost;
+      presence = slice_set notes.presence session Presence.Lost;
     }
 closed_if (Some fault) notes number session = blamed notes number fault
 
@@ -192,7 +183,7 @@ awaiting notes awaited =
 -- the notes after a line in the place of a row, which is this row, or isn't one: in both cases one fewer is to come
 unfoldable pub with_row : Notes → Awaited → ℕ → Option Xid → Notes
 with_row notes awaited number None = awaiting notes (record awaited
-    { missing = awaited.missing - 1; faults = awaited.faults ++ fault_text number NotARow })
+    { missing = awaited.missing - 1; faults = awaited.faults ++ fault_text number LineFault.NotARow })
 with_row notes awaited number (Some xid) =
     awaiting notes (record awaited { missing = awaited.missing - 1; rows = awaited.rows ++ xid ∷ [] })
 
@@ -205,7 +196,7 @@ noted_row notes awaited number line =
 -- the notes after a line that isn't in the place of a row, by what it says
 unfoldable pub noted_said : Bool → Notes → ℕ → LineSaid → Notes
 noted_said strict notes number Nothing = notes
-noted_said strict notes number Bad = blamed notes number NotALine
+noted_said strict notes number Bad = blamed notes number LineFault.NotALine
 noted_said strict notes number (Says told) = note_strictly strict notes number told
 noted_said strict notes number (Closed session) = note_closed notes number session
 noted_said strict notes number (Awaits session count) =
@@ -230,7 +221,7 @@ noted_lines strict notes number (line ∷ lines) =
 -- the return's line
 abbrev pub ended_by : Option Awaited → Notes → Notes
 ended_by None notes = notes
-ended_by (Some awaited) notes = blamed_too (blamed notes awaited.number RowsMissing) awaited.faults
+ended_by (Some awaited) notes = blamed_too (blamed notes awaited.number LineFault.RowsMissing) awaited.faults
 
 -- what was read of a record; if it is strict, each call has to be a statement
 unfoldable pub notes_by : Bool → List ℕ → Notes

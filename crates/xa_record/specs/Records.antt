@@ -10,17 +10,11 @@
 --     HasFault            the first faulty line has this number, for this cause
 --     Begins              a text begins with this one
 use Rattle.std.specs.Prelude.{◌≡◌, ◌⊎◌, ℕ, suc, ◌+◌, ◌==◌, ◌<◌, ◌≤◌, true, false, if◌then◌else◌, Option, Some, None}
-use Rattle.std.specs.Prelude.{List, [], ◌∷◌, ◌++◌, length}
-use Rattle.std.specs.List.{AllByRecursion}
-use Rattle.xa_xid.specs.Bytes.{unblank}
-use Rattle.xa_xid.specs.declared.xid.Xid.{Xid}
-use Rattle.xa_record.specs.declared.line_fault.LineFault.{LineFault}
-use Rattle.xa_record.specs.declared.line_fault.LineFault.TheVariants.{NotALine, NotARow, RowsMissing}
-use Rattle.xa_record.specs.declared.presence.Presence.{Presence}
-use Rattle.xa_record.specs.declared.presence.Presence.TheVariants.{Idle, Open, Lost}
-use Rattle.xa_record.specs.Lines.{Shown, ShowsRows, Told, Calls, Returns, ReturnsUnknown, Leaves, Nothing, Bad, Says}
-use Rattle.xa_record.specs.Lines.{Awaits, Closed, is_silent, reading_of_line}
-use Rattle.xa_record.specs.Rows.{row_said}
+use Rattle.std.specs.{Prelude.{List, [], ◌∷◌, ◌++◌, length}, List.AllByRecursion}
+use Rattle.xa_xid.specs.{Bytes.unblank, declared.xid.Xid.Xid}
+use Rattle.xa_record.specs.{declared.{line_fault.LineFault.LineFault, presence.Presence.Presence}, Lines.Shown}
+use Rattle.xa_record.specs.Lines.{ShowsRows, Told, Calls, Returns, ReturnsUnknown, Leaves, Nothing, Bad, Says, Awaits}
+use Rattle.xa_record.specs.{Lines.{Closed, is_silent, reading_of_line}, Rows.row_said}
 use Rattle.xa_record.specs.Reading.{NumberedEvent, is_return_of, session_of, presence_after, cause_of}
 
 -- so many rows are on these lines, maybe with blank lines and comments before each of them, and have these identifiers
@@ -49,9 +43,9 @@ HasNoReturn session (one ∷ more) = (is_return_of session one.told ≡ false) �
 
 -- whether a session is idle, has an open call or is lost after this event of it: a client that is gone stays gone
 abbrev pub presence_then : Presence → Told → Presence
-presence_then Lost told = Lost
-presence_then Idle told = presence_after told
-presence_then Open told = presence_after told
+presence_then Presence.Lost told = Presence.Lost
+presence_then Presence.Idle told = presence_after told
+presence_then Presence.Open told = presence_after told
 
 -- whether a session has an open call or is lost after these events, if it began with this presence
 unfoldable pub presence_from : ℕ → Presence → List NumberedEvent → Presence
@@ -61,7 +55,7 @@ presence_from session presence (one ∷ more) =
 
 -- whether the session has an open call or is lost after these events, if it was idle at first
 abbrev pub presence_in : ℕ → List NumberedEvent → Presence
-presence_in session list = presence_from session Idle list
+presence_in session list = presence_from session Presence.Idle list
 
 -- why this event isn't possible next, by what the events say of its session; None if it is possible
 abbrev pub cause_next : List NumberedEvent → Told → Option LineFault
@@ -125,7 +119,7 @@ pub data HasFault : List (List ℕ) → ℕ → LineFault → Type 0 where
   -- a line that isn't written as one
   bad_line : (lines : List (List ℕ)) (line : List ℕ) (more : List (List ℕ)) (list : List NumberedEvent)
       → Tells lines list → reading_of_line line ≡ Bad
-      → HasFault (lines ++ line ∷ more) (length lines + 1) NotALine
+      → HasFault (lines ++ line ∷ more) (length lines + 1) LineFault.NotALine
   -- a line that says what can't happen there
   unfit_line : (lines : List (List ℕ)) (line : List ℕ) (more : List (List ℕ)) (list : List NumberedEvent) (told : Told)
       (fault : LineFault) → Tells lines list
@@ -140,7 +134,7 @@ pub data HasFault : List (List ℕ) → ℕ → LineFault → Type 0 where
   rows_missing : (lines : List (List ℕ)) (line : List ℕ) (more : List (List ℕ)) (list : List NumberedEvent)
       (session count : ℕ) → Tells lines list
       → reading_of_line line ≡ Awaits session count → filled more < count
-      → HasFault (lines ++ line ∷ more) (length lines + 1) RowsMissing
+      → HasFault (lines ++ line ∷ more) (length lines + 1) LineFault.RowsMissing
   -- enough lines have come in the place of rows, rows or not, and the return can't happen there
   unfit_rows : (lines : List (List ℕ)) (line : List ℕ) (more : List (List ℕ)) (list : List NumberedEvent)
       (session count : ℕ) (fault : LineFault) → Tells lines list
@@ -153,7 +147,7 @@ pub data HasFault : List (List ℕ) → ℕ → LineFault → Type 0 where
       → Tells lines list → reading_of_line line ≡ Awaits session count → Fits list (Returns session (ShowsRows []))
       → AreRows rows → filled rows < count
       → is_silent row ≡ false → row_said (unblank row) ≡ None → count ≤ filled (rows ++ row ∷ more)
-      → HasFault (lines ++ line ∷ (rows ++ row ∷ more)) (length lines + 1 + (length rows + 1)) NotARow
+      → HasFault (lines ++ line ∷ (rows ++ row ∷ more)) (length lines + 1 + (length rows + 1)) LineFault.NotARow
 
 -- the text `whole` begins with `text`
 abbrev pub Begins : List ℕ → List ℕ → Type 0

@@ -15,38 +15,18 @@
 --                                  events
 --     IsReplayed                   the same for the order of a legal verdict
 use Rattle.std.specs.Prelude.{◌≡◌, ◌≢◌, ℕ, ◌==◌, true, not, Option, Some, None, Ok, List, [], ◌∷◌, ◌++◌, codes, decimal}
-use Rattle.std.specs.Prelude.{slice_get}
-use Rattle.std.specs.List.{AllByRecursion, list_all}
-use Rattle.xa_xid.specs.Bytes.{unblank}
-use Rattle.xa_xid.specs.declared.statement.Statement.{Statement}
-use Rattle.xa_xid.specs.declared.statement.Statement.TheVariants.{Start, End, Prepare, Commit, Rollback, Recover}
-use Rattle.xa_xid.specs.declared.statement.Statement.TheVariants.{Unsupported, Get, Put, Del, Disconnect}
-use Rattle.xa_xid.specs.XidText.{IsWritable}
-use Rattle.xa_statement.specs.Canonical.{statement_text}
-use Rattle.xa_statement.specs.Grammar.{Spells}
-use Rattle.xa_statement.specs.Reading.{read_of}
-use Rattle.xa_server.specs.State.{State}
-use Rattle.xa_server.specs.Replies.{reply_to}
-use Rattle.xa_lines.specs.Script.{Given, line_of, lines_of}
-use Rattle.xa_lines.specs.Transcript.{run_text}
+use Rattle.std.specs.{Prelude.slice_get, List.{AllByRecursion, list_all}}
+use Rattle.xa_xid.specs.{Bytes.unblank, declared.statement.Statement.Statement, XidText.IsWritable}
+use Rattle.xa_statement.specs.{Canonical.statement_text, Grammar.Spells, Reading.read_of}
+use Rattle.xa_server.specs.{State.State, Replies.reply_to}
+use Rattle.xa_lines.specs.{Script.{Given, line_of, lines_of}, Transcript.run_text}
 use Rattle.xa_lines.specs.Printed.{reply_text, syntax_text, converts, answer_text}
-use Rattle.xa_judge.specs.declared.request.Request.{Request}
-use Rattle.xa_judge.specs.declared.request.Request.TheVariants.{Statement as Asked, Unread}
-use Rattle.xa_judge.specs.declared.event.Event.{Event}
-use Rattle.xa_judge.specs.declared.event.Event.TheVariants.{Call}
-use Rattle.xa_judge.specs.declared.verdict.Verdict.{Verdict}
-use Rattle.xa_judge.specs.declared.verdict.Verdict.TheVariants.{Legal as LegalBy}
-use Rattle.xa_judge.specs.declared.client_state.ClientState.{ClientState}
-use Rattle.xa_judge.specs.declared.client_state.ClientState.TheVariants.{Idle, Called, Answered, Gone, Left}
-use Rattle.xa_judge.specs.declared.moves.Act.{Act}
-use Rattle.xa_judge.specs.declared.moves.Act.TheVariants.{Statement as ItsStatement, Disconnect as ItsDisconnect}
-use Rattle.xa_judge.specs.declared.moves.Move.{Move}
-use Rattle.xa_judge.specs.declared.moves.Move.TheVariants.{Event as Seeing, Effect}
-use Rattle.xa_judge.specs.Explained.{Config, opening_config, effect_of, observed}
-use Rattle.xa_record.specs.Lines.{Told, Calls, Returns, ReturnsUnknown, Leaves}
-use Rattle.xa_record.specs.Reading.{NumberedEvent}
-use Rattle.xa_record.specs.Events.{request_read}
-use Rattle.xa_record.specs.VerdictText.{with_call, act_text, order_text, no_calls}
+use Rattle.xa_judge.specs.declared.request.Request.{Request, TheVariants.{Statement as Asked, Unread}}
+use Rattle.xa_judge.specs.declared.{event.Event.{Event, TheVariants.Call}, verdict.Verdict.Verdict, moves.Act.Act}
+use Rattle.xa_judge.specs.declared.{verdict.Verdict.TheVariants.Legal as LegalBy, client_state.ClientState.ClientState}
+use Rattle.xa_judge.specs.{declared.moves.Move.Move, Explained.{Config, opening_config, effect_of, observed}}
+use Rattle.xa_record.specs.{Lines.{Told, Calls, Returns, ReturnsUnknown, Leaves}, Reading.NumberedEvent}
+use Rattle.xa_record.specs.{Events.request_read, VerdictText.{with_call, act_text, order_text, no_calls}}
 
 -- the line of an effect, without its line feed
 abbrev pub effect_line : List (List ℕ) → ℕ → Act → List ℕ
@@ -56,10 +36,10 @@ effect_line calls session act = decimal session ++ codes " " ++ act_text act (sl
 -- for these texts last before them
 unfoldable pub order_lines : List (List ℕ) → List NumberedEvent → List Move → List (List ℕ)
 order_lines calls numbered [] = []
-order_lines calls numbered (Effect session act ∷ moves) =
+order_lines calls numbered (Move.Effect session act ∷ moves) =
     effect_line calls session act ∷ order_lines calls numbered moves
-order_lines calls [] (Seeing ∷ moves) = order_lines calls [] moves
-order_lines calls (numbered ∷ more) (Seeing ∷ moves) = order_lines (with_call numbered.told calls) more moves
+order_lines calls [] (Move.Event ∷ moves) = order_lines calls [] moves
+order_lines calls (numbered ∷ more) (Move.Event ∷ moves) = order_lines (with_call numbered.told calls) more moves
 
 -- lines, each with a line feed
 unfoldable pub joined : List (List ℕ) → List ℕ
@@ -85,16 +65,16 @@ AnswersSo state session Unread written = (place : ℕ) × (written ≡ answer_te
 -- what a session has called for that may still take effect
 abbrev pub open_request : Option ClientState → Option Request
 open_request None = None
-open_request (Some Idle) = None
-open_request (Some (Called request)) = Some request
-open_request (Some (Answered answer)) = None
-open_request (Some (Gone request)) = request
-open_request (Some Left) = None
+open_request (Some ClientState.Idle) = None
+open_request (Some (ClientState.Called request)) = Some request
+open_request (Some (ClientState.Answered answer)) = None
+open_request (Some (ClientState.Gone request)) = request
+open_request (Some ClientState.Left) = None
 
 -- what an act of a session carries out
 abbrev pub requested : Config → ℕ → Act → Option Request
-requested config session ItsStatement = open_request (slice_get config.clients session)
-requested config session ItsDisconnect = Some (Asked Disconnect)
+requested config session Act.Statement = open_request (slice_get config.clients session)
+requested config session Act.Disconnect = Some (Asked Statement.Disconnect)
 
 -- the line gives the request that takes effect by the act, and has no line feed in it
 pub record IsEffectLine (config : Config) (session : ℕ) (act : Act) (line : List ℕ) : Type 0 where
@@ -105,12 +85,12 @@ pub record IsEffectLine (config : Config) (session : ℕ) (act : Act) (line : Li
 
 -- the lines give what takes effect, in order, along moves that lead through the events
 abbrev pub AreEffects : Config → List Event → List Move → List (List ℕ) → Type 0
-AreEffects old events (Effect session act ∷ moves) [] = ⊥
-AreEffects old events (Effect session act ∷ moves) (line ∷ lines) =
+AreEffects old events (Move.Effect session act ∷ moves) [] = ⊥
+AreEffects old events (Move.Effect session act ∷ moves) (line ∷ lines) =
     (mid : Config) × (effect_of old session act ≡ Some mid) × IsEffectLine old session act line
     × AreEffects mid events moves lines
-AreEffects old [] (Seeing ∷ moves) lines = ⊥
-AreEffects old (event ∷ events) (Seeing ∷ moves) lines =
+AreEffects old [] (Move.Event ∷ moves) lines = ⊥
+AreEffects old (event ∷ events) (Move.Event ∷ moves) lines =
     (mid : Config) × (observed old event ≡ Some mid) × AreEffects mid events moves lines
 AreEffects old [] [] [] = Unit {0}
 AreEffects old [] [] (line ∷ lines) = ⊥
@@ -123,17 +103,17 @@ pub record IsWrittenBack (statement : Statement) : Type 0 where
 
 -- an identifier in a statement can be written, as each identifier of a program can; a statement without one is fit
 abbrev pub IsFit : Statement → Type 0
-IsFit (Start xid) = IsWritable xid
-IsFit (End xid) = IsWritable xid
-IsFit (Prepare xid) = IsWritable xid
-IsFit (Commit xid one_phase) = IsWritable xid
-IsFit (Rollback xid) = IsWritable xid
-IsFit (Recover convert) = Unit {0}
-IsFit Unsupported = Unit {0}
-IsFit (Get key) = Unit {0}
-IsFit (Put key value) = Unit {0}
-IsFit (Del key) = Unit {0}
-IsFit Disconnect = Unit {0}
+IsFit (Statement.Start xid) = IsWritable xid
+IsFit (Statement.End xid) = IsWritable xid
+IsFit (Statement.Prepare xid) = IsWritable xid
+IsFit (Statement.Commit xid one_phase) = IsWritable xid
+IsFit (Statement.Rollback xid) = IsWritable xid
+IsFit (Statement.Recover convert) = Unit {0}
+IsFit Statement.Unsupported = Unit {0}
+IsFit (Statement.Get key) = Unit {0}
+IsFit (Statement.Put key value) = Unit {0}
+IsFit (Statement.Del key) = Unit {0}
+IsFit Statement.Disconnect = Unit {0}
 
 -- the text begins with no blank and has no line feed
 pub record IsBare (text : List ℕ) : Type 0 where
@@ -156,7 +136,7 @@ AreBare numbered = AllByRecursion (λ one. IsBareTold one.told) numbered
 pub record IsWellCalled (text : List ℕ) : Type 0 where
   pub bare : unblank text ≡ text
   pub whole : HasNoFeed text
-  pub canonical : (statement : Statement) → read_of text ≡ Ok statement → statement ≢ Unsupported
+  pub canonical : (statement : Statement) → read_of text ≡ Ok statement → statement ≢ Statement.Unsupported
       → IsWrittenBack statement
 
 -- if this is a call, its text is as `IsWellCalled` says
@@ -173,7 +153,7 @@ AreWellCalled (numbered ∷ more) = IsWellTold numbered.told × AreWellCalled mo
 
 -- if the event calls for a statement that is supported, that is written back
 abbrev pub IsWrittenCall : Event → Type 0
-IsWrittenCall (Call session (Asked statement)) = statement ≢ Unsupported → IsWrittenBack statement
+IsWrittenCall (Call session (Asked statement)) = statement ≢ Statement.Unsupported → IsWrittenBack statement
 IsWrittenCall event = Unit {0}
 
 -- what `run` writes for what takes effect by an act of a session
@@ -185,12 +165,12 @@ pub record IsAnswered (config : Config) (session : ℕ) (act : Act) (written : L
 -- the text is one answer for each effect, in order, along moves that lead through the events; a return shows the
 -- answer that its session has there
 abbrev pub AnswersAlong : Config → List Event → List Move → List ℕ → Type 0
-AnswersAlong old events (Effect session act ∷ moves) written =
+AnswersAlong old events (Move.Effect session act ∷ moves) written =
     (mid : Config) × (answer rest : List ℕ) × (effect_of old session act ≡ Some mid) × IsAnswered old session act answer
     × (written ≡ answer ++ rest)
     × AnswersAlong mid events moves rest
-AnswersAlong old [] (Seeing ∷ moves) written = ⊥
-AnswersAlong old (event ∷ events) (Seeing ∷ moves) written =
+AnswersAlong old [] (Move.Event ∷ moves) written = ⊥
+AnswersAlong old (event ∷ events) (Move.Event ∷ moves) written =
     (mid : Config) × (observed old event ≡ Some mid) × AnswersAlong mid events moves written
 AnswersAlong old [] [] written = written ≡ []
 AnswersAlong old (event ∷ events) [] written = ⊥

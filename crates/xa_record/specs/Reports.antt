@@ -13,29 +13,13 @@
 --     IsReportOf          what is reported of a verdict
 use Rattle.std.specs.Prelude.{◌≡◌, ℕ, Bool, true, false, not, ◌&&◌, Option, Some, None, List, [], ◌∷◌, take}
 use Rattle.std.specs.BTreeSet.{insert_key}
-use Rattle.xa_xid.specs.Xid.{bytes_cmp}
-use Rattle.xa_xid.specs.declared.statement.Statement.{Statement}
-use Rattle.xa_xid.specs.declared.statement.Statement.TheVariants.{Get, Put, Del}
+use Rattle.xa_xid.specs.{Xid.bytes_cmp, declared.statement.Statement.Statement}
 use Rattle.xa_server.specs.State.{State}
 use Rattle.xa_lines.specs.Listing.{listing}
-use Rattle.xa_judge.specs.declared.request.Request.TheVariants.{Statement as Given}
-use Rattle.xa_judge.specs.declared.event.Event.{Event}
-use Rattle.xa_judge.specs.declared.event.Event.TheVariants.{Call}
-use Rattle.xa_judge.specs.declared.moves.Move.{Move}
-use Rattle.xa_judge.specs.declared.verdict.Verdict.{Verdict}
-use Rattle.xa_judge.specs.declared.verdict.Verdict.TheVariants.{Legal as LegalBy, Illegal as IllegalAt}
-use Rattle.xa_judge.specs.declared.verdict.Verdict.TheVariants.{Undecided as UndecidedAt}
-use Rattle.xa_judge.specs.Explained.{Config, opening_config, LeadsThrough}
-use Rattle.xa_judge.specs.Verdicts.{IsWide}
-use Rattle.xa_record.specs.declared.allowance.Allowance.{Allowance}
-use Rattle.xa_record.specs.declared.asked.Asked.{Asked}
-use Rattle.xa_record.specs.declared.outcome.Outcome.{Outcome}
-use Rattle.xa_record.specs.declared.outcome.Outcome.TheVariants.{Legal as IsLegal, Illegal as IsIllegal}
-use Rattle.xa_record.specs.declared.outcome.Outcome.TheVariants.{Undecided as IsUndecided, Faulty as IsFaulty}
-use Rattle.xa_record.specs.declared.outcome.Outcome.TheVariants.{Empty as IsEmpty}
-use Rattle.xa_record.specs.Reading.{NumberedEvent}
-use Rattle.xa_record.specs.Exchanges.{Exchange, exchange_sought}
-use Rattle.xa_record.specs.Shrinking.{IsSmallerSought}
+use Rattle.xa_judge.specs.{declared.{request.Request.Request, event.Event.Event, moves.Move.Move}, Verdicts.IsWide}
+use Rattle.xa_judge.specs.{declared.verdict.Verdict.Verdict, Explained.{Config, opening_config, LeadsThrough}}
+use Rattle.xa_record.specs.declared.{allowance.Allowance.Allowance, asked.Asked.Asked, outcome.Outcome.Outcome}
+use Rattle.xa_record.specs.{Reading.NumberedEvent, Exchanges.{Exchange, exchange_sought}, Shrinking.IsSmallerSought}
 use Rattle.xa_record.specs.VerdictText.{order_text, no_calls, texts_of, line_number_at}
 
 -- an order that explains what is before a line, and the store after it, each as its lines
@@ -66,22 +50,22 @@ pub data Report : Type 0 where
 
 -- how judging ends, by which of the five reports it is
 abbrev pub outcome_of : Report → Outcome
-outcome_of (Faulty faults) = IsFaulty
-outcome_of Empty = IsEmpty
-outcome_of (Legal order) = IsLegal
-outcome_of (Illegal number texts grounds) = IsIllegal
-outcome_of (Undecided number) = IsUndecided
+outcome_of (Faulty faults) = Outcome.Faulty
+outcome_of Empty = Outcome.Empty
+outcome_of (Legal order) = Outcome.Legal
+outcome_of (Illegal number texts grounds) = Outcome.Illegal
+outcome_of (Undecided number) = Outcome.Undecided
 
 -- these rows and the one that a statement names; only GET, PUT and DEL name one
 abbrev pub with_row_of : Statement → List (List ℕ) → List (List ℕ)
-with_row_of (Get key) keys = insert_key bytes_cmp keys key
-with_row_of (Put key value) keys = insert_key bytes_cmp keys key
-with_row_of (Del key) keys = insert_key bytes_cmp keys key
+with_row_of (Statement.Get key) keys = insert_key bytes_cmp keys key
+with_row_of (Statement.Put key value) keys = insert_key bytes_cmp keys key
+with_row_of (Statement.Del key) keys = insert_key bytes_cmp keys key
 with_row_of statement keys = keys
 
 -- these keys and the one that an event's call names
 abbrev pub with_row_called : Event → List (List ℕ) → List (List ℕ)
-with_row_called (Call session (Given statement)) keys = with_row_of statement keys
+with_row_called (Event.Call session (Request.Statement statement)) keys = with_row_of statement keys
 with_row_called event keys = keys
 
 -- these rows and those that calls name, each once, ascending by their bytes
@@ -129,10 +113,10 @@ pub record AreGrounds (base : State) (allowances : List Allowance) (lines : List
 -- what is reported of a verdict on the events of these lines, which begin in a state
 abbrev pub IsReportOf : State → List Allowance → List (List ℕ) → Asked → List NumberedEvent → List Event → Verdict
     → Report → Type 0
-IsReportOf base allowances lines asked numbered events (LegalBy moves) report =
+IsReportOf base allowances lines asked numbered events (Verdict.Legal moves) report =
     report ≡ Legal (order_text no_calls numbered moves.items)
-IsReportOf base allowances lines asked numbered events (IllegalAt place answers) report =
+IsReportOf base allowances lines asked numbered events (Verdict.Illegal place answers) report =
     (grounds : Grounds) × AreGrounds base allowances lines asked numbered events place grounds
     × (report ≡ Illegal (line_number_at numbered place) (texts_of answers.items) grounds)
-IsReportOf base allowances lines asked numbered events (UndecidedAt place) report =
+IsReportOf base allowances lines asked numbered events (Verdict.Undecided place) report =
     report ≡ Undecided (line_number_at numbered place)

@@ -4,11 +4,8 @@
 --     row_said           the identifier that a line is
 use Rattle.std.specs.Prelude.{ℕ, ◌+◌, ◌==◌, ◌&&◌, nat_le, if◌then◌else◌, Option, Some, None, Result, Ok, Err, List, ◌∷◌}
 use Rattle.std.specs.Prelude.{take, drop}
-use Rattle.hex.specs.Hex.{decode_sized}
-use Rattle.hex.specs.declared.error.FromHexError.{FromHexError}
-use Rattle.xa_xid.specs.Bytes.{belongs, front}
-use Rattle.xa_xid.specs.Limits.{text_bytes}
-use Rattle.xa_xid.specs.declared.byte_class.ByteClass.TheVariants.{Decimal}
+use Rattle.hex.specs.{Hex.decode_sized, declared.error.FromHexError.FromHexError}
+use Rattle.xa_xid.specs.{Bytes.{belongs, front}, Limits.text_bytes, declared.byte_class.ByteClass.TheVariants.Decimal}
 use Rattle.xa_xid.specs.declared.xid.Xid.{Xid}
 use Rattle.xa_lines.specs.Script.{is_empty_line, first_word, behind_word, number_of_word}
 

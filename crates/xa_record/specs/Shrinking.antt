@@ -10,16 +10,9 @@ use Rattle.std.specs.Prelude.{◌≡◌, ℕ, Bool, true, false, Option, Some, N
 use Rattle.xa_xid.specs.Bytes.{unblank}
 use Rattle.xa_server.specs.State.{State}
 use Rattle.xa_lines.specs.Script.{lines_of}
-use Rattle.xa_judge.specs.declared.event.Event.{Event}
-use Rattle.xa_judge.specs.declared.verdict.Verdict.{Verdict}
-use Rattle.xa_judge.specs.declared.verdict.Verdict.TheVariants.{Legal, Illegal, Undecided}
-use Rattle.xa_judge.specs.Verdicts.{IsVerdict}
-use Rattle.xa_record.specs.declared.allowance.Allowance.{Allowance}
-use Rattle.xa_record.specs.declared.asked.Asked.{Asked}
-use Rattle.xa_record.specs.Events.{AreEvents}
-use Rattle.xa_record.specs.FaultyLines.{faulty_text}
-use Rattle.xa_record.specs.Reading.{NumberedEvent}
-use Rattle.xa_record.specs.Records.{Tells}
+use Rattle.xa_judge.specs.{declared.{event.Event.Event, verdict.Verdict.Verdict}, Verdicts.IsVerdict}
+use Rattle.xa_record.specs.{declared.{allowance.Allowance.Allowance, asked.Asked.Asked}, Events.AreEvents}
+use Rattle.xa_record.specs.{FaultyLines.faulty_text, Reading.NumberedEvent, Records.Tells}
 
 -- a line without the blanks at its beginning and with a line feed at its end, if it is chosen; else nothing
 abbrev pub line_if : Bool → List ℕ → List ℕ
@@ -34,9 +27,9 @@ chosen_text (keeps ∷ more) (line ∷ lines) = line_if keeps line ++ chosen_tex
 
 -- a verdict says that no order explains what was seen
 abbrev pub is_illegal : Verdict → Bool
-is_illegal (Legal moves) = false
-is_illegal (Illegal place answers) = true
-is_illegal (Undecided place) = false
+is_illegal (Verdict.Legal moves) = false
+is_illegal (Verdict.Illegal place answers) = true
+is_illegal (Verdict.Undecided place) = false
 
 -- a right verdict on events is that no order explains them
 abbrev pub AreUnexplained : State → List Event → (limit : ℕ) → Type 0

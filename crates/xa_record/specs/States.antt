@@ -2,13 +2,9 @@
 --     NamesAllRows     each row that has a value is one of these
 --     IsStateOf        the text lists the state: every branch, and rows, among them every row that has a value
 --     leaves_rows      the session's statement leaves the committed values of rows as they are, as its kind shows
-use Rattle.std.specs.Prelude.{◌≡◌, ◌≢◌, ℕ, Bool, true, false, None, List}
-use Rattle.std.specs.List.{Contains}
-use Rattle.xa_xid.specs.declared.statement.Statement.{Statement}
-use Rattle.xa_xid.specs.declared.statement.Statement.TheVariants.{Commit, Put, Del}
-use Rattle.xa_server.specs.declared.association.Association.{Association}
-use Rattle.xa_server.specs.declared.association.Association.TheVariants.{Free}
-use Rattle.xa_server.specs.State.{State, committed_value}
+use Rattle.std.specs.{Prelude.{◌≡◌, ◌≢◌, ℕ, Bool, true, false, None, List}, List.Contains}
+use Rattle.xa_xid.specs.declared.statement.Statement.{Statement, TheVariants.{Commit, Put, Del}}
+use Rattle.xa_server.specs.{declared.association.Association.Association, State.{State, committed_value}}
 use Rattle.xa_lines.specs.Listing.{listing}
 
 -- each row that has a value is one of these
@@ -25,6 +21,6 @@ pub record IsStateOf (text : List ℕ) (state : State) : Type 0 where
 -- free session writes no row. A refused one leaves them too, also if this is false
 abbrev pub leaves_rows : Association → Statement → Bool
 leaves_rows association (Commit xid one_phase) = false
-leaves_rows Free (Put key value) = false
-leaves_rows Free (Del key) = false
+leaves_rows Association.Free (Put key value) = false
+leaves_rows Association.Free (Del key) = false
 leaves_rows association statement = true

@@ -7,26 +7,16 @@
 --     line_number_at     the number of the line that tells the event at a place
 --     line_text          the first line of a verdict that names a line
 use Rattle.std.specs.Prelude.{ℕ, true, Option, Some, None, Result, Ok, Err, List, [], ◌∷◌, ◌++◌, codes, decimal}
-use Rattle.std.specs.Prelude.{slice_get, slice_set, replicate}
-use Rattle.std.specs.BTreeSet.{insert_key}
-use Rattle.xa_xid.specs.Xid.{bytes_cmp}
-use Rattle.xa_xid.specs.declared.statement.Statement.{Statement}
-use Rattle.xa_xid.specs.declared.statement.Statement.TheVariants.{Unsupported}
-use Rattle.xa_statement.specs.Canonical.{statement_text}
-use Rattle.xa_statement.specs.Reading.{read_of}
+use Rattle.std.specs.{Prelude.{slice_get, slice_set, replicate}, BTreeSet.insert_key}
+use Rattle.xa_xid.specs.{Xid.bytes_cmp, declared.statement.Statement.Statement}
+use Rattle.xa_statement.specs.{Canonical.statement_text, Reading.read_of}
 use Rattle.xa_lines.specs.Printed.{reply_text}
-use Rattle.xa_judge.specs.declared.answer.Answer.{Answer}
-use Rattle.xa_judge.specs.declared.answer.Answer.TheVariants.{Reply as Replied, Unread as NotRead}
-use Rattle.xa_judge.specs.declared.moves.Act.{Act}
-use Rattle.xa_judge.specs.declared.moves.Act.TheVariants.{Statement as ItsStatement, Disconnect as ItsDisconnect}
-use Rattle.xa_judge.specs.declared.moves.Move.{Move}
-use Rattle.xa_judge.specs.declared.moves.Move.TheVariants.{Event as Seeing, Effect}
-use Rattle.xa_record.specs.Lines.{Told, Calls}
-use Rattle.xa_record.specs.Reading.{NumberedEvent}
+use Rattle.xa_judge.specs.declared.{answer.Answer.Answer, moves.{Act.Act, Move.Move}}
+use Rattle.xa_record.specs.{Lines.{Told, Calls}, Reading.NumberedEvent}
 
 -- the canonical form of a statement, or its text if it has none
 abbrev pub canonical_text : Statement → List ℕ → List ℕ
-canonical_text Unsupported text = text
+canonical_text Statement.Unsupported text = text
 canonical_text statement text = statement_text statement
 
 -- the canonical form of the statement that a text was read as, if it has one; any other text as it is
@@ -50,8 +40,8 @@ text_of_call (Some text) = call_text text
 
 -- what is written for a session's act: what it called for last, or DISCONNECT
 abbrev pub act_text : Act → Option (List ℕ) → List ℕ
-act_text ItsStatement call = text_of_call call
-act_text ItsDisconnect call = codes "DISCONNECT"
+act_text Act.Statement call = text_of_call call
+act_text Act.Disconnect call = codes "DISCONNECT"
 
 -- the line of an effect: the session, and the statement
 abbrev pub effect_text : List (List ℕ) → ℕ → Act → List ℕ
@@ -61,10 +51,10 @@ effect_text calls session act = decimal session ++ codes " " ++ act_text act (sl
 -- texts last before them
 unfoldable pub order_text : List (List ℕ) → List NumberedEvent → List Move → List ℕ
 order_text calls numbered [] = []
-order_text calls numbered (Effect session act ∷ moves) =
+order_text calls numbered (Move.Effect session act ∷ moves) =
     effect_text calls session act ++ order_text calls numbered moves
-order_text calls [] (Seeing ∷ moves) = order_text calls [] moves
-order_text calls (numbered ∷ more) (Seeing ∷ moves) = order_text (with_call numbered.told calls) more moves
+order_text calls [] (Move.Event ∷ moves) = order_text calls [] moves
+order_text calls (numbered ∷ more) (Move.Event ∷ moves) = order_text (with_call numbered.told calls) more moves
 
 -- at the beginning no session has called for a text; place 0 belongs to no session
 abbrev pub no_calls : List (List ℕ)
@@ -73,8 +63,8 @@ no_calls = replicate 17 []
 -- a reply as `run` prints it, with rows as CONVERT XID prints them; for a text that isn't a statement `ERROR 1064`
 -- alone, without what `run` prints behind it
 abbrev pub answer_text : Answer → List ℕ
-answer_text (Replied reply) = reply_text true reply
-answer_text NotRead = codes "ERROR 1064"
+answer_text (Answer.Reply reply) = reply_text true reply
+answer_text Answer.Unread = codes "ERROR 1064"
 
 -- these texts and those of answers, each once, ascending by their bytes
 unfoldable pub with_answers : List (List ℕ) → List Answer → List (List ℕ)

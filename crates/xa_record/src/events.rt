@@ -1,10 +1,8 @@
 //! The events that the lines of a record say.
-ghost use Rattle.std.specs.Prelude.{◌≡◌, ◌++◌, [], None, map, IfOk, OnOk};
-ghost use Rattle.std.specs.List.Sorted.{IsPermutation, IsSorted};
+ghost use Rattle.std.specs.{Prelude.{◌≡◌, ◌++◌, [], None, map, IfOk, OnOk}, List.Sorted.{IsPermutation, IsSorted}};
 ghost use Rattle.xa_xid.specs.Xid.{xid_cmp};
 ghost use Rattle.xa_record.specs.Events.{request_called, others_shown, IsSeen, IsEvent, AreEvents, AreCalls};
-ghost use Rattle.xa_record.specs.Rows.{row_said};
-ghost use Rattle.xa_record.specs.Kept.{row_before, rows_kept, shown_kept, told_kept, numbered_kept};
+ghost use Rattle.xa_record.specs.{Rows.row_said, Kept.{row_before, rows_kept, shown_kept, told_kept, numbered_kept}};
 
 use crate::allowance::{Allowance, others_for};
 use crate::asked_kinds::AskedKinds;

@@ -1,11 +1,8 @@
 //! Writes what was seen at an ILLEGAL line, and its call.
-ghost use Rattle.std.specs.Prelude.{◌≡◌, ◌++◌, ◌<◌, None, OnOk, IfOk, map, length};
-ghost use Rattle.std.specs.Option.{option_map};
-ghost use Rattle.xa_record.specs.Events.{AreCalls};
-ghost use Rattle.xa_record.specs.Exchanges.{shown_text, seen_line, is_call_by, last_call, call_line};
+ghost use Rattle.std.specs.{Prelude.{◌≡◌, ◌++◌, ◌<◌, None, OnOk, IfOk, map, length}, Option.option_map};
+ghost use Rattle.xa_record.specs.{Events.AreCalls, Exchanges.{shown_text, seen_line, is_call_by, last_call, call_line}};
 ghost use Rattle.xa_record.specs.Exchanges.{exchange_with as exchange_of, exchange_at, exchange_sought};
-ghost use Rattle.xa_record.specs.Kept.{told_kept, shown_kept, numbered_kept, exchange_kept};
-ghost use Rattle.xa_record.specs.Reading.{notes_of};
+ghost use Rattle.xa_record.specs.{Kept.{told_kept, shown_kept, numbered_kept, exchange_kept}, Reading.notes_of};
 
 use crate::events::{request_of, rows_in};
 use crate::exchange::Exchange;

@@ -1,13 +1,9 @@
 //! Explains an ILLEGAL verdict: an order of what comes before its line, and the store after that order.
-ghost use Rattle.std.specs.Prelude.{◌≡◌, ◌<◌, ℕ, length, IfOk, MatchOption, take};
-ghost use Rattle.xa_judge.specs.Explained.{Config, opening_config, LeadsThrough, Explained};
+ghost use Rattle.std.specs.{Prelude.{◌≡◌, ◌<◌, ℕ, length, IfOk, MatchOption, take}, Option.option_map};
+ghost use Rattle.xa_judge.specs.{Explained.{Config, opening_config, LeadsThrough, Explained}, Verdicts.IsWide};
 ghost use Rattle.xa_lines.specs.Listing.{listing};
-ghost use Rattle.xa_record.specs.Events.{AreCalls};
-ghost use Rattle.xa_judge.specs.Verdicts.{IsWide};
-ghost use Rattle.xa_record.specs.Kept.{reason_kept};
-ghost use Rattle.xa_record.specs.Reading.{notes_of};
+ghost use Rattle.xa_record.specs.{Events.AreCalls, Kept.reason_kept, Reading.notes_of};
 ghost use Rattle.xa_record.specs.Reports.{keys_named, is_reason_asked, IsReason, IsReasonFound, IsReasonSought};
-ghost use Rattle.std.specs.Option.{option_map};
 
 use crate::asked::Asked;
 use crate::lines_again::order_before;

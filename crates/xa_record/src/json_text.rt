@@ -1,13 +1,10 @@
 //! Writes reports as JSON.
 ghost use Rattle.std.specs.Prelude.{◌≡◌, ◌++◌, ◌∷◌, [], codes, decimal, OnOk, IfOk, map, string_bytes, encode_utf8_all};
 ghost use Rattle.std.specs.Option.{option_map};
-ghost use Rattle.json.specs.Json.{no_members};
-ghost use Rattle.json.specs.Token.{key, string, number};
-ghost use Rattle.json.specs.Tree.{json_tokens, members_tokens};
+ghost use Rattle.json.specs.{Json.no_members, Token.{key, string, number}, Tree.{json_tokens, members_tokens}};
 ghost use Rattle.xa_lines.specs.Script.{lines_of};
 ghost use Rattle.xa_record.specs.Forms.{text_value, texts_value, with_could_be, with_exchange, with_reason};
-ghost use Rattle.xa_record.specs.Forms.{with_smaller};
-ghost use Rattle.xa_record.specs.Forms.{report_members, json_text as text_of_report};
+ghost use Rattle.xa_record.specs.Forms.{with_smaller, report_members, json_text as text_of_report};
 ghost use Rattle.xa_record.specs.Kept.{reason_kept, grounds_kept, report_kept};
 
 use crate::exchange::Exchange;

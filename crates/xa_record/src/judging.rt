@@ -1,12 +1,9 @@
 //! Judges the text of a record.
 ghost use Rattle.std.specs.Prelude.{◌≡◌, IfOk};
 ghost use Rattle.xa_lines.specs.Script.{lines_of};
-ghost use Rattle.xa_record.specs.Events.{AreCalls, AreEvents};
-ghost use Rattle.xa_record.specs.Forms.{text_in as text_of_report};
+ghost use Rattle.xa_record.specs.{Events.{AreCalls, AreEvents}, Forms.text_in as text_of_report};
 ghost use Rattle.xa_record.specs.Judged.{IsJudgement, IsReported, IsReportedOfNotes, IsJudged, IsJudgedFrom};
-ghost use Rattle.xa_record.specs.Kept.{notes_kept, report_kept};
-ghost use Rattle.xa_record.specs.Reading.{notes_of, notes_by};
-ghost use Rattle.xa_record.specs.Replaying.{AreBare};
+ghost use Rattle.xa_record.specs.{Kept.{notes_kept, report_kept}, Reading.{notes_of, notes_by}, Replaying.AreBare};
 
 use crate::allowance::Allowance;
 use crate::asked::Asked;

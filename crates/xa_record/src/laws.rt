@@ -1,19 +1,13 @@
 //! What holds of all records: laws, stated as contracts of functions that do nothing.
 ghost use Rattle.std.specs.Prelude.{◌≡◌, ◌≢◌, ℕ, List, []};
 ghost use Rattle.xa_server.specs.State.{State};
-ghost use Rattle.xa_judge.specs.declared.event.Event.{Event};
-ghost use Rattle.xa_judge.specs.declared.moves.Move.{Move};
-ghost use Rattle.xa_judge.specs.declared.request.Request.{Request};
+ghost use Rattle.xa_judge.specs.declared.{event.Event.Event, moves.Move.Move, request.Request.Request};
 ghost use Rattle.xa_judge.specs.Explained.{Config, opening_config, LeadsThrough, next_state};
-ghost use Rattle.xa_lines.specs.Script.{line_of, lines_of};
-ghost use Rattle.xa_lines.specs.Transcript.{answer_of, state_after_line};
-ghost use Rattle.xa_record.specs.declared.allowance.Allowance.{Allowance};
-ghost use Rattle.xa_record.specs.Events.{AreEvents};
-ghost use Rattle.xa_record.specs.VerdictText.{order_text, no_calls};
+ghost use Rattle.xa_lines.specs.{Script.{line_of, lines_of}, Transcript.{answer_of, state_after_line}};
+ghost use Rattle.xa_record.specs.declared.{allowance.Allowance.Allowance, line_fault.LineFault.LineFault};
+ghost use Rattle.xa_record.specs.{Events.AreEvents, VerdictText.{order_text, no_calls}};
 ghost use Rattle.xa_record.specs.Replaying.{order_lines, joined, GivesRequest, AnswersSo, AreEffects, AreWellCalled};
-ghost use Rattle.xa_record.specs.declared.line_fault.LineFault.{LineFault};
-ghost use Rattle.xa_record.specs.Reading.{NumberedEvent, fault_text, notes_of};
-ghost use Rattle.xa_record.specs.Records.{Tells, HasFault, Begins};
+ghost use Rattle.xa_record.specs.{Reading.{NumberedEvent, fault_text, notes_of}, Records.{Tells, HasFault, Begins}};
 
 /// States that a record without a faulty line is read as its lines tell by the rules, and that lines that tell events
 /// by the rules have no fault and are read as these. Texts of calls aren't tested. Does nothing when it is called.

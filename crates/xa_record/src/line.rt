@@ -1,11 +1,10 @@
 //! Reads a line of a record.
 ghost use Rattle.std.specs.Prelude.{◌≡◌, Some};
 ghost use Rattle.xa_lines.specs.Script.{first_word, behind_word as behind_word_of, number_of_word};
-ghost use Rattle.xa_record.specs.Rows.{leading_number as leading_number_of};
-ghost use Rattle.xa_record.specs.Lines.{alone, is_silent as is_silent_line, trimmed as trimmed_text, value_said};
-ghost use Rattle.xa_record.specs.Lines.{rows_said, error_said};
-ghost use Rattle.xa_record.specs.Lines.{return_said, unknown_said, loss_said, session_said, reading_of_line, Says};
-ghost use Rattle.xa_record.specs.Lines.{Awaits, Calls, Returns, ReturnsUnknown, Leaves, Closed, ShowsValue};
+ghost use Rattle.xa_record.specs.{Rows.leading_number as leading_number_of, Lines.{alone, is_silent as is_silent_line}};
+ghost use Rattle.xa_record.specs.Lines.{trimmed as trimmed_text, value_said, rows_said, error_said, return_said};
+ghost use Rattle.xa_record.specs.Lines.{unknown_said, loss_said, session_said, reading_of_line, Says, Awaits, Calls};
+ghost use Rattle.xa_record.specs.Lines.{Returns, ReturnsUnknown, Leaves, Closed, ShowsValue};
 ghost use Rattle.xa_record.specs.Kept.{shown_kept, line_kept};
 ghost use Rattle.xa_xid.specs.Literal.{literal_ahead};
 

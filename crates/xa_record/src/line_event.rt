@@ -1,7 +1,6 @@
 //! The events of a record, as its lines say them.
 ghost use Rattle.std.specs.Prelude.{◌≡◌, Some, option_copied};
-ghost use Rattle.xa_record.specs.Reading.{session_of, presence_after, cause_of, is_return_of};
-ghost use Rattle.xa_record.specs.Reading.{fault_called};
+ghost use Rattle.xa_record.specs.Reading.{session_of, presence_after, cause_of, is_return_of, fault_called};
 ghost use Rattle.xa_record.specs.Kept.{told_kept};
 
 use crate::line_fault::LineFault;

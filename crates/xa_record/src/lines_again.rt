@@ -3,9 +3,7 @@
 //! The lines of a long record take more memory than anything else that is read of it. So they aren't kept
 //! while it is judged.
 ghost use Rattle.std.specs.Prelude.{◌≡◌, ◌≤◌, length, map, take, IfOk};
-ghost use Rattle.xa_record.specs.Events.{AreCalls};
-ghost use Rattle.xa_record.specs.Kept.{numbered_kept};
-ghost use Rattle.xa_record.specs.Reading.{notes_of};
+ghost use Rattle.xa_record.specs.{Events.AreCalls, Kept.numbered_kept, Reading.notes_of};
 ghost use Rattle.xa_record.specs.VerdictText.{order_text, no_calls, line_number_at};
 
 use crate::line_event::NumberedEvent;

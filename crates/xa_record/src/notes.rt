@@ -1,13 +1,9 @@
 //! What was read of a record so far.
-ghost use Rattle.std.specs.Prelude.{◌≡◌, ◌≤◌, OnOk, length, map, slice_get, option_copied};
-ghost use Rattle.std.specs.Option.{option_map};
+ghost use Rattle.std.specs.{Prelude.{◌≡◌, ◌≤◌, OnOk, length, map, slice_get, option_copied}, Option.option_map};
 ghost use Rattle.xa_record.specs.Reading.{no_notes, blamed, blamed_too, note_of, up_to_return as up_to_return_of};
-ghost use Rattle.xa_record.specs.Reading.{beyond, cause_of, fault_called, note_strictly};
-ghost use Rattle.xa_record.specs.Reading.{note_closed, returned, awaiting, with_row, noted_row, noted_said, noted_line};
-ghost use Rattle.xa_record.specs.Reading.{session_of};
-ghost use Rattle.xa_record.specs.Reading.{ended_by};
-ghost use Rattle.xa_record.specs.Rows.{row_said};
-ghost use Rattle.xa_record.specs.Kept.{told_kept, numbered_kept, awaited_kept, line_kept, notes_kept};
+ghost use Rattle.xa_record.specs.Reading.{beyond, cause_of, fault_called, note_strictly, note_closed, returned};
+ghost use Rattle.xa_record.specs.Reading.{awaiting, with_row, noted_row, noted_said, noted_line, session_of, ended_by};
+ghost use Rattle.xa_record.specs.{Rows.row_said, Kept.{told_kept, numbered_kept, awaited_kept, line_kept, notes_kept}};
 
 use crate::line::{RecordLine, is_silent, read_record_line};
 use crate::line_event::{LineEvent, NumberedEvent};

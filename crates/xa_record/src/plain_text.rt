@@ -1,6 +1,5 @@
 //! Writes reports as lines.
-ghost use Rattle.std.specs.Prelude.{◌≡◌, ◌++◌, OnOk, IfOk, map};
-ghost use Rattle.std.specs.Option.{option_map};
+ghost use Rattle.std.specs.{Prelude.{◌≡◌, ◌++◌, OnOk, IfOk, map}, Option.option_map};
 ghost use Rattle.xa_record.specs.VerdictText.{answers_text, line_text};
 ghost use Rattle.xa_record.specs.Forms.{reason_text, exchange_text, smaller_text, plain_text as text_of_report};
 ghost use Rattle.xa_record.specs.Kept.{reason_kept, exchange_kept, report_kept};

@@ -1,7 +1,6 @@
 //! Reads a record line by line.
 ghost use Rattle.std.specs.Prelude.{◌≡◌, IfOk};
-ghost use Rattle.xa_record.specs.Reading.{notes_by};
-ghost use Rattle.xa_record.specs.Kept.{notes_kept};
+ghost use Rattle.xa_record.specs.{Reading.notes_by, Kept.notes_kept};
 
 use crate::notes::Notes;
 use std::alloc::Global;

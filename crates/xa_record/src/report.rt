@@ -1,7 +1,6 @@
 //! What is reported of a record, in any form.
 ghost use Rattle.std.specs.Prelude.{◌≡◌};
-ghost use Rattle.xa_record.specs.Reports.{outcome_of};
-ghost use Rattle.xa_record.specs.Kept.{report_kept};
+ghost use Rattle.xa_record.specs.{Reports.outcome_of, Kept.report_kept};
 
 use crate::grounds::Grounds;
 use crate::outcome::Outcome;

@@ -2,9 +2,7 @@
 ghost use Rattle.std.specs.Prelude.{◌≡◌, IfOk, map};
 ghost use Rattle.xa_judge.specs.Verdicts.{IsVerdict, IsRefuted};
 ghost use Rattle.xa_lines.specs.Script.{lines_of};
-ghost use Rattle.xa_record.specs.Events.{AreCalls};
-ghost use Rattle.xa_record.specs.Kept.{report_kept, grounds_kept};
-ghost use Rattle.xa_record.specs.Reading.{notes_of};
+ghost use Rattle.xa_record.specs.{Events.AreCalls, Kept.{report_kept, grounds_kept}, Reading.notes_of};
 ghost use Rattle.xa_record.specs.Reports.{IsReportOf, AreGrounds};
 ghost use Rattle.xa_record.specs.VerdictText.{answer_text as text_of_answer, texts_of};
 

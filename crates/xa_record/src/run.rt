@@ -4,8 +4,7 @@ ghost use Rattle.std.specs.Io.KnownBytes.{Appends, IsAtEnd};
 ghost use Rattle.xa_lines.specs.Calls.{HasWritten, StopsWriting, Completes, Stops};
 ghost use Rattle.xa_lines.specs.Transcript.{AppendsPrefix, ConsumesMoreThan};
 ghost use Rattle.xa_record.specs.Judged.{record_bytes, record_reads, AppendsJudged, AfterJudgeFault, IsJudgedText};
-ghost use Rattle.xa_record.specs.Judged.{IsFaultOfJudging};
-ghost use Rattle.xa_record.specs.Judged.{AppendsJudgedFrom, AfterJudgeFaultFrom, IsJudgedTextFrom};
+ghost use Rattle.xa_record.specs.Judged.{IsFaultOfJudging, AppendsJudgedFrom, AfterJudgeFaultFrom, IsJudgedTextFrom};
 
 use crate::allowance::Allowance;
 use crate::asked::Asked;

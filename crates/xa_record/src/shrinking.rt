@@ -1,6 +1,5 @@
 //! Looks for a smaller record that no order explains either.
-ghost use Rattle.std.specs.Prelude.{◌≡◌, true, IfOk};
-ghost use Rattle.std.specs.Option.{option_map};
+ghost use Rattle.std.specs.{Prelude.{◌≡◌, true, IfOk}, Option.option_map};
 ghost use Rattle.xa_lines.specs.Script.{lines_of};
 ghost use Rattle.xa_record.specs.Shrinking.{is_illegal, AreUnexplained, IsUnexplained, IsSmallerIfSome};
 ghost use Rattle.xa_record.specs.Shrinking.{IsSmallerSought};

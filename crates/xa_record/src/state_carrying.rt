@@ -1,7 +1,6 @@
 //! Statements of branches, which leave the committed values of rows as they are.
 ghost use Rattle.std.specs.Prelude.{◌≡◌, true, false, IfOk, OnOk};
-ghost use Rattle.xa_server.specs.State.{association_of};
-ghost use Rattle.xa_server.specs.declared.association.Association.{Association};
+ghost use Rattle.xa_server.specs.{State.association_of, declared.association.Association.Association};
 ghost use Rattle.xa_server.specs.declared.reply.Reply.{Reply};
 ghost use Rattle.xa_record.specs.States.{leaves_rows as leaves_rows_by};
 

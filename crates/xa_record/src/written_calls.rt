@@ -1,7 +1,6 @@
 //! Statements of calls are read back as they are written in an order. These functions do nothing. Their contracts
 //! state that.
-ghost use Rattle.std.specs.Prelude.{◌≢◌};
-ghost use Rattle.std.specs.List.{All};
+ghost use Rattle.std.specs.{Prelude.◌≢◌, List.All};
 ghost use Rattle.xa_record.specs.Replaying.{IsFit, IsWrittenBack, IsWrittenCall};
 
 use xa_judge::{Event, Request};

@@ -1,8 +1,6 @@
 -- What holds of the texts of several readers, such as histories, one after another; and what is as it was is kept.
 use Rattle.std.proofs.Common.{◌≡◌, ◌∙◌, ◌++◌, ◌∷◌, [], ℕ, List, Option, Some, None, map, refl, sym, ap, subst}
-use Rattle.std.specs.Prelude.{IfSome}
-use Rattle.std.specs.Io.KnownBytes.{Keeps}
-use Rattle.std.proofs.lemmas.List.{map_push, map-id}
+use Rattle.std.{proofs.lemmas.List.{map_push, map-id}, specs.{Prelude.IfSome, Io.KnownBytes.Keeps}}
 
 -- if the values of `all` and then `last` are known to be `texts`, these are a front and one value more: `all` has the
 -- front, and `last` has that value

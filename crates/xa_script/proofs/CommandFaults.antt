@@ -2,14 +2,10 @@
 use Rattle.std.proofs.Common.{◌≡◌, ◌∙◌, true, [], refl, sym, ap, subst, inl, List, Option, Result, Err}
 use Rattle.std.specs.Option.{IsSomeAnd}
 use Rattle.clap.specs.Words.{App, Text, HasKind, HasMatchesOf, Row, fault_of, is_simple, is_simple_and_free}
-use Rattle.clap.specs.Words.{subcommand_of, subcommand_rows_of}
-use Rattle.clap.specs.declared.error.Error.{Error}
-use Rattle.clap.proofs.OnLiterals.{clap_on_literals}
-use Rattle.clap.specs.declared.parser.matches.ArgMatches.{ArgMatches}
-use Rattle.xa_script.specs.CommandLine.{script_app, IsJob, Names}
-use Rattle.xa_script.specs.Manner.{IsLine, ReadsLine, Says}
-use Rattle.xa_script.specs.declared.command.Job.{Job}
-use Rattle.xa_script.specs.declared.command_line.CommandLine.{CommandLine}
+use Rattle.clap.specs.{Words.{subcommand_of, subcommand_rows_of}, declared.error.Error.Error}
+use Rattle.clap.{specs.declared.parser.matches.ArgMatches.ArgMatches, proofs.OnLiterals.clap_on_literals}
+use Rattle.xa_script.specs.{CommandLine.{script_app, IsJob, Names}, Manner.{IsLine, ReadsLine, Says}}
+use Rattle.xa_script.specs.declared.{command.Job.Job, command_line.CommandLine.CommandLine}
 
 -- the program's command line is simple, and no option of it has a rule on another
 simple_and_free : is_simple_and_free script_app ≡ true

@@ -1,7 +1,6 @@
 -- The lines of texts that are written for several records.
 use Rattle.std.proofs.Common.{◌≡◌, ◌==◌, ◌++◌, ◌∙◌, ℕ, List, [], true, length, ap, sym, append-nil}
-use Rattle.xa_lines.specs.Script.{lines_of}
-use Rattle.xa_lines.proofs.JsonWritten.{lines-none}
+use Rattle.xa_lines.{specs.Script.lines_of, proofs.JsonWritten.lines-none}
 use Rattle.xa_script.specs.Listing.{first_of, first_line, notes_of}
 
 -- the first line of an empty text is empty

@@ -1,12 +1,9 @@
 -- What a writer of texts owes. `old` and `new` are what its inner writer has got, if that is known; `due` is what has
 -- to be written, `given` how many bytes of that are written, and `held` what was taken of the line (`src/texts.rt`).
 use Rattle.std.proofs.Common.{◌≡◌, ◌∙◌, ◌+◌, ◌-◌, ◌++◌, ℕ, List, [], Option, Some, None, ap, ap₂, sym, append-nil}
-use Rattle.std.proofs.Common.{subst, length, take, drop, Result, Ok, Err, inl, inr, ◌⊎◌, ◌<◌, ◌≤◌, false}
-use Rattle.std.proofs.Common.{arith}
-use Rattle.std.proofs.lemmas.Bool.{cases_lt}
-use Rattle.std.proofs.lemmas.List.{append_assoc, take_rest, take-append-drop, drop-drop}
-use Rattle.std.specs.Io.KnownBytes.{Appends, Keeps, append_known}
-use Rattle.std.specs.Prelude.{OnOk}
+use Rattle.std.proofs.Common.{subst, length, take, drop, Result, Ok, Err, inl, inr, ◌⊎◌, ◌<◌, ◌≤◌, false, arith}
+use Rattle.std.proofs.lemmas.{Bool.cases_lt, List.{append_assoc, take_rest, take-append-drop, drop-drop}}
+use Rattle.std.specs.{Io.KnownBytes.{Appends, Keeps, append_known}, Prelude.OnOk}
 use Rattle.xa_script.specs.TextLines.{ends_line}
 
 -- the bytes that are still due are the first `count` of them, and then the others

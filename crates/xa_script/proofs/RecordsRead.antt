@@ -1,18 +1,11 @@
 -- A record that was read whole, and judged.
 use Rattle.std.proofs.Common.{◌≡◌, ℕ, Option, Some, None, Result, Ok, Err, List, inl, inr, subst}
-use Rattle.std.specs.Prelude.{IfSome, IfOk, IfErr}
-use Rattle.std.specs.Io.KnownBytes.{Consumes, IsAtEnd}
-use Rattle.xa_lines.specs.declared.script_fault.ScriptFault.{ScriptFault}
-use Rattle.xa_lines.specs.declared.script_fault.ScriptFault.TheVariants.{Read, TooLong, Write, NoMemory, Full, GateShut}
-use Rattle.xa_lines.specs.declared.script_fault.ScriptFault.TheVariants.{ThreadRefused}
-use Rattle.xa_lines.specs.Transcript.{IsOfReading}
+use Rattle.std.specs.{Prelude.{IfSome, IfOk, IfErr}, Io.KnownBytes.{Consumes, IsAtEnd}}
+use Rattle.xa_lines.specs.{declared.script_fault.ScriptFault.ScriptFault, Transcript.IsOfReading}
 use Rattle.xa_server.specs.State.{State}
-use Rattle.xa_record.specs.declared.allowance.Allowance.{Allowance}
-use Rattle.xa_record.specs.declared.asked.Asked.{Asked}
+use Rattle.xa_record.specs.declared.{allowance.Allowance.Allowance, asked.Asked.Asked}
 use Rattle.xa_record.specs.Judged.{AppendsJudgedFrom, AppendsJudgedPrefix, AfterJudgeFaultFrom}
-use Rattle.xa_script.specs.Status.{AppendsVerdict}
-use Rattle.xa_script.proofs.Allowed.{read_whole}
-use Rattle.xa_script.proofs.Audited.{kept_all}
+use Rattle.xa_script.{specs.Status.AppendsVerdict, proofs.{Allowed.read_whole, Audited.kept_all}}
 
 -- if a reader gave these bytes and is at its end, `input`, which had the same bytes, has these and no more
 pub all_read : (input first rest : Option (List ℕ)) (given : List ℕ) → first ≡ input → Consumes first rest given
@@ -39,31 +32,31 @@ pub faulted_whole : (base : State) (allowances : List Allowance) (asked : Asked)
     → IfErr result (λ fault. AfterJudgeFaultFrom base allowances asked fault (Some given) old new)
     → IfErr result (λ fault. AfterJudgeFaultFrom base allowances asked fault input old new)
 faulted_whole base allowances asked (Ok status) given input rest old new read end left = tt
-faulted_whole base allowances asked (Err Read) given input rest old new read end left = left
-faulted_whole base allowances asked (Err TooLong) given input rest old new read end left = left
-faulted_whole base allowances asked (Err Write) given input rest old new read end left =
+faulted_whole base allowances asked (Err ScriptFault.Read) given input rest old new read end left = left
+faulted_whole base allowances asked (Err ScriptFault.TooLong) given input rest old new read end left = left
+faulted_whole base allowances asked (Err ScriptFault.Write) given input rest old new read end left =
     read_whole (λ text. AppendsJudgedPrefix base allowances asked text old new) input rest given read end left
-faulted_whole base allowances asked (Err NoMemory) given input rest old new read end left = left
-faulted_whole base allowances asked (Err Full) given input rest old new read end left = left
-faulted_whole base allowances asked (Err GateShut) given input rest old new read end left = left
-faulted_whole base allowances asked (Err ThreadRefused) given input rest old new read end left = left
+faulted_whole base allowances asked (Err ScriptFault.NoMemory) given input rest old new read end left = left
+faulted_whole base allowances asked (Err ScriptFault.Full) given input rest old new read end left = left
+faulted_whole base allowances asked (Err ScriptFault.GateShut) given input rest old new read end left = left
+faulted_whole base allowances asked (Err ScriptFault.ThreadRefused) given input rest old new read end left = left
 
 -- a writer that is as it was is what a fault of reading leaves (`AfterJudgeFaultFrom`)
 pub unread : (base : State) (allowances : List Allowance) (asked : Asked) (fault : ScriptFault)
     (input contents : Option (List ℕ)) → IsOfReading fault
     → AfterJudgeFaultFrom base allowances asked fault input contents contents
-unread base allowances asked Read input contents of = kept_all contents
-unread base allowances asked TooLong input contents of = kept_all contents
-unread base allowances asked NoMemory input contents of = kept_all contents
-unread base allowances asked Write input contents (inl e) = cc
-unread base allowances asked Write input contents (inr (inl e)) = cc
-unread base allowances asked Write input contents (inr (inr e)) = cc
-unread base allowances asked Full input contents (inl e) = cc
-unread base allowances asked Full input contents (inr (inl e)) = cc
-unread base allowances asked Full input contents (inr (inr e)) = cc
-unread base allowances asked GateShut input contents (inl e) = cc
-unread base allowances asked GateShut input contents (inr (inl e)) = cc
-unread base allowances asked GateShut input contents (inr (inr e)) = cc
-unread base allowances asked ThreadRefused input contents (inl e) = cc
-unread base allowances asked ThreadRefused input contents (inr (inl e)) = cc
-unread base allowances asked ThreadRefused input contents (inr (inr e)) = cc
+unread base allowances asked ScriptFault.Read input contents of = kept_all contents
+unread base allowances asked ScriptFault.TooLong input contents of = kept_all contents
+unread base allowances asked ScriptFault.NoMemory input contents of = kept_all contents
+unread base allowances asked ScriptFault.Write input contents (inl e) = cc
+unread base allowances asked ScriptFault.Write input contents (inr (inl e)) = cc
+unread base allowances asked ScriptFault.Write input contents (inr (inr e)) = cc
+unread base allowances asked ScriptFault.Full input contents (inl e) = cc
+unread base allowances asked ScriptFault.Full input contents (inr (inl e)) = cc
+unread base allowances asked ScriptFault.Full input contents (inr (inr e)) = cc
+unread base allowances asked ScriptFault.GateShut input contents (inl e) = cc
+unread base allowances asked ScriptFault.GateShut input contents (inr (inl e)) = cc
+unread base allowances asked ScriptFault.GateShut input contents (inr (inr e)) = cc
+unread base allowances asked ScriptFault.ThreadRefused input contents (inl e) = cc
+unread base allowances asked ScriptFault.ThreadRefused input contents (inr (inl e)) = cc
+unread base allowances asked ScriptFault.ThreadRefused input contents (inr (inr e)) = cc

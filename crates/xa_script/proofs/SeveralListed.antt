@@ -1,13 +1,10 @@
 -- What is written for several records, one after another.
 use Rattle.std.proofs.Common.{◌≡◌, ◌∙◌, ◌+◌, ◌++◌, ◌∷◌, [], ℕ, Bool, List, Option, Some, None, map, length, refl, sym}
 use Rattle.std.proofs.Common.{ap, subst, arith, append-nil, length-append}
-use Rattle.std.specs.Prelude.{IfSome}
-use Rattle.std.proofs.lemmas.List.{append_assoc, map_push, map-id}
+use Rattle.std.{proofs.lemmas.List.{append_assoc, map_push, map-id}, specs.Prelude.IfSome}
 use Rattle.xa_server.specs.State.{State}
-use Rattle.xa_record.specs.declared.allowance.Allowance.{Allowance}
-use Rattle.xa_record.specs.declared.asked.Asked.{Asked}
-use Rattle.xa_script.specs.Listing.{worse, worst_from, piece, pieces}
-use Rattle.xa_script.specs.Several.{IsVerdictOn, AreVerdicts, IsListing}
+use Rattle.xa_record.specs.declared.{allowance.Allowance.Allowance, asked.Asked.Asked}
+use Rattle.xa_script.specs.{Listing.{worse, worst_from, piece, pieces}, Several.{IsVerdictOn, AreVerdicts, IsListing}}
 use Rattle.xa_script.proofs.Audited.{taken_more}
 
 -- the worst of `first`, `statuses` and `status` is the worse of the worst of the others and `status`

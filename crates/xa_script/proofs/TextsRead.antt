@@ -1,12 +1,8 @@
 -- Texts in quotes are literals of their bytes.
 use Rattle.std.proofs.Common.{◌≡◌, ◌∙◌, ℕ, ◌≤◌, Bool, true, false, ◌==◌, ◌||◌, if◌then◌else◌, List, [], ◌∷◌, ◌++◌}
-use Rattle.std.proofs.Common.{length, Ok, refl, sym, ap, subst, append-nil}
-use Rattle.std.proofs.lemmas.Bool.{eqb-true, eqb-false}
-use Rattle.xa_xid.specs.Bytes.{StartsNo}
-use Rattle.xa_xid.specs.Literal.{Reading, LiteralAt, text_literal, literal_ahead, kept, sized}
-use Rattle.xa_xid.specs.Quoted.{Quoted, close, doubled, escape, plain, escaped}
-use Rattle.xa_xid.specs.Xid.{Text}
-use Rattle.xa_xid.proofs.Texts.{kept-fits}
+use Rattle.std.proofs.{Common.{length, Ok, refl, sym, ap, subst, append-nil}, lemmas.Bool.{eqb-true, eqb-false}}
+use Rattle.xa_xid.specs.{Bytes.StartsNo, Literal.{Reading, LiteralAt, text_literal, literal_ahead, kept, sized}}
+use Rattle.xa_xid.{specs.{Quoted.{Quoted, close, doubled, escape, plain, escaped}, Xid.Text}, proofs.Texts.kept-fits}
 use Rattle.xa_script.specs.Texts.{between_quotes, quoted, are_printable, word_text, said_or}
 
 -- in a text in quotes, a backslash (92) that is written twice stands for one

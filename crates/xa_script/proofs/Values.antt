@@ -1,7 +1,6 @@
 -- What the values of options without a value say.
 use Rattle.std.proofs.Common.{◌≡◌, ◌∙◌, ℕ, Bool, true, false, refl, sym, ap, List, length, Option, Some, None, codes}
-use Rattle.std.proofs.Common.{arith}
-use Rattle.std.specs.Prelude.{◌≢◌, Result, Ok, Err, unwrap_or}
+use Rattle.std.{proofs.Common.arith, specs.Prelude.{◌≢◌, Result, Ok, Err, unwrap_or}}
 use Rattle.std.specs.Str.Parse.{ParsesBool, true_text, false_text}
 use Rattle.clap.specs.Words.{Text, ReadsOne}
 use Rattle.xa_script.specs.CommandLine.{IsFlagOf}

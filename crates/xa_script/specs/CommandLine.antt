@@ -10,22 +10,13 @@
 --     CanBeDone       the numbers of a job are in their ranges
 --     audit_asked, ReadsInput      whether an audit is an object of JSON, of a job to audit;  the job isn't to audit
 use Rattle.std.specs.Prelude.{◌≡◌, ◌≢◌, ◌≤◌, ℕ, Bool, true, false, Option, Some, None, IfSome, List, [], ◌∷◌, codes}
-use Rattle.std.specs.Option.{IsSomeAnd}
-use Rattle.std.specs.Str.Parse.{IsNumeral, digits_value, without_leading_plus}
+use Rattle.std.specs.{Option.IsSomeAnd, Str.Parse.{IsNumeral, digits_value, without_leading_plus}}
 use Rattle.clap.specs.Words.{App, Text, Row, Rule, new_app, new_rule, one_of, subcommand_of, with_rule, with_subcommand}
-use Rattle.clap.specs.Simple.{on_top}
-use Rattle.clap.specs.Lexer.{usize_max}
-use Rattle.clap.specs.declared.builder.value_parser.ValueParser.{ValueParser}
-use Rattle.clap.specs.declared.builder.value_parser.ValueParser.TheVariants as parser
-use Rattle.clap.specs.declared.builder.action.ArgAction.TheVariants.{SetTrue}
-use Rattle.clap.specs.declared.builder.command.Command.{Command}
-use Rattle.clap.specs.declared.builder.command.Command.TheViews.{out-Command}
+use Rattle.clap.specs.{Simple.on_top, Lexer.usize_max, declared.builder.value_parser.ValueParser.ValueParser}
+use Rattle.clap.specs.declared.builder.{action.ArgAction.ArgAction, command.Command.{Command, TheViews.out-Command}}
 use Rattle.decision_log.specs.Opens.{IsCapacity}
-use Rattle.xa_script.specs.declared.schedule.Schedule.{Schedule}
-use Rattle.xa_script.specs.declared.schedule.Schedule.TheVariants.{Freely, Together, Shuffled}
-use Rattle.xa_script.specs.declared.command.Job.{Job}
-use Rattle.xa_script.specs.declared.command.Job.TheVariants.{Run, Race, Coordinate, Serve, Show, Judge, Explore, Stops}
-use Rattle.xa_script.specs.declared.command.Job.TheVariants.{Audit}
+use Rattle.xa_script.specs.declared.{schedule.Schedule.Schedule, command.Job.Job}
+use Rattle.clap.specs.declared.builder.value_parser.ValueParser.TheVariants as parser
 
 -- `--NAME N`, whose N this parser reads, with a default
 abbrev pub number_rule : Text → ValueParser → Text → Rule
@@ -34,7 +25,7 @@ number_rule name reads default =
 
 -- `--NAME`, which has no value
 abbrev pub flag_rule : Text → Rule
-flag_rule name = record (new_rule name) { long = Some name; action = Some SetTrue }
+flag_rule name = record (new_rule name) { long = Some name; action = Some ArgAction.SetTrue }
 
 -- an option `--NAME FILE`, whose value may be any text
 abbrev pub named_file_rule : Text → Rule
@@ -209,9 +200,9 @@ HasNoSeed shuffle = (seed : ℕ) → IsSomeAnd shuffle (IsSeedText seed) → ⊥
 -- how the sessions come to their lines, by the values of `--together` and `--shuffle`; with a seed `--together`
 -- changes nothing
 abbrev pub IsScheduleOf : (together shuffle : Option Text) → Schedule → Type 0
-IsScheduleOf together shuffle Freely = HasNoSeed shuffle × (together ≢ Some (codes "true"))
-IsScheduleOf together shuffle Together = HasNoSeed shuffle × (together ≡ Some (codes "true"))
-IsScheduleOf together shuffle (Shuffled seed) = IsSomeAnd shuffle (IsSeedText seed)
+IsScheduleOf together shuffle Schedule.Freely = HasNoSeed shuffle × (together ≢ Some (codes "true"))
+IsScheduleOf together shuffle Schedule.Together = HasNoSeed shuffle × (together ≡ Some (codes "true"))
+IsScheduleOf together shuffle (Schedule.Shuffled seed) = IsSomeAnd shuffle (IsSeedText seed)
 
 -- whether an option that takes no value is given: `clap` then has the text `true` for it
 abbrev pub IsFlagOf : (flag : Option Text) → Bool → Type 0
@@ -225,38 +216,38 @@ IsRunsOf runs (Some count) = IsSomeAnd runs (IsLimitText count)
 
 -- the name of a job's subcommand
 abbrev pub name_of : Job → Text
-name_of Run = codes "run"
-name_of (Race capacity schedule renews runs) = codes "race"
-name_of (Coordinate stores capacity fixed) = codes "coordinate"
-name_of Serve = codes "serve"
-name_of Show = codes "show"
-name_of (Judge limit explain json strict shrink) = codes "judge"
-name_of (Explore limit) = codes "explore"
-name_of (Stops stores capacity) = codes "stops"
-name_of (Audit json) = codes "audit"
+name_of Job.Run = codes "run"
+name_of (Job.Race capacity schedule renews runs) = codes "race"
+name_of (Job.Coordinate stores capacity fixed) = codes "coordinate"
+name_of Job.Serve = codes "serve"
+name_of Job.Show = codes "show"
+name_of (Job.Judge limit explain json strict shrink) = codes "judge"
+name_of (Job.Explore limit) = codes "explore"
+name_of (Job.Stops stores capacity) = codes "stops"
+name_of (Job.Audit json) = codes "audit"
 
 -- the values of the options say this job
 abbrev pub HasOptions : Job → List Row → Type 0
-HasOptions Run rows = Unit {0}
-HasOptions (Race capacity schedule renews runs) rows =
+HasOptions Job.Run rows = Unit {0}
+HasOptions (Job.Race capacity schedule renews runs) rows =
     IsSomeAnd (one_of (codes "capacity") rows) (IsCapacityText capacity)
     × IsScheduleOf (one_of (codes "together") rows) (one_of (codes "shuffle") rows) schedule
     × IsFlagOf (one_of (codes "renew") rows) renews × IsRunsOf (one_of (codes "runs") rows) runs
-HasOptions (Coordinate stores capacity fixed) rows =
+HasOptions (Job.Coordinate stores capacity fixed) rows =
     IsSomeAnd (one_of (codes "stores") rows) (IsStoresText stores)
     × IsSomeAnd (one_of (codes "capacity") rows) (IsCapacityText capacity)
     × IsFlagOf (one_of (codes "fixed") rows) fixed
-HasOptions Serve rows = Unit {0}
-HasOptions Show rows = Unit {0}
-HasOptions (Judge limit explain json strict shrink) rows =
+HasOptions Job.Serve rows = Unit {0}
+HasOptions Job.Show rows = Unit {0}
+HasOptions (Job.Judge limit explain json strict shrink) rows =
     IsSomeAnd (one_of (codes "limit") rows) (IsLimitText limit)
     × IsFlagOf (one_of (codes "explain") rows) explain × IsFlagOf (one_of (codes "json") rows) json
     × IsFlagOf (one_of (codes "strict-calls") rows) strict × IsFlagOf (one_of (codes "shrink") rows) shrink
-HasOptions (Explore limit) rows = IsSomeAnd (one_of (codes "limit") rows) (IsLimitText limit)
-HasOptions (Stops stores capacity) rows =
+HasOptions (Job.Explore limit) rows = IsSomeAnd (one_of (codes "limit") rows) (IsLimitText limit)
+HasOptions (Job.Stops stores capacity) rows =
     IsSomeAnd (one_of (codes "stores") rows) (IsStoresText stores)
     × IsSomeAnd (one_of (codes "capacity") rows) (IsCapacityText capacity)
-HasOptions (Audit json) rows = IsFlagOf (one_of (codes "json") rows) json
+HasOptions (Job.Audit json) rows = IsFlagOf (one_of (codes "json") rows) json
 
 -- the job of a subcommand, with what `clap` found for its arguments
 abbrev pub IsJob : Job → Text × List Row → Type 0
@@ -268,19 +259,19 @@ Names words job = IsSomeAnd (subcommand_of script_app words) (IsJob job)
 
 -- a log can have the capacity, there are 1 to 16 stores, and a limit and a number of runs are from 1 to 1,000,000
 abbrev pub CanBeDone : Job → Type 0
-CanBeDone Run = Unit {0}
-CanBeDone (Race capacity schedule renews runs) = IsCapacity capacity × IfSome runs IsLimit
-CanBeDone (Coordinate stores capacity fixed) = IsStoreCount stores × IsCapacity capacity
-CanBeDone Serve = Unit {0}
-CanBeDone Show = Unit {0}
-CanBeDone (Judge limit explain json strict shrink) = IsLimit limit
-CanBeDone (Explore limit) = IsLimit limit
-CanBeDone (Stops stores capacity) = IsStoreCount stores × IsCapacity capacity
-CanBeDone (Audit json) = Unit {0}
+CanBeDone Job.Run = Unit {0}
+CanBeDone (Job.Race capacity schedule renews runs) = IsCapacity capacity × IfSome runs IsLimit
+CanBeDone (Job.Coordinate stores capacity fixed) = IsStoreCount stores × IsCapacity capacity
+CanBeDone Job.Serve = Unit {0}
+CanBeDone Job.Show = Unit {0}
+CanBeDone (Job.Judge limit explain json strict shrink) = IsLimit limit
+CanBeDone (Job.Explore limit) = IsLimit limit
+CanBeDone (Job.Stops stores capacity) = IsStoreCount stores × IsCapacity capacity
+CanBeDone (Job.Audit json) = Unit {0}
 
 -- whether an audit is written as an object of JSON, if the job is to audit
 abbrev pub audit_asked : Job → Option Bool
-audit_asked (Audit json) = Some json
+audit_asked (Job.Audit json) = Some json
 audit_asked job = None
 
 -- the job reads one input: it isn't to audit

@@ -2,10 +2,8 @@
 -- docs/HISTORIES.md.
 --     foreign_of    in which of these forms a text is, if it is in one
 use Rattle.std.specs.Prelude.{ℕ, Bool, true, false, not, ◌==◌, ◌&&◌, ◌||◌, nat_le, if◌then◌else◌, Option, Some, None}
-use Rattle.std.specs.Prelude.{List, [], ◌∷◌}
-use Rattle.std.specs.List.{list_any}
-use Rattle.xa_script.specs.declared.foreign.Foreign.{Foreign}
-use Rattle.xa_script.specs.declared.foreign.Foreign.TheVariants.{Marked, Utf16, Returns, Mixed}
+use Rattle.std.specs.{Prelude.{List, [], ◌∷◌}, List.list_any}
+use Rattle.xa_script.specs.declared.foreign.Foreign.{Foreign, TheVariants.{Marked, Utf16, Returns, Mixed}}
 
 -- the text begins with the byte order mark of UTF-8
 abbrev pub begins_with_mark : List ℕ → Bool

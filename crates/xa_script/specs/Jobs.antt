@@ -13,29 +13,19 @@
 -- Nothing here knows of `--verbose`, or of `--quiet` of `judge`: they change no byte of the output, as `--strict`
 -- doesn't, which changes a status alone (`HasListed`, `IsLookedAt`). `--quiet` of `audit` is in the audit's form.
 use Rattle.std.specs.Prelude.{◌≡◌, ◌⊎◌, ℕ, Bool, true, false, Option, Some, None, Result, Err, List, IfOk, IfSome, OnOk}
-use Rattle.std.specs.Prelude.{MatchResult, []}
-use Rattle.std.specs.Io.KnownBytes.{Keeps, Appends}
-use Rattle.std.specs.Io.Buffered.{writer_contents, writer_buffer}
-use Rattle.std.specs.declared.io.buffered.BufWriter.{BufWriter}
+use Rattle.std.specs.{Prelude.{MatchResult, []}, Io.KnownBytes.{Keeps, Appends}}
+use Rattle.std.specs.{Io.Buffered.{writer_contents, writer_buffer}, declared.io.buffered.BufWriter.BufWriter}
 use Rattle.xa_server.specs.State.{State}
-use Rattle.xa_lines.specs.declared.script_fault.ScriptFault.{ScriptFault}
-use Rattle.xa_lines.specs.declared.script_fault.ScriptFault.TheVariants.{Write}
-use Rattle.xa_lines.specs.Transcript.{transcript, AfterFault}
-use Rattle.xa_lines.specs.Uncommented.{uncommented}
-use Rattle.xa_lines.specs.Writing.{AppendsObjects, AfterObjects}
+use Rattle.xa_lines.specs.{declared.script_fault.ScriptFault.ScriptFault, Transcript.{transcript, AfterFault}}
+use Rattle.xa_lines.specs.{Uncommented.uncommented, Writing.{AppendsObjects, AfterObjects}}
 use Rattle.xa_races.specs.Came.{AfterRunsFault}
 use Rattle.xa_orders.specs.Scripts.{AfterExploreFault}
 use Rattle.xa_manager.specs.Scripts.{AfterStopsFault}
-use Rattle.xa_record.specs.Judged.{AfterJudgeFaultFrom}
-use Rattle.xa_record.specs.declared.allowance.Allowance.{Allowance}
-use Rattle.xa_record.specs.declared.asked.Asked.{Asked}
+use Rattle.xa_record.specs.{Judged.AfterJudgeFaultFrom, declared.{allowance.Allowance.Allowance, asked.Asked.Asked}}
 use Rattle.xa_audit.specs.declared.form.Form.{Form as AuditForm}
-use Rattle.xa_script.specs.declared.command.Job.{Job}
-use Rattle.xa_script.specs.declared.command.Job.TheVariants.{Run, Race, Coordinate, Serve, Show, Judge, Explore, Stops}
-use Rattle.xa_script.specs.declared.command.Job.TheVariants.{Audit}
-use Rattle.xa_script.specs.Status.{AppendsVerdict, AppendsOutcomes, AppendsRaceBy, AppendsCame, AppendsStopped}
+use Rattle.xa_script.specs.{declared.command.Job.Job, Status.{AppendsVerdict, AppendsOutcomes, AppendsRaceBy}}
+use Rattle.xa_script.specs.Status.{AppendsCame, AppendsStopped, AppendsAuditBy, AfterAuditing, asked_of, end_of}
 use Rattle.xa_script.specs.Several.{ListsAll, AfterListing}
-use Rattle.xa_script.specs.Status.{AppendsAuditBy, AfterAuditing, asked_of, end_of}
 
 -- how a job ended: with a status, or in a fault
 abbrev pub End : Type 0
@@ -134,26 +124,26 @@ pub record IsFlushed {W A : Type 0} (contents : W → Option (List ℕ)) (Left :
   pub written : Option (List ℕ)
   pub left : Left written done
   pub kept : Keeps written (writer_contents contents new)
-  pub ends : (result ≡ done) ⊎ (result ≡ Err Write)
+  pub ends : (result ≡ done) ⊎ (result ≡ Err ScriptFault.Write)
   pub emptied : OnOk result (writer_buffer new ≡ [])
 
 -- the job was done as its own definition says; `base` and the allowances are those with which a record is judged. An
 -- audit isn't done so, since it reads several inputs
 abbrev pub HasDone : {W A : Type 0} → (W → Option (List ℕ)) → Job → (json : Bool) → (base : State)
     → (allowances : List Allowance) → (input old : Option (List ℕ)) → (new : BufWriter W A) → End → Type 0
-HasDone contents Run json base allowances input old new done = IsFlushed contents (HasRun input old) new done
-HasDone contents (Race capacity schedule renews runs) json base allowances input old new done =
+HasDone contents Job.Run json base allowances input old new done = IsFlushed contents (HasRun input old) new done
+HasDone contents (Job.Race capacity schedule renews runs) json base allowances input old new done =
     IsFlushed contents (HasRacedAll json renews capacity runs input old) new done
-HasDone contents (Coordinate stores capacity fixed) json base allowances input old new done = HasConversed done
-HasDone contents Serve json base allowances input old new done = HasConversed done
-HasDone contents Show json base allowances input old new done = HasConversed done
-HasDone contents (Judge limit explain object strict shrink) json base allowances input old new done =
+HasDone contents (Job.Coordinate stores capacity fixed) json base allowances input old new done = HasConversed done
+HasDone contents Job.Serve json base allowances input old new done = HasConversed done
+HasDone contents Job.Show json base allowances input old new done = HasConversed done
+HasDone contents (Job.Judge limit explain object strict shrink) json base allowances input old new done =
     IsFlushed contents (HasJudged base allowances (asked_of limit explain object strict shrink) input old) new done
-HasDone contents (Explore limit) json base allowances input old new done =
+HasDone contents (Job.Explore limit) json base allowances input old new done =
     IsFlushed contents (HasExplored json limit input old) new done
-HasDone contents (Stops stores capacity) json base allowances input old new done =
+HasDone contents (Job.Stops stores capacity) json base allowances input old new done =
     IsFlushed contents (HasStopped json stores input old) new done
-HasDone contents (Audit object) json base allowances input old new done = ⊥
+HasDone contents (Job.Audit object) json base allowances input old new done = ⊥
 
 -- a job ended as `Done` says, and then `end_of` made its result by `faulty`: whether one of its lines was faulty, or
 -- None if memory was refused for finding that out. No line was faulty if lines weren't looked at; if they were, it isn't

@@ -7,9 +7,8 @@
 --     heading              what is written before the first
 --     is_list              whether verdicts are listed, a piece for each
 --     only_of              the name of a single record
-use Rattle.std.specs.Prelude.{◌==◌, ◌+◌, ◌++◌, ◌∷◌, [], ◌||◌, if◌then◌else◌, nat_lt, ℕ, Bool, true, false, List}
-use Rattle.std.specs.Prelude.{Option, Some, None}
-use Rattle.std.specs.Prelude.{codes, decimal}
+use Rattle.std.specs.Prelude.{◌==◌, ◌+◌, ◌++◌, ◌∷◌, [], ◌||◌, if◌then◌else◌, nat_lt, ℕ, Bool, true, false, List, Option}
+use Rattle.std.specs.Prelude.{Some, None, codes, decimal}
 use Rattle.xa_lines.specs.Script.{lines_of}
 
 -- the worse of two statuses: the least that isn't 0, or 0 if both are. ILLEGAL goes before UNDECIDED, then faulty

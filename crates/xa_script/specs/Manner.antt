@@ -5,16 +5,12 @@
 --     HasExcess    more files than a job takes, or one that is named twice
 --     ReadsLine    what is read of the words
 use Rattle.std.specs.Prelude.{◌≡◌, ◌≢◌, ◌<◌, ◌⊎◌, Option, None, List, [], codes, length, map, unwrap_or, Result}
-use Rattle.std.specs.Prelude.{MatchResult}
-use Rattle.std.specs.Option.{IsSomeAnd, option_map}
+use Rattle.std.specs.{Prelude.MatchResult, Option.{IsSomeAnd, option_map}}
 use Rattle.clap.specs.Words.{HasKind, Row, Text, all_of, fault_of, first_of, one_of, subcommand_of}
 use Rattle.clap.specs.declared.error.Error.{Error}
-use Rattle.xa_script.specs.CommandLine.{IsFlagOf, IsJob, Names, script_app}
-use Rattle.xa_script.specs.declared.command.Job.{Job}
-use Rattle.xa_script.specs.declared.command_line.CommandLine.{CommandLine}
-use Rattle.xa_script.specs.declared.histories.Histories.{Histories}
-use Rattle.xa_script.specs.declared.manner.Manner.{Manner}
-use Rattle.xa_script.specs.declared.records.Records.{Records}
+use Rattle.xa_script.specs.{CommandLine.{IsFlagOf, IsJob, Names, script_app}, declared.command.Job.Job}
+use Rattle.xa_script.specs.declared.{command_line.CommandLine.CommandLine, histories.Histories.Histories}
+use Rattle.xa_script.specs.declared.{manner.Manner.Manner, records.Records.Records}
 
 -- each file is the value of its option, and each flag is as its option says
 abbrev pub IsManner : List Row → Manner → Type 0

@@ -6,8 +6,7 @@
 --     Takes          what a writer of texts does with the bytes that it takes: one of these three
 use Rattle.std.specs.Prelude.{◌≡◌, ◌≤◌, ◌<◌, ℕ, ◌+◌, true, false, not, List, [], ◌++◌, ◌⊎◌, length, take, drop, Option}
 use Rattle.std.specs.Io.KnownBytes.{Appends, append_known}
-use Rattle.xa_script.specs.declared.line_form.LineForm.{LineForm}
-use Rattle.xa_script.specs.declared.texts.Texts.{Texts}
+use Rattle.xa_script.specs.declared.{line_form.LineForm.LineForm, texts.Texts.Texts}
 use Rattle.xa_script.specs.TextLines.{unfed, is_fed, rows_after, ends_line, IsWrittenAs}
 
 -- what was written, and then what is still due

@@ -9,17 +9,11 @@
 --     judging_asked        what is asked of judging, if the job is to judge
 use Rattle.std.specs.Prelude.{◌≡◌, ◌+◌, ◌++◌, ◌∷◌, [], ℕ, Bool, Option, Some, None, List, length, map, IfSome}
 use Rattle.std.specs.Io.KnownBytes.{Keeps, Appends}
-use Rattle.xa_lines.specs.Transcript.{AppendsPrefix}
-use Rattle.xa_lines.specs.declared.script_fault.ScriptFault.{ScriptFault}
-use Rattle.xa_lines.specs.declared.script_fault.ScriptFault.TheVariants.{Write}
+use Rattle.xa_lines.specs.{Transcript.AppendsPrefix, declared.script_fault.ScriptFault.{ScriptFault, TheVariants.Write}}
 use Rattle.xa_server.specs.State.{State}
-use Rattle.xa_record.specs.declared.allowance.Allowance.{Allowance}
-use Rattle.xa_record.specs.declared.asked.Asked.{Asked}
-use Rattle.xa_script.specs.Listing.{worse, worst_from, piece, pieces, heading}
-use Rattle.xa_script.specs.Status.{AppendsVerdict, asked_of, strict_status}
-use Rattle.xa_script.specs.declared.command.Job.{Job}
-use Rattle.xa_script.specs.declared.listed.Listed.{Listed}
-use Rattle.xa_script.specs.declared.command.Job.TheVariants.{Judge}
+use Rattle.xa_record.specs.declared.{allowance.Allowance.Allowance, asked.Asked.Asked}
+use Rattle.xa_script.specs.{Listing.{worse, worst_from, piece, pieces, heading}, declared.listed.Listed.Listed}
+use Rattle.xa_script.specs.{Status.{AppendsVerdict, asked_of, strict_status}, declared.command.Job.Job}
 
 -- a status and a text are what judging this record alone comes to
 abbrev pub IsVerdictOn : State → List Allowance → Asked → (seen : List ℕ) → ℕ × List ℕ → Type 0
@@ -80,5 +74,5 @@ AfterListing base allowances asked tap names records fault old new = Keeps old n
 
 -- what is asked of judging, if the job is to judge
 abbrev pub judging_asked : Job → Option Asked
-judging_asked (Judge limit explain json strict shrink) = Some (asked_of limit explain json strict shrink)
+judging_asked (Job.Judge limit explain json strict shrink) = Some (asked_of limit explain json strict shrink)
 judging_asked job = None

@@ -20,44 +20,27 @@
 --     asked_of         what is asked of judging
 --     IsAllowedBy      what a text allows
 use Rattle.std.specs.Prelude.{◌≡◌, ◌==◌, ◌&&◌, ℕ, Bool, true, false, Option, Some, None, Result, Ok, Err, List, IfSome}
-use Rattle.std.specs.Prelude.{if◌then◌else◌}
-use Rattle.std.specs.Io.KnownBytes.{Keeps}
-use Rattle.xa_audit.specs.Audits.{AppendsAudit, AppendsAuditPrefix}
-use Rattle.xa_audit.specs.declared.ended.Ended.{Ended as AuditEnded}
-use Rattle.xa_audit.specs.declared.ended.Ended.TheVariants.{AllAtomic, SomeNotAtomic, Unread}
+use Rattle.std.specs.{Prelude.if◌then◌else◌, Io.KnownBytes.Keeps}
+use Rattle.xa_audit.specs.{Audits.{AppendsAudit, AppendsAuditPrefix}, declared.ended.Ended.Ended as AuditEnded}
 use Rattle.xa_audit.specs.declared.form.Form.{Form as AuditForm}
-use Rattle.xa_audit.specs.declared.form.Form.TheVariants.{Lines, LastLine, Json as AuditJson}
-use Rattle.xa_races.specs.Outcome.{AppendsRace}
+use Rattle.xa_races.specs.{Outcome.AppendsRace, Came.AppendsRuns}
 use Rattle.xa_lines.specs.declared.script_fault.ScriptFault.{ScriptFault}
-use Rattle.xa_lines.specs.declared.script_fault.ScriptFault.TheVariants.{Read, TooLong, Write, NoMemory, Full, GateShut}
-use Rattle.xa_lines.specs.declared.script_fault.ScriptFault.TheVariants.{ThreadRefused}
-use Rattle.xa_orders.specs.Scripts.{AppendsExplored}
-use Rattle.xa_orders.specs.declared.ended.Ended.{Ended}
-use Rattle.xa_orders.specs.declared.ended.Ended.TheVariants.{Done, Undecided as TooMany, Faulty as FaultyLines}
-use Rattle.xa_record.specs.Allowances.{allowances_of}
-use Rattle.xa_record.specs.Judged.{AppendsJudgedFrom}
-use Rattle.xa_record.specs.declared.allowance.Allowance.{Allowance}
-use Rattle.xa_record.specs.declared.asked.Asked.{Asked}
-use Rattle.xa_record.specs.declared.form.Form.{Form}
-use Rattle.xa_record.specs.declared.form.Form.TheVariants.{Plain, Json}
-use Rattle.xa_record.specs.declared.outcome.Outcome.{Outcome}
-use Rattle.xa_record.specs.declared.outcome.Outcome.TheVariants.{Legal, Illegal, Undecided, Faulty, Empty}
-use Rattle.xa_races.specs.Came.{AppendsRuns}
+use Rattle.xa_orders.specs.{Scripts.AppendsExplored, declared.ended.Ended.Ended}
+use Rattle.xa_record.specs.{Allowances.allowances_of, Judged.AppendsJudgedFrom, declared.allowance.Allowance.Allowance}
+use Rattle.xa_record.specs.declared.{asked.Asked.Asked, form.Form.Form, outcome.Outcome.Outcome}
 use Rattle.xa_server.specs.State.{State}
-use Rattle.xa_manager.specs.Scripts.{AppendsStops}
-use Rattle.xa_manager.specs.declared.stop_ended.Ended.{Ended as StopsEnded}
-use Rattle.xa_manager.specs.declared.stop_ended.Ended.TheVariants.{Done as AllStops, Faulty as FaultyCalls}
+use Rattle.xa_manager.specs.{Scripts.AppendsStops, declared.stop_ended.Ended.Ended as StopsEnded}
 
 -- 1 where the input can't be read or is too long, or the output can't be written, 3 where memory, the log, the gate or
 -- a thread gave out (own rule)
 abbrev pub status_after : ScriptFault → ℕ
-status_after Read = 1
-status_after TooLong = 1
-status_after Write = 1
-status_after NoMemory = 3
-status_after Full = 3
-status_after GateShut = 3
-status_after ThreadRefused = 3
+status_after ScriptFault.Read = 1
+status_after ScriptFault.TooLong = 1
+status_after ScriptFault.Write = 1
+status_after ScriptFault.NoMemory = 3
+status_after ScriptFault.Full = 3
+status_after ScriptFault.GateShut = 3
+status_after ScriptFault.ThreadRefused = 3
 
 -- the job's own status, or the one after its fault
 abbrev pub status_of_job : Result ℕ ScriptFault → ℕ
@@ -72,17 +55,17 @@ strict_status strict faulty status = if strict && faulty && status == 0 then 8 e
 -- (None), that is the fault; else its status is as `strict_status` says
 abbrev pub end_of : (strict : Bool) → (faulty : Option Bool) → Result ℕ ScriptFault → Result ℕ ScriptFault
 end_of strict faulty (Err fault) = Err fault
-end_of strict None (Ok status) = Err NoMemory
+end_of strict None (Ok status) = Err ScriptFault.NoMemory
 end_of strict (Some faulty) (Ok status) = Ok (strict_status strict faulty status)
 
 -- 0 where an order explains the record, 4 where none does, 5 where the limit was passed, 6 where lines are faulty, 7
 -- where there is no event (own rule)
 abbrev pub status_for : Outcome → ℕ
-status_for Legal = 0
-status_for Illegal = 4
-status_for Undecided = 5
-status_for Faulty = 6
-status_for Empty = 7
+status_for Outcome.Legal = 0
+status_for Outcome.Illegal = 4
+status_for Outcome.Undecided = 5
+status_for Outcome.Faulty = 6
+status_for Outcome.Empty = 7
 
 -- judging the record, from the state `base`, ended in some outcome: the writer got what is written then, if the
 -- record is known, and the status is the one for that outcome
@@ -94,8 +77,8 @@ AppendsVerdict base allowances asked status input old new =
 
 -- a verdict is an object of JSON where that is asked
 abbrev pub form_of : (json : Bool) → Form
-form_of true = Json
-form_of false = Plain
+form_of true = Form.Json
+form_of false = Form.Plain
 
 -- what the options ask of judging
 abbrev pub asked_of : (limit : ℕ) → (explain json strict shrink : Bool) → Asked
@@ -109,9 +92,9 @@ IsAllowedBy None text = (number : ℕ) × (allowances_of text ≡ Err number)
 
 -- 0 where all outcomes were listed, 5 where the limit was passed, 6 where faulty lines were listed (own rule)
 abbrev pub status_of_end : Ended → ℕ
-status_of_end Done = 0
-status_of_end TooMany = 5
-status_of_end FaultyLines = 6
+status_of_end Ended.Done = 0
+status_of_end Ended.Undecided = 5
+status_of_end Ended.Faulty = 6
 
 -- exploring the script ended in some way: the writer got what is written then, if the script is known, and the status
 -- is the one for that end
@@ -134,8 +117,8 @@ AppendsCame runs status input old new =
 
 -- 0 where all stops were listed, 6 where faulty lines were (own rule)
 abbrev pub status_of_stops : StopsEnded → ℕ
-status_of_stops AllStops = 0
-status_of_stops FaultyCalls = 6
+status_of_stops StopsEnded.Done = 0
+status_of_stops StopsEnded.Faulty = 6
 
 -- stopping the script's coordinator ended in some way: the writer got what is written then, if the script is known, the
 -- stops or the faulty lines, and the status is the one for that end
@@ -146,9 +129,9 @@ AppendsStopped stores status input old new =
 
 -- 0 where each global transaction is ATOMIC, 9 where some is not, 6 where a line isn't read (own rule)
 abbrev pub status_of_audit : AuditEnded → ℕ
-status_of_audit AllAtomic = 0
-status_of_audit SomeNotAtomic = 9
-status_of_audit Unread = 6
+status_of_audit AuditEnded.AllAtomic = 0
+status_of_audit AuditEnded.SomeNotAtomic = 9
+status_of_audit AuditEnded.Unread = 6
 
 -- the audit of these histories ended in some way: the writer got what is written then, and the status is the one for
 -- that end
@@ -159,16 +142,16 @@ AppendsAuditBy histories form status old new =
 -- what a fault of an audit leaves in the writer: a prefix of what is written where a write failed, else nothing. An
 -- audit has no log, no gate and no threads
 abbrev pub AfterAuditing : List (List ℕ) → AuditForm → ScriptFault → Option (List ℕ) → Option (List ℕ) → Type 0
-AfterAuditing histories form Read old new = Keeps old new
-AfterAuditing histories form TooLong old new = Keeps old new
-AfterAuditing histories form Write old new = AppendsAuditPrefix histories form old new
-AfterAuditing histories form NoMemory old new = Keeps old new
-AfterAuditing histories form Full old new = ⊥
-AfterAuditing histories form GateShut old new = ⊥
-AfterAuditing histories form ThreadRefused old new = ⊥
+AfterAuditing histories form ScriptFault.Read old new = Keeps old new
+AfterAuditing histories form ScriptFault.TooLong old new = Keeps old new
+AfterAuditing histories form ScriptFault.Write old new = AppendsAuditPrefix histories form old new
+AfterAuditing histories form ScriptFault.NoMemory old new = Keeps old new
+AfterAuditing histories form ScriptFault.Full old new = ⊥
+AfterAuditing histories form ScriptFault.GateShut old new = ⊥
+AfterAuditing histories form ScriptFault.ThreadRefused old new = ⊥
 
 -- the form of an audit: an object of JSON with `--json`, else the last line alone with `--quiet`, else all lines
 abbrev pub audit_form : (json quiet : Bool) → AuditForm
-audit_form true quiet = AuditJson
-audit_form false true = LastLine
-audit_form false false = Lines
+audit_form true quiet = AuditForm.Json
+audit_form false true = AuditForm.LastLine
+audit_form false false = AuditForm.Lines

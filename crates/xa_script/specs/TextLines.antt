@@ -5,18 +5,14 @@
 --     keeps_line     which lines are written as they are
 --     IsWrittenAs    what is written for a line that isn't a row
 --     ends_line      the bytes that have come are a whole line
-use Rattle.std.specs.Prelude.{◌≡◌, ℕ, ◌+◌, ◌-◌, Bool, true, false, not, ◌&&◌, ◌||◌, ◌==◌, if◌then◌else◌}
-use Rattle.std.specs.Prelude.{nat_le, nat_eq, List, [], ◌∷◌, length, take, drop, Option, Some, None, Result, Ok, Err}
-use Rattle.std.specs.Prelude.{codes, is_some}
+use Rattle.std.specs.Prelude.{◌≡◌, ℕ, ◌+◌, ◌-◌, Bool, true, false, not, ◌&&◌, ◌||◌, ◌==◌, if◌then◌else◌, nat_le, nat_eq}
+use Rattle.std.specs.Prelude.{List, [], ◌∷◌, length, take, drop, Option, Some, None, Result, Ok, Err, codes, is_some}
 use Rattle.std.specs.List.{starts_with, ends_with}
-use Rattle.xa_xid.specs.declared.statement.Statement.{Statement}
-use Rattle.xa_xid.specs.declared.statement.Statement.TheVariants.{Unsupported}
+use Rattle.xa_xid.specs.declared.statement.Statement.{Statement, TheVariants.Unsupported}
 use Rattle.xa_statement.specs.Reading.{read_of}
-use Rattle.xa_lines.specs.Script.{is_comment_line, first_word, after_word, number_of_word, line_of}
-use Rattle.xa_lines.specs.Script.{Line, Blank, Bad, Given}
-use Rattle.xa_script.specs.declared.line_form.LineForm.{LineForm}
-use Rattle.xa_script.specs.declared.line_form.LineForm.TheVariants.{Answers, Shown, Verdict, Object, Noted}
-use Rattle.xa_script.specs.Texts.{IsWithTexts}
+use Rattle.xa_lines.specs.Script.{is_comment_line, first_word, after_word, number_of_word, line_of, Line, Blank, Bad}
+use Rattle.xa_lines.specs.Script.{Given}
+use Rattle.xa_script.specs.{declared.line_form.LineForm.LineForm, Texts.IsWithTexts}
 
 -- the last byte is a line feed
 abbrev pub is_fed : List ℕ → Bool
@@ -73,11 +69,11 @@ rows_in_verdict line =
 -- how many rows a line says that the next lines are. An answer's reply comes after its session and its place; objects
 -- and the lines of TAP have no rows
 abbrev pub rows_after : LineForm → (line : List ℕ) → ℕ
-rows_after Answers line = rows_of (past_number (past_number line))
-rows_after Shown line = rows_of (past_number (past_number line))
-rows_after Verdict line = rows_in_verdict line
-rows_after Object line = 0
-rows_after Noted line = 0
+rows_after LineForm.Answers line = rows_of (past_number (past_number line))
+rows_after LineForm.Shown line = rows_of (past_number (past_number line))
+rows_after LineForm.Verdict line = rows_in_verdict line
+rows_after LineForm.Object line = 0
+rows_after LineForm.Noted line = 0
 
 -- whether the bytes of a row have room for a gtrid and bqual of these lengths; true if one of these can't be read
 abbrev pub holds_texts : Option ℕ → Option ℕ → (bytes : List ℕ) → Bool
@@ -126,11 +122,11 @@ is_point_or_own line = if starts_with nat_eq line (codes "# ") then is_own (drop
 -- whether a line is written as it is: a comment where stores are shown, a client's own line of a verdict (with TAP
 -- behind `# `), each line of TAP that is no comment, and each object, but no answer
 abbrev pub keeps_line : LineForm → (line : List ℕ) → Bool
-keeps_line Answers line = false
-keeps_line Shown line = is_comment_line line
-keeps_line Verdict line = is_own line
-keeps_line Object line = true
-keeps_line Noted line = is_point_or_own line
+keeps_line LineForm.Answers line = false
+keeps_line LineForm.Shown line = is_comment_line line
+keeps_line LineForm.Verdict line = is_own line
+keeps_line LineForm.Object line = true
+keeps_line LineForm.Noted line = is_point_or_own line
 
 -- what is written for a line that isn't a row
 abbrev pub IsWrittenAs : LineForm → (line text : List ℕ) → Type 0

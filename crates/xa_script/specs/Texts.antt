@@ -6,8 +6,7 @@
 --     IsWithTexts     a text is what is written for a line, or the line itself if there is no room
 use Rattle.std.specs.Prelude.{◌≡◌, ◌<◌, ◌⊎◌, ℕ, Bool, true, ◌==◌, ◌||◌, ◌&&◌, nat_le, if◌then◌else◌, List, [], ◌∷◌}
 use Rattle.std.specs.Prelude.{◌++◌, length, Ok, Err}
-use Rattle.xa_xid.specs.Literal.{Reading, literal_ahead}
-use Rattle.xa_xid.specs.Xid.{Text}
+use Rattle.xa_xid.specs.{Literal.{Reading, literal_ahead}, Xid.Text}
 
 -- whether a byte is printable ASCII
 abbrev pub is_printable : ℕ → Bool

@@ -4,22 +4,15 @@
 --     kind_after     the kind that a line is of, and those after it until one of them changes it
 --     is_unread      a line isn't read, by how long it may be, and by whether it is in the place of a row
 use Rattle.std.specs.Prelude.{ℕ, Bool, true, false, not, ◌&&◌, ◌||◌, if◌then◌else◌, nat_lt, nat_eq, Result, Ok, Err}
-use Rattle.std.specs.Prelude.{List, [], length, codes}
-use Rattle.std.specs.Cmp.Lexicographic.{pointwise}
-use Rattle.xa_xid.specs.Bytes.{unblank}
-use Rattle.xa_xid.specs.declared.statement.Statement.{Statement}
+use Rattle.std.specs.{Prelude.{List, [], length, codes}, Cmp.Lexicographic.pointwise}
+use Rattle.xa_xid.specs.{Bytes.unblank, declared.statement.Statement.Statement}
 use Rattle.xa_statement.specs.Reading.{read_of}
 use Rattle.xa_lines.specs.Script.{Line, Blank, Bad, Given, line_of, first_word, behind_word, is_empty_line}
 use Rattle.xa_lines.specs.Script.{is_comment_line}
 use Rattle.xa_orders.specs.Scripts.{is_word}
-use Rattle.xa_manager.specs.Calls.{call_of}
-use Rattle.xa_manager.specs.Scripts.{taken}
-use Rattle.xa_manager.specs.declared.call.Call.{Call}
-use Rattle.xa_manager.specs.declared.call.Call.TheVariants.{Unread}
+use Rattle.xa_manager.specs.{Calls.call_of, Scripts.taken, declared.call.Call.{Call, TheVariants.Unread}}
 use Rattle.xa_record.specs.Lines.{reading_of_line, is_bad, is_no_row}
 use Rattle.xa_script.specs.declared.line_kind.LineKind.{LineKind}
-use Rattle.xa_script.specs.declared.line_kind.LineKind.TheVariants.{Statement as Stated, Shown, Raced, Explored}
-use Rattle.xa_script.specs.declared.line_kind.LineKind.TheVariants.{Call as Called, Stopped, Record as Recorded}
 
 -- a text was read as no statement
 abbrev pub goes_wrong : Result Statement ℕ → Bool
@@ -65,29 +58,30 @@ is_no_record line = is_bad (reading_of_line line) || is_no_call_of_record (given
 
 -- whether a line, wherever it stands and however long it is, isn't one for a job that reads lines of this kind
 abbrev pub is_unread_by : LineKind → List ℕ → Bool
-is_unread_by Stated line = is_faulty (line_of line)
-is_unread_by Raced line = is_faulty (line_of line)
-is_unread_by Shown line = not (is_silent line) && is_faulty (line_of line)
-is_unread_by Explored line = not (is_silent line || divides_script line) && is_faulty (line_of line)
-is_unread_by Called line = is_no_call (call_of line)
-is_unread_by Stopped line = is_no_call (taken (call_of line))
-is_unread_by Recorded line = not (is_silent line) && is_no_record line
+is_unread_by LineKind.Statement line = is_faulty (line_of line)
+is_unread_by LineKind.Raced line = is_faulty (line_of line)
+is_unread_by LineKind.Shown line = not (is_silent line) && is_faulty (line_of line)
+is_unread_by LineKind.Explored line = not (is_silent line || divides_script line) && is_faulty (line_of line)
+is_unread_by LineKind.Call line = is_no_call (call_of line)
+is_unread_by LineKind.Stopped line = is_no_call (taken (call_of line))
+is_unread_by LineKind.Record line = not (is_silent line) && is_no_record line
 
 -- the kind of the lines of a script that is raced, by a line before which only blank ones came: with comments if the
 -- line is one, without if it isn't, and not settled yet if it is blank
 abbrev pub kind_of_first : List ℕ → LineKind
 kind_of_first line =
-    if is_empty_line (unblank line) then Raced else (if is_comment_line line then Shown else Stated)
+    if is_empty_line (unblank line) then LineKind.Raced else (if is_comment_line line then LineKind.Shown else
+    LineKind.Statement)
 
 -- the kind that a line is of, and those after it until one of them changes it: only `Raced` is ever changed
 abbrev pub kind_after : LineKind → List ℕ → LineKind
-kind_after Stated line = Stated
-kind_after Raced line = kind_of_first line
-kind_after Shown line = Shown
-kind_after Explored line = Explored
-kind_after Called line = Called
-kind_after Stopped line = Stopped
-kind_after Recorded line = Recorded
+kind_after LineKind.Statement line = LineKind.Statement
+kind_after LineKind.Raced line = kind_of_first line
+kind_after LineKind.Shown line = LineKind.Shown
+kind_after LineKind.Explored line = LineKind.Explored
+kind_after LineKind.Call line = LineKind.Call
+kind_after LineKind.Stopped line = LineKind.Stopped
+kind_after LineKind.Record line = LineKind.Record
 
 -- whether a line isn't read: it has more than `most` bytes, or it isn't what has to come. While `rows` have to come,
 -- that is a row or a silent line, else a line for a job that reads lines of this kind

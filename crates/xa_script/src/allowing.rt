@@ -1,6 +1,5 @@
 //! Reads the file of `--allow`.
-ghost use Rattle.std.specs.Prelude.{IfOk, IfSome};
-ghost use Rattle.std.specs.Option.{option_map};
+ghost use Rattle.std.specs.{Prelude.{IfOk, IfSome}, Option.option_map};
 ghost use Rattle.xa_script.specs.Status.{IsAllowedBy};
 
 use crate::files::opened;

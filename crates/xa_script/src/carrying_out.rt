@@ -1,8 +1,7 @@
 //! Opens what a job reads, and has the job done: the standard input, the file of `--file`, or the files that are named
 //! for `audit` or `judge`.
 ghost use Rattle.std.specs.Prelude.{◌≡◌, ◌≤◌, IfOk, IfSome, length};
-ghost use Rattle.xa_script.specs.CommandLine.{CanBeDone, IsLimit, ReadsInput, audit_asked};
-ghost use Rattle.xa_script.specs.Several.{judging_asked};
+ghost use Rattle.xa_script.specs.{CommandLine.{CanBeDone, IsLimit, ReadsInput, audit_asked}, Several.judging_asked};
 
 use crate::allowing::allowed;
 use crate::auditing::form_asked;

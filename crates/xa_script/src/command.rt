@@ -1,6 +1,5 @@
 //! The jobs, and the options of each.
-ghost use Rattle.std.specs.Prelude.{◌≡◌, ℕ, None, IfSome, codes};
-ghost use Rattle.std.specs.Option.{IsSomeAnd};
+ghost use Rattle.std.specs.{Prelude.{◌≡◌, ℕ, None, IfSome, codes}, Option.IsSomeAnd};
 ghost use Rattle.clap.specs.Words.{found_of, one_of, rows_of};
 ghost use Rattle.xa_script.specs.CommandLine.{CanBeDone, HasOptions, IsCapacityText, IsJob, IsLimitText, IsRunsOf};
 ghost use Rattle.xa_script.specs.CommandLine.{IsScheduleOf, IsStoresText, name_of};

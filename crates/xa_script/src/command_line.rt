@@ -1,6 +1,5 @@
 //! Reading the command line.
-ghost use Rattle.std.specs.Prelude.{◌≡◌, ◌≤◌, None, IfOk, IfSome, length, map};
-ghost use Rattle.std.specs.Option.{IsSomeAnd};
+ghost use Rattle.std.specs.{Prelude.{◌≡◌, ◌≤◌, None, IfOk, IfSome, length, map}, Option.IsSomeAnd};
 ghost use Rattle.clap.specs.Words.{app_of, found_of, rows_of, subcommand_rows_of};
 ghost use Rattle.xa_script.specs.CommandLine.{script_app, CanBeDone, IsJob};
 ghost use Rattle.xa_script.specs.Manner.{AreHistories, AreRecords, HasExcess, IsLine, IsManner, ReadsLine, Says};

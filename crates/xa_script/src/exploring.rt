@@ -1,10 +1,9 @@
 //! Explores a script, and returns the exit status for how that ended.
 ghost use Rattle.std.specs.Prelude.{◌≡◌, ℕ, IfOk, IfErr};
 ghost use Rattle.xa_orders.specs.Scripts.{AfterExploreFault};
-ghost use Rattle.xa_script.specs.CommandLine.{IsLimit};
-ghost use Rattle.xa_lines.specs.Writing.{AppendsObjects, AfterObjects};
-ghost use Rattle.xa_script.specs.Status.{status_of_end as status_of, AppendsOutcomes};
+ghost use Rattle.xa_script.specs.{CommandLine.IsLimit, Status.{status_of_end as status_of, AppendsOutcomes}};
 ghost use Rattle.xa_script.specs.Jobs.{HasExplored};
+ghost use Rattle.xa_lines.specs.Writing.{AppendsObjects, AfterObjects};
 
 use std::alloc::Global;
 use std::io::{Read, Write};

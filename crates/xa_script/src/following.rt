@@ -1,7 +1,5 @@
 //! Judges a record while it comes, for `--follow`.
-ghost use Rattle.std.specs.Prelude.{◌≡◌};
-ghost use Rattle.std.specs.Io.{ReadsAtMost};
-ghost use Rattle.std.specs.Io.KnownBytes.{ReadConsumes};
+ghost use Rattle.std.specs.{Prelude.◌≡◌, Io.{ReadsAtMost, KnownBytes.ReadConsumes}};
 
 use std::alloc::Global;
 use std::io;

@@ -1,6 +1,5 @@
 //! What `clap` found for the options of a subcommand.
-ghost use Rattle.std.specs.Prelude.{◌≡◌, [], ℕ, None, IfOk, IfSome, map, option_map, unwrap_or};
-ghost use Rattle.std.specs.Option.{IsSomeAnd};
+ghost use Rattle.std.specs.{Prelude.{◌≡◌, [], ℕ, None, IfOk, IfSome, map, option_map, unwrap_or}, Option.IsSomeAnd};
 ghost use Rattle.clap.specs.Words.{all_of, first_of, found_of, matched_of, one_of, one_text, raw_values, rows_of};
 ghost use Rattle.xa_script.specs.CommandLine.{IsFlagOf, IsNumberText};
 

@@ -1,8 +1,6 @@
 //! Does a job from a reader to a writer, with its lines looked at as they are read.
-ghost use Rattle.std.specs.Prelude.{◌≡◌, ◌||◌, false, Some};
-ghost use Rattle.std.specs.Io.Buffered.{writer_contents};
-ghost use Rattle.xa_script.specs.CommandLine.{CanBeDone, ReadsInput};
-ghost use Rattle.xa_script.specs.Jobs.{HasDone, IsLookedAt};
+ghost use Rattle.std.specs.{Prelude.{◌≡◌, ◌||◌, false, Some}, Io.Buffered.writer_contents};
+ghost use Rattle.xa_script.specs.{CommandLine.{CanBeDone, ReadsInput}, Jobs.{HasDone, IsLookedAt}};
 ghost use Rattle.xa_script.specs.Lines.{kind_of_lines, most_bytes, form_of_job, form_of_lines, form_of_texts};
 ghost use Rattle.xa_script.specs.Status.{strict_status, end_of};
 

@@ -2,14 +2,12 @@
 //!
 //! No `speaks` changes what a job writes: it is for the standard error alone.
 ghost use Rattle.std.specs.Prelude.{◌≡◌, ◌≤◌, ◌⊎◌, [], ℕ, List, Some, Err, IfOk, IfErr, IfSome, OnOk, length, map};
-ghost use Rattle.std.specs.Prelude.{option_map, unwrap_or};
-ghost use Rattle.std.specs.Io.KnownBytes.{Appends, Keeps};
+ghost use Rattle.std.specs.{Prelude.{option_map, unwrap_or}, Io.KnownBytes.{Appends, Keeps}};
 ghost use Rattle.std.specs.Io.Buffered.{writer_buffer, writer_contents, writer_inner};
 ghost use Rattle.decision_log.specs.Opens.{IsCapacity};
 ghost use Rattle.xa_lines.specs.Transcript.{transcript, AfterFault};
-ghost use Rattle.xa_script.specs.CommandLine.{IsLimit, IsStoreCount};
-ghost use Rattle.xa_script.specs.Jobs.{HasRun, HasRaced, HasCame, HasJudged, HasExplored, HasStopped, HasAudited};
-ghost use Rattle.xa_script.specs.Jobs.{HasConversed, HasListed, IsFlushed};
+ghost use Rattle.xa_script.specs.{CommandLine.{IsLimit, IsStoreCount}, Jobs.{HasRun, HasRaced, HasCame, HasJudged}};
+ghost use Rattle.xa_script.specs.Jobs.{HasExplored, HasStopped, HasAudited, HasConversed, HasListed, IsFlushed};
 
 use crate::advised::Advised;
 use crate::auditing::audit_within;

@@ -1,8 +1,7 @@
 //! Judges a record, and returns the exit status for how that ended.
 ghost use Rattle.std.specs.Prelude.{◌≡◌, Some, IfOk, IfErr};
 ghost use Rattle.xa_record.specs.Judged.{AfterJudgeFaultFrom};
-ghost use Rattle.xa_script.specs.CommandLine.{IsLimit};
-ghost use Rattle.xa_script.specs.Status.{asked_of, form_of, status_for, AppendsVerdict};
+ghost use Rattle.xa_script.specs.{CommandLine.IsLimit, Status.{asked_of, form_of, status_for, AppendsVerdict}};
 
 use std::alloc::Global;
 use std::io::Write;

@@ -1,9 +1,8 @@
 //! Judges several records, and writes what each came to.
-ghost use Rattle.std.specs.Prelude.{◌≡◌, ◌≤◌, ◌<◌, [], ℕ, List, Some, IfOk, IfErr, OnOk};
-ghost use Rattle.std.specs.Prelude.{IfSome, map, length, option_map, unwrap_or};
-ghost use Rattle.xa_script.specs.CommandLine.{IsLimit};
+ghost use Rattle.std.specs.Prelude.{◌≡◌, ◌≤◌, ◌<◌, [], ℕ, List, Some, IfOk, IfErr, OnOk, IfSome, map, length};
+ghost use Rattle.std.specs.Prelude.{option_map, unwrap_or};
+ghost use Rattle.xa_script.specs.{CommandLine.IsLimit, Listing.heading as heading_of};
 ghost use Rattle.xa_script.specs.Several.{IsVerdictOn, ListsOne, IsListing, ListsAll, AfterListing};
-ghost use Rattle.xa_script.specs.Listing.{heading as heading_of};
 
 use crate::from_reader::looked_at;
 use crate::judging_read::judge_read;

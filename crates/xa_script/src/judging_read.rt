@@ -1,10 +1,8 @@
 //! Reads a record and judges it, and says so if its form isn't that of a record.
-ghost use Rattle.std.specs.Prelude.{ℕ, Option, List, IfOk, IfErr};
-ghost use Rattle.std.specs.Io.KnownBytes.{Consumes, IsAtEnd};
+ghost use Rattle.std.specs.{Prelude.{ℕ, Option, List, IfOk, IfErr}, Io.KnownBytes.{Consumes, IsAtEnd}};
 ghost use Rattle.xa_lines.specs.Transcript.{IsOfReading};
 ghost use Rattle.xa_record.specs.Judged.{AfterJudgeFaultFrom};
-ghost use Rattle.xa_script.specs.CommandLine.{IsLimit};
-ghost use Rattle.xa_script.specs.Status.{AppendsVerdict};
+ghost use Rattle.xa_script.specs.{CommandLine.IsLimit, Status.AppendsVerdict};
 
 use crate::following::Following;
 use crate::foreign::foreign_in;

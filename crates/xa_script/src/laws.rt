@@ -1,8 +1,6 @@
 //! A law of what `--text` writes, as the contract of a function that does nothing: it is read back.
 ghost use Rattle.std.specs.Prelude.{◌≡◌, ◌++◌, ◌==◌, [], ℕ, List, Ok};
-ghost use Rattle.xa_xid.specs.Bytes.{StartsNo};
-ghost use Rattle.xa_xid.specs.Literal.{LiteralAt, literal_ahead};
-ghost use Rattle.xa_xid.specs.Xid.{Text};
+ghost use Rattle.xa_xid.specs.{Bytes.StartsNo, Literal.{LiteralAt, literal_ahead}, Xid.Text};
 ghost use Rattle.xa_script.specs.Texts.{quoted, word_text};
 
 use xa_xid::laws::literals_are_read_as_spelled;

@@ -1,13 +1,12 @@
 //! The form of the lines that a job writes.
-ghost use Rattle.std.specs.Prelude.{◌≡◌, ◌≤◌, MatchOption, true, false, nat_eq, codes, drop};
-ghost use Rattle.std.specs.List.{starts_with};
+ghost use Rattle.std.specs.{Prelude.{◌≡◌, ◌≤◌, MatchOption, true, false, nat_eq, codes, drop}, List.starts_with};
 ghost use Rattle.xa_statement.specs.Reading.{read_of};
 ghost use Rattle.xa_lines.specs.Script.{line_of};
 ghost use Rattle.xa_script.specs.TextLines.{behind_first as after_first, first_number as number_first};
 ghost use Rattle.xa_script.specs.TextLines.{could_be as is_answer, was_seen, is_called, is_of_job, rows_in_verdict};
 ghost use Rattle.xa_script.specs.TextLines.{has_form, is_given, is_own, rows_of as rows_said};
-ghost use Rattle.xa_script.specs.TextLines.{past_number as after_number};
-ghost use Rattle.xa_script.specs.TextLines.{rows_after, keeps_line, is_whole_row as is_row_whole};
+ghost use Rattle.xa_script.specs.TextLines.{past_number as after_number, rows_after, keeps_line};
+ghost use Rattle.xa_script.specs.TextLines.{is_whole_row as is_row_whole};
 
 use xa_lines::{ScriptLine, is_comment, number_in, read_line, split_word};
 use xa_statement::read_statement;

@@ -3,11 +3,9 @@ ghost use Rattle.std.specs.Prelude.{◌≡◌, is_some};
 ghost use Rattle.xa_statement.specs.Reading.{read_of};
 ghost use Rattle.xa_lines.specs.Script.{line_of};
 ghost use Rattle.xa_record.specs.Lines.{is_no_row};
-ghost use Rattle.xa_manager.specs.Calls.{call_of};
-ghost use Rattle.xa_manager.specs.Scripts.{taken};
+ghost use Rattle.xa_manager.specs.{Calls.call_of, Scripts.taken};
 ghost use Rattle.xa_script.specs.Unread.{goes_wrong, is_faulty, divides_script, is_no_call, given_by, is_no_record};
-ghost use Rattle.xa_script.specs.Unread.{is_no_call_of_record};
-ghost use Rattle.xa_script.specs.Unread.{is_unread_by, kind_after, kind_of_first};
+ghost use Rattle.xa_script.specs.Unread.{is_no_call_of_record, is_unread_by, kind_after, kind_of_first};
 
 use crate::line_fault::LineFault;
 use xa_lines::{ScriptLine, is_comment, number_in, read_line, split_word};

@@ -2,9 +2,9 @@
 ghost use Rattle.std.specs.Prelude.{◌≡◌, false};
 ghost use Rattle.clap.specs.Words.{rule_of};
 ghost use Rattle.xa_script.specs.CommandLine.{capacity_rule, together_rule, shuffle_rule, renew_rule, runs_rule};
-ghost use Rattle.xa_script.specs.CommandLine.{fixed_rule, stores_rule, limit_rule};
-ghost use Rattle.xa_script.specs.CommandLine.{number_rule, flag_rule, named_file_rule, verbose_rule, text_rule};
-ghost use Rattle.xa_script.specs.CommandLine.{history_rule, json_rule, record_rule};
+ghost use Rattle.xa_script.specs.CommandLine.{fixed_rule, stores_rule, limit_rule, number_rule, flag_rule};
+ghost use Rattle.xa_script.specs.CommandLine.{named_file_rule, verbose_rule, text_rule, history_rule, json_rule};
+ghost use Rattle.xa_script.specs.CommandLine.{record_rule};
 
 use clap::builder::ValueParser;
 use clap::{Arg, ArgAction, value_parser};

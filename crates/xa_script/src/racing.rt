@@ -1,10 +1,8 @@
 //! Races a script once, and returns the exit status for how that ended.
 ghost use Rattle.std.specs.Prelude.{◌≡◌, Ok, Err, OnOk, IfSome, MatchResult};
 ghost use Rattle.decision_log.specs.Opens.{IsCapacity};
-ghost use Rattle.xa_lines.specs.Writing.{AppendsObjects};
-ghost use Rattle.xa_script.specs.Status.{AppendsRaceBy};
-ghost use Rattle.xa_script.specs.Jobs.{HasRaced};
-ghost use Rattle.xa_lines.specs.Uncommented.{uncommented as uncommented_text};
+ghost use Rattle.xa_lines.specs.{Writing.AppendsObjects, Uncommented.uncommented as uncommented_text};
+ghost use Rattle.xa_script.specs.{Status.AppendsRaceBy, Jobs.HasRaced};
 
 use crate::{DONE, Schedule};
 use std::alloc::{Alloc, Global};

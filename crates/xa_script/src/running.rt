@@ -2,10 +2,8 @@
 ghost use Rattle.std.specs.Prelude.{ℕ, IfOk, IfErr};
 ghost use Rattle.decision_log.specs.Opens.{IsCapacity};
 ghost use Rattle.xa_races.specs.Came.{AfterRunsFault};
-ghost use Rattle.xa_script.specs.CommandLine.{IsLimit};
+ghost use Rattle.xa_script.specs.{CommandLine.IsLimit, Status.AppendsCame, Jobs.HasCame};
 ghost use Rattle.xa_lines.specs.Writing.{AppendsObjects, AfterObjects};
-ghost use Rattle.xa_script.specs.Status.{AppendsCame};
-ghost use Rattle.xa_script.specs.Jobs.{HasCame};
 
 use crate::Schedule;
 use crate::exploring::status_of_end;

@@ -1,7 +1,5 @@
 //! A writer that reports why a write failed.
-ghost use Rattle.std.specs.Prelude.{◌≡◌};
-ghost use Rattle.std.specs.Io.{WritesAtMost};
-ghost use Rattle.std.specs.Io.KnownBytes.{WriteAppends, Keeps};
+ghost use Rattle.std.specs.{Prelude.◌≡◌, Io.{WritesAtMost, KnownBytes.{WriteAppends, Keeps}}};
 
 use std::io;
 use std::io::Write;

@@ -1,10 +1,9 @@
 //! Stops the coordinator of a script of calls, and returns the exit status for how that ended.
 ghost use Rattle.std.specs.Prelude.{◌≡◌, ℕ, IfOk, IfErr};
 ghost use Rattle.xa_manager.specs.Scripts.{AfterStopsFault};
-ghost use Rattle.xa_script.specs.CommandLine.{IsStoreCount};
-ghost use Rattle.xa_lines.specs.Writing.{AppendsObjects, AfterObjects};
-ghost use Rattle.xa_script.specs.Status.{status_of_stops as status_of, AppendsStopped};
+ghost use Rattle.xa_script.specs.{CommandLine.IsStoreCount, Status.{status_of_stops as status_of, AppendsStopped}};
 ghost use Rattle.xa_script.specs.Jobs.{HasStopped};
+ghost use Rattle.xa_lines.specs.Writing.{AppendsObjects, AfterObjects};
 
 use std::alloc::Global;
 use std::io::{Read, Write};

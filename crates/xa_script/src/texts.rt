@@ -1,7 +1,6 @@
 //! A writer that writes the literals of its lines as texts.
 ghost use Rattle.std.specs.Prelude.{◌≡◌, ◌≤◌, ◌<◌, ◌⊎◌, not, true, false, ⊤, [], length, take, drop, IfOk, OnOk, OnErr};
-ghost use Rattle.std.specs.Io.{WritesAtMost};
-ghost use Rattle.std.specs.Io.KnownBytes.{Keeps, WriteAppends};
+ghost use Rattle.std.specs.Io.{WritesAtMost, KnownBytes.{Keeps, WriteAppends}};
 ghost use Rattle.xa_script.specs.TextLines.{unfed, is_fed, ends_line, IsWrittenAs};
 
 use crate::line_form::{LineForm, is_whole_row};

@@ -1,8 +1,6 @@
 //! Looks at the lines that a job reads, for `--verbose` and `--strict`.
-ghost use Rattle.std.specs.Prelude.{◌≡◌, ◌≢◌, ◌||◌, [], false, true, is_some, IfOk, OnOk, OnErr, Some};
-ghost use Rattle.std.specs.Prelude.{option_map, unwrap_or};
-ghost use Rattle.std.specs.Io.{ReadsAtMost};
-ghost use Rattle.std.specs.Io.KnownBytes.{ReadConsumes};
+ghost use Rattle.std.specs.Prelude.{◌≡◌, ◌≢◌, ◌||◌, [], false, true, is_some, IfOk, OnOk, OnErr, Some, option_map};
+ghost use Rattle.std.specs.{Prelude.unwrap_or, Io.{ReadsAtMost, KnownBytes.ReadConsumes}};
 ghost use Rattle.xa_script.specs.Unread.{is_unread, kind_after};
 
 use crate::hint::tell_line;

@@ -2,33 +2,21 @@
 use Rattle.std.proofs.Common.{◌≡◌, ℕ, List, refl, ap, sym, ◌∙◌, subst, Bool, true, false, inl, inr}
 use Rattle.std.specs.Prelude.{Option, Some, None, Result, Ok, Err, OnErr, cond, is_some, not, ◌&&◌, ◌||◌}
 use Rattle.std.specs.Option.{option_map, option_map_or, option_and_then}
-use Rattle.std.specs.FinMap as map
 use mathlib.Core.Bool.{true≢false}
-use Rattle.xa_xid.specs.declared.xid.Xid.{Xid}
-use Rattle.xa_xid.specs.Xid.{Text, same_xid}
-use Rattle.xa_xid.proofs.Orders.{xids_total, exact_xids}
-use Rattle.xa_xid.specs.declared.statement.Statement.{Statement}
+use Rattle.xa_xid.specs.{declared.{xid.Xid.Xid, statement.Statement.Statement}, Xid.{Text, same_xid}}
 use Rattle.xa_xid.specs.declared.statement.Statement.TheVariants.{Start, End, Commit, Rollback, Get, Put, Del}
-use Rattle.xa_server.specs.declared.branch.Phase.{Phase}
-use Rattle.xa_server.specs.declared.branch.Phase.TheVariants.{Active as PhaseActive, Idle as PhaseIdle}
-use Rattle.xa_server.specs.declared.branch.Phase.TheVariants.{Prepared as PhasePrepared}
-use Rattle.xa_server.specs.declared.reply.Reply.{Reply}
-use Rattle.xa_server.specs.declared.reply.Reply.TheVariants.{Ok as Accepted, Value, Recovered, Refused}
-use Rattle.xa_server.specs.declared.xa_error.XaError.{XaError}
-use Rattle.xa_server.specs.declared.xa_error.XaError.TheVariants.{Nota, Rmfail}
+use Rattle.xa_xid.proofs.Orders.{xids_total, exact_xids}
+use Rattle.xa_server.specs.declared.{branch.Phase.Phase, reply.Reply.Reply, xa_error.XaError.XaError}
+use Rattle.xa_server.specs.declared.{xa_error.XaError.TheVariants.{Nota, Rmfail}, association.Association.Association}
 use Rattle.xa_server.specs.declared.xa_error.BranchState.TheVariants.{Prepared as StatePrepared}
-use Rattle.xa_server.specs.declared.association.Association.{Association}
-use Rattle.xa_server.specs.declared.association.Association.TheVariants.{Free, Active, Idle}
-use Rattle.xa_server.specs.State.{Shared, Branch, State, is_known, phase_at, is_prepared, is_prepared_phase, own_xid}
-use Rattle.xa_server.specs.State.{association_in, association_of, IsOpen}
-use Rattle.xa_server.specs.Locks.{holds, is_held_against, is_locked_against}
-use Rattle.xa_server.specs.Replies.{ok_if, refused_if, table, reply_to}
-use Rattle.xa_server.specs.Step.{after, effect, enters, may_enter, makes_record, may_take_memory, is_recover}
-use Rattle.xa_server.specs.Step.{is_refused, unless_refused, with_branch}
-use Rattle.xa_server.specs.Step.{with_changed, with_lock}
-use Rattle.xa_server.proofs.Maps.{same_is, same_or_apart, get_inserted, get_inserted_apart}
-use Rattle.xa_server.proofs.Index.{not_none}
-use Rattle.xa_server.proofs.Steps.{same_state, same_branches}
+use Rattle.xa_server.specs.{declared.association.Association.TheVariants.{Free, Active, Idle}, State.{Shared, Branch}}
+use Rattle.xa_server.specs.State.{State, is_known, phase_at, is_prepared, is_prepared_phase, own_xid, association_in}
+use Rattle.xa_server.specs.{State.{association_of, IsOpen}, Locks.{holds, is_held_against, is_locked_against}}
+use Rattle.xa_server.specs.{Replies.{ok_if, refused_if, table, reply_to}, Step.{after, effect, enters, may_enter}}
+use Rattle.xa_server.specs.Step.{makes_record, may_take_memory, is_recover, is_refused, unless_refused, with_branch}
+use Rattle.xa_server.{specs.Step.{with_changed, with_lock}, proofs.Steps.{same_state, same_branches}}
+use Rattle.xa_server.proofs.{Maps.{same_is, same_or_apart, get_inserted, get_inserted_apart}, Index.not_none}
+use Rattle.std.specs.FinMap as map
 
 -- ---- what a session has associated
 
@@ -37,9 +25,9 @@ use Rattle.xa_server.proofs.Steps.{same_state, same_branches}
 in_phase : (state : State) (phase : Option Phase) (xid : Xid) → phase_at state xid ≡ phase
     → IsOpen state (association_in phase xid)
 in_phase state None xid e = tt
-in_phase state (Some PhaseActive) xid e = e
-in_phase state (Some PhaseIdle) xid e = e
-in_phase state (Some PhasePrepared) xid e = tt
+in_phase state (Some Phase.Active) xid e = e
+in_phase state (Some Phase.Idle) xid e = e
+in_phase state (Some Phase.Prepared) xid e = tt
 
 -- the branch that a session has open is in the phase that the session's association names
 pub open_association : (state : State) (session : ℕ) → IsOpen state (association_of state session)
@@ -73,16 +61,16 @@ known_prepared state xid e = by (map.get state.branches xid) e
 pub known_active : (state : State) (session : ℕ) (own : Xid) → association_of state session ≡ Active own
     → is_known state own ≡ true
 known_active state session own is =
-    known_in state own PhaseActive (subst (IsOpen state) is (open_association state session))
+    known_in state own Phase.Active (subst (IsOpen state) is (open_association state session))
 
 -- the IDLE branch that a session has open is known
 pub known_idle : (state : State) (session : ℕ) (own : Xid) → association_of state session ≡ Idle own
     → is_known state own ≡ true
 known_idle state session own is =
-    known_in state own PhaseIdle (subst (IsOpen state) is (open_association state session))
+    known_in state own Phase.Idle (subst (IsOpen state) is (open_association state session))
 
 -- a branch that is ACTIVE isn't PREPARED
-unprepared : (state : State) (xid : Xid) → phase_at state xid ≡ Some PhaseActive → is_prepared state xid ≡ false
+unprepared : (state : State) (xid : Xid) → phase_at state xid ≡ Some Phase.Active → is_prepared state xid ≡ false
 unprepared state xid e = ap (λ phase. option_map_or is_prepared_phase phase false) e
 
 -- ---- tests that let a statement through
@@ -130,14 +118,14 @@ unfolding table
 accepted_commit state Free xid false associated e = known_prepared state xid (passes (is_prepared state xid) _ e)
 accepted_commit state Free xid true associated e = absurd (never (is_prepared state xid) e)
   where
-    never : (b : Bool) → is_refused (refused_if (not b) Nota (Refused (Rmfail StatePrepared))) ≡ false → ⊥
+    never : (b : Bool) → is_refused (refused_if (not b) Nota (Reply.Refused (Rmfail StatePrepared))) ≡ false → ⊥
     never true e = true≢false e
     never false e = true≢false e
 accepted_commit state (Active own) xid false associated e = absurd (true≢false e)
 accepted_commit state (Active own) xid true associated e = absurd (true≢false e)
 accepted_commit state (Idle own) xid false associated e = absurd (true≢false e)
 accepted_commit state (Idle own) xid true associated e =
-    ap (is_known state) (own_is xid own _ e) ∙ known_in state own PhaseIdle associated
+    ap (is_known state) (own_is xid own _ e) ∙ known_in state own Phase.Idle associated
 
 -- an XA ROLLBACK is accepted only if the branch is there
 pub accepted_rollback : (state : State) (association : Association) (xid : Xid) → IsOpen state association
@@ -147,7 +135,7 @@ unfolding table
 accepted_rollback state Free xid associated e = known_prepared state xid (passes (is_prepared state xid) _ e)
 accepted_rollback state (Active own) xid associated e = absurd (true≢false e)
 accepted_rollback state (Idle own) xid associated e =
-    ap (is_known state) (own_is xid own _ e) ∙ known_in state own PhaseIdle associated
+    ap (is_known state) (own_is xid own _ e) ∙ known_in state own Phase.Idle associated
 
 -- a GET in an ACTIVE branch is accepted only if no other branch has the row exclusively
 pub accepted_get : (state : State) (own : Xid) (key : List ℕ) → is_refused (table state (Active own) (Get key)) ≡ false
@@ -236,10 +224,10 @@ after_accepted state session statement accepted = sym (by (reply_to state sessio
     by : (r : Reply) → is_refused r ≡ false
         → unless_refused r state (effect state session (association_of state session) statement)
         ≡ effect state session (association_of state session) statement
-    by Accepted e = refl
-    by (Value value) e = refl
-    by (Recovered xids) e = refl
-    by (Refused error) e = absurd (true≢false e)
+    by Reply.Ok e = refl
+    by (Reply.Value value) e = refl
+    by (Reply.Recovered xids) e = refl
+    by (Reply.Refused error) e = absurd (true≢false e)
 
 -- a refused statement leaves the state
 pub after_refused : (state : State) (session : ℕ) (statement : Statement)
@@ -250,10 +238,10 @@ after_refused state session statement refused = sym (by (reply_to state session 
   where
     by : (r : Reply) → is_refused r ≡ true → unless_refused r state
         (effect state session (association_of state session) statement) ≡ state
-    by Accepted e = absurd (true≢false (sym e))
-    by (Value value) e = absurd (true≢false (sym e))
-    by (Recovered xids) e = absurd (true≢false (sym e))
-    by (Refused error) e = refl
+    by Reply.Ok e = absurd (true≢false (sym e))
+    by (Reply.Value value) e = absurd (true≢false (sym e))
+    by (Reply.Recovered xids) e = absurd (true≢false (sym e))
+    by (Reply.Refused error) e = refl
 
 -- the reply that the table has for what a session has open is the reply to the session
 pub replied : (state : State) (session : ℕ) (association : Association) (statement : Statement) (reply : Reply)

@@ -1,27 +1,19 @@
 -- What each accepted statement does to the branch of an identifier.
 use Rattle.std.proofs.Common.{◌≡◌, ℕ, refl, ap, sym, ◌∙◌, Bool, true, false, ◌⊎◌, inl, inr}
-use Rattle.std.specs.Prelude.{Option, Some, None, cond}
-use Rattle.std.specs.Option.{option_map, option_map_or}
-use Rattle.std.specs.FinMap as map
+use Rattle.std.specs.{Prelude.{Option, Some, None, cond}, Option.{option_map, option_map_or}}
 use Rattle.std.specs.FinMap.{get-insert, get-remove}
 use mathlib.Core.Bool.{true≢false}
-use Rattle.xa_xid.specs.declared.xid.Xid.{Xid}
-use Rattle.xa_xid.specs.Xid.{same_xid}
+use Rattle.xa_xid.specs.declared.{xid.Xid.Xid, statement.Statement.{Statement, TheVariants.{Start, End, Prepare}}}
+use Rattle.xa_xid.specs.declared.statement.Statement.TheVariants.{Commit, Rollback, Recover, Unsupported, Get, Put, Del}
+use Rattle.xa_xid.specs.{declared.statement.Statement.TheVariants.Disconnect, Xid.same_xid}
 use Rattle.xa_xid.proofs.Orders.{xids_total, exact_xids}
-use Rattle.xa_xid.specs.declared.statement.Statement.{Statement}
-use Rattle.xa_xid.specs.declared.statement.Statement.TheVariants.{Start, End, Prepare, Commit, Rollback, Recover}
-use Rattle.xa_xid.specs.declared.statement.Statement.TheVariants.{Unsupported, Get, Put, Del, Disconnect}
 use Rattle.xa_server.specs.declared.branch.Phase.TheVariants.{Idle as PhaseIdle, Prepared as PhasePrepared}
-use Rattle.xa_server.specs.declared.reply.Reply.{Reply}
-use Rattle.xa_server.specs.declared.reply.Reply.TheVariants.{Ok as Accepted, Value, Recovered, Refused}
-use Rattle.xa_server.specs.declared.association.Association.{Association}
-use Rattle.xa_server.specs.declared.association.Association.TheVariants.{Free, Active, Idle}
-use Rattle.xa_server.specs.State.{Branch, State, association_of}
-use Rattle.xa_server.specs.Replies.{table, reply_to}
-use Rattle.xa_server.specs.Step.{started_by, with_branch, with_changed, with_writes, without_branch, committed}
-use Rattle.xa_server.specs.Step.{with_lock, with_own_write, effect, is_refused}
-use Rattle.xa_server.specs.Step.{unless_refused, after}
-use Rattle.xa_server.proofs.Maps.{same_or_apart}
+use Rattle.xa_server.specs.declared.reply.Reply.{Reply, TheVariants.{Ok as Accepted, Value, Recovered, Refused}}
+use Rattle.xa_server.specs.declared.association.Association.{Association, TheVariants.{Free, Active, Idle}}
+use Rattle.xa_server.specs.{State.{Branch, State, association_of}, Replies.{table, reply_to}, Step.started_by}
+use Rattle.xa_server.specs.Step.{with_branch, with_changed, with_writes, without_branch, committed, with_lock}
+use Rattle.xa_server.{specs.Step.{with_own_write, effect, is_refused, unless_refused, after}, proofs.Maps.same_or_apart}
+use Rattle.std.specs.FinMap as map
 
 -- what XA END makes of a branch: it is IDLE
 unfoldable pub idle : Branch → Branch

@@ -1,30 +1,19 @@
 -- What the end of a branch is in the state that the records stand for.
 use Rattle.std.proofs.Common.{◌≡◌, ℕ, List, [], ◌∷◌, refl, ap, sym, ◌∙◌, Bool, true, false, inl, inr}
-use Rattle.std.specs.Prelude.{Option, Some, None, cond, ◌||◌, is_some}
-use Rattle.std.specs.Option.{option_map, option_map_or, option_and_then, unwrap_or}
-use Rattle.std.specs.List.{list_any}
-use Rattle.std.specs.Ordering.{eq_by_cmp}
-use Rattle.std.specs.FinMap as map
-use Rattle.std.specs.FinMap.{get-entries, find, same_map}
+use Rattle.std.specs.{Prelude.{Option, Some, None, cond, ◌||◌, is_some}, FinMap.{get-entries, find, same_map}}
+use Rattle.std.specs.{Option.{option_map, option_map_or, option_and_then, unwrap_or}, List.list_any, Ordering.eq_by_cmp}
 use mathlib.Core.Bool.{true≢false}
-use Rattle.xa_xid.specs.declared.xid.Xid.{Xid}
-use Rattle.xa_xid.specs.Xid.{Text, bytes_cmp, same_xid}
+use Rattle.xa_xid.specs.{declared.xid.Xid.Xid, Xid.{Text, bytes_cmp, same_xid}}
 use Rattle.xa_xid.proofs.Orders.{xids_total, exact_xids, bytes_total, exact_texts}
-use Rattle.xa_server.specs.declared.branch.BranchRecord.{BranchRecord}
-use Rattle.xa_server.specs.Recorded.{RowRecord}
-use Rattle.xa_server.specs.declared.association.Association.TheVariants.{Free}
-use Rattle.xa_server.specs.State.{Write, Branch}
-use Rattle.xa_server.specs.Step.{without_branch, with_write, with_writes, committed}
-use Rattle.xa_server.specs.Tables.{BranchMap}
-use Rattle.xa_server.specs.Rows.{RowMap, committed_of, write_by, lock_by, held_beside, freed_row, is_needed, kept}
-use Rattle.xa_server.specs.Rows.{freed, Frees}
-use Rattle.xa_server.specs.View.{gather, branch_seen, state_of}
+use Rattle.xa_server.specs.declared.{branch.BranchRecord.BranchRecord, association.Association.TheVariants.Free}
+use Rattle.xa_server.specs.{Recorded.RowRecord, State.{Write, Branch}, View.{gather, branch_seen, state_of}}
+use Rattle.xa_server.specs.{Step.{without_branch, with_write, with_writes, committed}, Tables.BranchMap, Rows.RowMap}
+use Rattle.xa_server.specs.Rows.{committed_of, write_by, lock_by, held_beside, freed_row, is_needed, kept, freed, Frees}
 use Rattle.xa_server.proofs.Maps.{same_or_apart, same_itself, get_inserted, get_inserted_apart, get_removed}
-use Rattle.xa_server.proofs.Maps.{get_removed_apart}
-use Rattle.xa_server.proofs.Gathered.{get-gather}
+use Rattle.xa_server.proofs.{Maps.get_removed_apart, Gathered.get-gather, Seen.get-branches}
 use Rattle.xa_server.proofs.Holders.{mode_of, none_of, beside_there, unwritten, freed_own, freed_beside, freed_writes}
-use Rattle.xa_server.proofs.Seen.{get-branches}
 use Rattle.xa_server.proofs.Steps.{same_state, same_branches, gather_same}
+use Rattle.std.specs.FinMap as map
 
 -- after writes, the newest first, a row has the value that the newest write to it says, or else its old one
 pub get-with_writes : (writes : List (List ℕ × Write)) (rows : map.FinMap bytes_cmp Text) (key : List ℕ)

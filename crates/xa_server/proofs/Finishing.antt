@@ -1,28 +1,19 @@
 -- Between two finishes of a prepared branch in one history stands an accepted XA PREPARE of it.
 use Rattle.std.proofs.Common.{◌≡◌, ℕ, zero, suc, ◌<◌, List, [], ◌∷◌, refl, ap, sym, ◌∙◌, Bool, true, false, inl, inr}
-use Rattle.std.proofs.Common.{take, arith}
-use Rattle.std.specs.Prelude.{Option, Some, None, cond}
+use Rattle.std.{proofs.Common.{take, arith}, specs.Prelude.{Option, Some, None, cond}}
 use Rattle.std.specs.Option.{option_map, option_map_or}
-use Rattle.std.specs.FinMap as map
 use mathlib.Core.Bool.{true≢false}
-use Rattle.xa_xid.specs.declared.xid.Xid.{Xid}
-use Rattle.xa_xid.specs.Xid.{same_xid}
+use Rattle.xa_xid.specs.{declared.{xid.Xid.Xid, statement.Statement.Statement}, Xid.same_xid}
 use Rattle.xa_xid.proofs.Orders.{xids_total, exact_xids}
-use Rattle.xa_xid.specs.declared.statement.Statement.{Statement}
-use Rattle.xa_xid.specs.declared.statement.Statement.TheVariants.{Start, End, Prepare, Commit, Rollback, Recover}
-use Rattle.xa_xid.specs.declared.statement.Statement.TheVariants.{Unsupported, Get, Put, Del, Disconnect}
-use Rattle.xa_server.specs.declared.reply.Reply.TheVariants.{Ok as Accepted}
-use Rattle.xa_server.specs.declared.xa_error.XaError.{XaError}
-use Rattle.xa_server.specs.declared.association.Association.{Association}
-use Rattle.xa_server.specs.declared.association.Association.TheVariants.{Free, Active, Idle}
+use Rattle.xa_server.specs.declared.{reply.Reply.TheVariants.Ok as Accepted, xa_error.XaError.XaError}
+use Rattle.xa_server.specs.declared.association.Association.{Association, TheVariants.{Free, Active, Idle}}
 use Rattle.xa_server.specs.State.{Write, Branch, State, is_prepared, is_prepared_phase, association_of}
-use Rattle.xa_server.specs.Replies.{ok_if, table, reply_to}
+use Rattle.xa_server.{specs.Replies.{ok_if, table, reply_to}, proofs.Maps.{same_or_apart, same_itself}}
 use Rattle.xa_server.specs.Step.{started_by, with_lock, with_own_write, is_refused, after, after_all}
-use Rattle.xa_server.specs.Finish.{Finishes, commits, rolls_back, FinishesAt, PreparesAt}
-use Rattle.xa_server.specs.Laws.{IsPreparedBetween}
-use Rattle.xa_server.proofs.Maps.{same_or_apart, same_itself}
+use Rattle.xa_server.specs.{Finish.{Finishes, commits, rolls_back, FinishesAt, PreparesAt}, Laws.IsPreparedBetween}
 use Rattle.xa_server.proofs.Index.{same_value, not_none}
 use Rattle.xa_server.proofs.Changes.{idle, detached, branch_after, effect-branch, accepted_done, outcome}
+use Rattle.std.specs.FinMap as map
 
 -- whether the branch is there and PREPARED
 is_ready : Option Branch → Bool
@@ -62,37 +53,38 @@ never b e f = absurd (true≢false (sym f ∙ e))
 -- only an XA PREPARE of a branch makes it PREPARED
 turns : (session : ℕ) (association : Association) (statement : Statement) (at : Xid) (found : Option Branch) →
     is_ready found ≡ false → is_ready (branch_after session association statement at found) ≡ true
-    → statement ≡ Prepare at
+    → statement ≡ Statement.Prepare at
 unfolding branch_after is_ready
-turns session association (Start xid) at found e f =
+turns session association (Statement.Start xid) at found e f =
     never _ (stays (same_xid at xid) (Some (started_by session)) found e refl) f
-turns session association (End xid) at found e f =
+turns session association (Statement.End xid) at found e f =
     never _ (stays (same_xid at xid) (option_map idle found) found e (idle_isn't found)) f
-turns session association (Prepare xid) at found e f = elim (same_or_apart xids_total exact_xids at xid) [
-  | inl is ↦ ap Prepare (sym is)
+turns session association (Statement.Prepare xid) at found e f = elim (same_or_apart xids_total exact_xids at xid) [
+  | inl is ↦ ap Statement.Prepare (sym is)
   | inr apart ↦ never (is_ready found) e (ap (λ b. is_ready (cond b (option_map detached found) found)) (sym apart) ∙ f)
 ]
-turns session association (Commit xid one_phase) at found e f = never _ (stays (same_xid at xid) None found e refl) f
-turns session association (Rollback xid) at found e f = never _ (stays (same_xid at xid) None found e refl) f
-turns session association (Recover convert) at found e f = never _ e f
-turns session association Unsupported at found e f = never _ e f
-turns session Free (Get key) at found e f = never _ e f
-turns session (Active own) (Get key) at found e f =
+turns session association (Statement.Commit xid one_phase) at found e f = never _
+    (stays (same_xid at xid) None found e refl) f
+turns session association (Statement.Rollback xid) at found e f = never _ (stays (same_xid at xid) None found e refl) f
+turns session association (Statement.Recover convert) at found e f = never _ e f
+turns session association Statement.Unsupported at found e f = never _ e f
+turns session Free (Statement.Get key) at found e f = never _ e f
+turns session (Active own) (Statement.Get key) at found e f =
     never _ (stays (same_xid at own) (option_map (with_lock key) found) found e (locked key found ∙ e)) f
-turns session (Idle own) (Get key) at found e f = never _ e f
-turns session Free (Put key value) at found e f = never _ e f
-turns session (Active own) (Put key value) at found e f =
+turns session (Idle own) (Statement.Get key) at found e f = never _ e f
+turns session Free (Statement.Put key value) at found e f = never _ e f
+turns session (Active own) (Statement.Put key value) at found e f =
     never _ (stays (same_xid at own) (option_map (with_own_write key (Some value)) found) found e
     (written key (Some value) found ∙ e)) f
-turns session (Idle own) (Put key value) at found e f = never _ e f
-turns session Free (Del key) at found e f = never _ e f
-turns session (Active own) (Del key) at found e f =
+turns session (Idle own) (Statement.Put key value) at found e f = never _ e f
+turns session Free (Statement.Del key) at found e f = never _ e f
+turns session (Active own) (Statement.Del key) at found e f =
     never _ (stays (same_xid at own) (option_map (with_own_write key None) found) found e
     (written key None found ∙ e)) f
-turns session (Idle own) (Del key) at found e f = never _ e f
-turns session Free Disconnect at found e f = never _ e f
-turns session (Active own) Disconnect at found e f = never _ (stays (same_xid at own) None found e refl) f
-turns session (Idle own) Disconnect at found e f = never _ (stays (same_xid at own) None found e refl) f
+turns session (Idle own) (Statement.Del key) at found e f = never _ e f
+turns session Free Statement.Disconnect at found e f = never _ e f
+turns session (Active own) Statement.Disconnect at found e f = never _ (stays (same_xid at own) None found e refl) f
+turns session (Idle own) Statement.Disconnect at found e f = never _ (stays (same_xid at own) None found e refl) f
 
 -- a reply that is Ok only if a test holds, and isn't a refusal, is Ok
 passed : (b : Bool) (error : XaError) → is_refused (ok_if b error) ≡ false → ok_if b error ≡ Accepted
@@ -101,8 +93,8 @@ passed false error e = absurd (true≢false e)
 
 -- an XA PREPARE that isn't refused is answered Ok
 prepare_answer : (state : State) (association : Association) (xid : Xid)
-    → is_refused (table state association (Prepare xid)) ≡ false
-    → table state association (Prepare xid) ≡ Accepted
+    → is_refused (table state association (Statement.Prepare xid)) ≡ false
+    → table state association (Statement.Prepare xid) ≡ Accepted
 unfolding table
 prepare_answer state Free xid e = absurd (true≢false e)
 prepare_answer state (Active own) xid e = absurd (true≢false e)
@@ -111,12 +103,12 @@ prepare_answer state (Idle own) xid e = passed (same_xid xid own) _ e
 -- a branch that wasn't PREPARED, and is, was prepared by the statement
 becomes_prepared : (state : State) (session : ℕ) (statement : Statement) (xid : Xid) → is_prepared state xid ≡ false
     → is_prepared (after state session statement) xid ≡ true →
-    (statement ≡ Prepare xid) × (reply_to state session (Prepare xid) ≡ Accepted)
+    (statement ≡ Statement.Prepare xid) × (reply_to state session (Statement.Prepare xid) ≡ Accepted)
 unfolding is_ready reply_to
 becomes_prepared state session statement xid e f = elim (outcome state session statement) [
   | inl (refused, same) ↦ never (is_prepared state xid) e (sym (ap (λ s. is_prepared s xid) same) ∙ f)
   | inr (accepted, done) ↦
-      let is : statement ≡ Prepare xid = turns session (association_of state session) statement xid
+      let is : statement ≡ Statement.Prepare xid = turns session (association_of state session) statement xid
       (map.get state.branches xid) e
       (ap is_ready (sym (effect-branch state session (association_of state session) statement xid))
       ∙ sym (ap (λ s. is_prepared s xid) done) ∙ f) in (
@@ -143,10 +135,10 @@ finished : (state : State) (session : ℕ) (statement : Statement) (xid : Xid) �
     → is_prepared (after state session statement) xid ≡ false
 unfolding branch_after
 finished state session statement xid (commits x) accepted =
-    gone state session (Commit x false) x accepted (ap (λ b. cond b None (map.get state.branches x))
+    gone state session (Statement.Commit x false) x accepted (ap (λ b. cond b None (map.get state.branches x))
     (same_itself xids_total exact_xids x))
 finished state session statement xid (rolls_back x) accepted =
-    gone state session (Rollback x) x accepted (ap (λ b. cond b None (map.get state.branches x))
+    gone state session (Statement.Rollback x) x accepted (ap (λ b. cond b None (map.get state.branches x))
     (same_itself xids_total exact_xids x))
 
 -- ---- along a history

@@ -1,31 +1,21 @@
 -- What ending a branch does to the records of rows; and what it does to them that a branch comes to hold or to
 -- share a row.
 use Rattle.std.proofs.Common.{◌≡◌, ℕ, List, [], ◌∷◌, ◌++◌, refl, ap, sym, ◌∙◌, Bool, true, false, inl, inr}
-use Rattle.std.specs.Prelude.{Option, Some, None, cond, not, ◌&&◌, ◌||◌, is_some, MatchOption}
-use Rattle.std.specs.Option.{unwrap_or}
-use Rattle.std.specs.List.{list_any}
-use Rattle.std.specs.Ordering.{eq_by_cmp}
-use Rattle.std.specs.BTreeMap as tree
-use Rattle.std.specs.BTreeMap.{BTreeMap, Updates}
-use Rattle.std.specs.FinMap as map
-use Rattle.std.specs.FinMap.{same_map}
-use Rattle.std.specs.FinSet as set
-use Rattle.std.specs.FinSet.{contains-empty, contains-remove, same_set}
-use Rattle.xa_xid.specs.declared.xid.Xid.{Xid}
-use Rattle.xa_xid.specs.Xid.{Text, bytes_cmp, xid_cmp, same_xid}
+use Rattle.std.{proofs.lemmas.List.Folds.list_any-append, specs.{List.list_any, Ordering.eq_by_cmp}}
+use Rattle.std.specs.{Prelude.{Option, Some, None, cond, not, ◌&&◌, ◌||◌, is_some, MatchOption}, Option.unwrap_or}
+use Rattle.std.specs.{BTreeMap.{BTreeMap, Updates}, FinMap.same_map, FinSet.{contains-empty, contains-remove, same_set}}
+use Rattle.xa_xid.specs.{declared.xid.Xid.Xid, Xid.{Text, bytes_cmp, xid_cmp, same_xid}}
 use Rattle.xa_xid.proofs.Orders.{xids_total, exact_xids, bytes_total, exact_texts}
-use Rattle.xa_server.specs.declared.lock.Change.{Change}
-use Rattle.xa_server.specs.declared.lock.Lock.{Lock}
-use Rattle.xa_server.specs.declared.lock.Lock.TheVariants.{Exclusive as HeldBy, Shared as SharedBy}
-use Rattle.xa_server.specs.Recorded.{RowRecord}
-use Rattle.xa_server.specs.Rows.{RowMap, Sharing, write_of, write_in, held_row, with_sharer, shared_row, freed_lock}
-use Rattle.xa_server.specs.Rows.{freed_row, is_needed, kept, freed, Frees}
-use Rattle.xa_server.proofs.Maps.{get_view, same_or_apart, same_itself, get_inserted, get_inserted_apart, get_removed}
-use Rattle.xa_server.proofs.Maps.{get_removed_apart}
-use Rattle.xa_server.proofs.Index.{same_value, not_none}
-use Rattle.xa_server.proofs.Holders.{none_of, itself}
+use Rattle.xa_server.specs.{declared.lock.{Change.Change, Lock.Lock}, Recorded.RowRecord}
+use Rattle.xa_server.specs.{declared.lock.Lock.TheVariants.{Exclusive as HeldBy, Shared as SharedBy}, Rows.RowMap}
+use Rattle.xa_server.specs.Rows.{Sharing, write_of, write_in, held_row, with_sharer, shared_row, freed_lock, freed_row}
+use Rattle.xa_server.{specs.Rows.{is_needed, kept, freed, Frees}, proofs.Maps.{get_view, same_or_apart, same_itself}}
+use Rattle.xa_server.proofs.Maps.{get_inserted, get_inserted_apart, get_removed, get_removed_apart}
+use Rattle.xa_server.proofs.{Index.{same_value, not_none}, Holders.{none_of, itself}}
 use mathlib.Core.Bool.{true≢false}
-use Rattle.std.proofs.lemmas.List.Folds.{list_any-append}
+use Rattle.std.specs.BTreeMap as tree
+use Rattle.std.specs.FinMap as map
+use Rattle.std.specs.FinSet as set
 
 -- taking a branch that doesn't share the row out of its sharers changes nothing
 pub not_there : (sharers : Sharing) (xid : Xid) → set.contains sharers xid ≡ false → set.remove sharers xid ≡ sharers

@@ -1,19 +1,13 @@
 -- What stands in maps that are gathered from records, or whose values are changed.
 use Rattle.std.proofs.Common.{◌≡◌, List, [], ◌∷◌, refl, ap, sym, ◌∙◌, Bool, true, false, inl, inr, map, subst}
-use Rattle.std.specs.Prelude.{Option, Some, None, cond, ◌&&◌, ◌||◌, is_some}
-use lib.Dec.{T}
-use Rattle.std.specs.Option.{option_map, option_map_or, option_and_then}
-use Rattle.std.specs.List.{list_any}
-use Rattle.std.specs.declared.cmp.Ordering.{Ordering}
-use Rattle.std.specs.Ordering.{eq_by_cmp, is_lt}
-use Rattle.std.specs.Cmp.{IsTotalOrder}
-use Rattle.std.specs.FinMap.{FinMap, get, insert, keys, entries, find, entries_sorted, entries-from_sorted, get-entries}
-use Rattle.std.specs.FinMap.{get-empty, contains_key-keys}
-use Rattle.std.specs.FinMap.{is_sorted}
-use Rattle.std.specs.FinMap.Entries.{below_all}
-use Rattle.std.proofs.lemmas.Map.Lookups.{CmpEqualImpliesEq}
+use Rattle.std.{proofs.lemmas.Map.Lookups.CmpEqualImpliesEq, specs.Option.{option_map, option_map_or, option_and_then}}
+use Rattle.std.specs.{Prelude.{Option, Some, None, cond, ◌&&◌, ◌||◌, is_some}, List.list_any}
+use Rattle.std.specs.{declared.cmp.Ordering.Ordering, Ordering.{eq_by_cmp, is_lt}, Cmp.IsTotalOrder, FinMap.FinMap}
+use Rattle.std.specs.FinMap.{get, insert, keys, entries, find, entries_sorted, entries-from_sorted, get-entries}
+use Rattle.std.specs.FinMap.{get-empty, contains_key-keys, is_sorted, Entries.below_all}
 use Rattle.xa_server.specs.View.{gather_at, gather, map_values, mapped}
 use Rattle.xa_server.proofs.Maps.{same_or_apart, same_itself, get_inserted, get_inserted_apart}
+use lib.Dec.{T}
 
 -- a choice between nothing and nothing is nothing
 none_at : {W : Type 0} (b : Bool) (here : Option W) → here ≡ None → cond b here None ≡ None

@@ -1,31 +1,21 @@
 -- The branches that a state lists are those of the records, and so are the rows that a branch holds.
 use Rattle.std.proofs.Common.{◌≡◌, List, [], ◌∷◌, refl, ap, sym, ◌∙◌, Bool, true, false, map, ℕ}
+use Rattle.std.specs.{Prelude.{Option, Some, None, cond, is_some}, List.AllByRecursion}
+use Rattle.std.specs.{Option.{option_map, option_map_or, option_and_then}, FinMap.{find, get-entries}}
 use mathlib.Core.Bool.{true≢false}
-use Rattle.std.specs.Prelude.{Option, Some, None, cond, is_some}
-use Rattle.std.specs.List.{AllByRecursion}
-use Rattle.std.specs.Option.{option_map, option_map_or, option_and_then}
-use Rattle.std.specs.FinMap as fin
-use Rattle.std.specs.FinMap.{find, get-entries}
-use Rattle.std.specs.FinSet as set
-use Rattle.xa_xid.specs.declared.xid.Xid.{Xid}
-use Rattle.xa_xid.specs.Xid.{bytes_cmp, same_xid}
+use Rattle.xa_xid.specs.{declared.xid.Xid.Xid, Xid.{bytes_cmp, same_xid}}
 use Rattle.xa_xid.proofs.Orders.{xids_total, exact_xids, bytes_total, exact_texts}
-use Rattle.xa_server.specs.declared.branch.BranchRecord.{BranchRecord}
-use Rattle.xa_server.specs.declared.hold.HeldRow.{HeldRow}
-use Rattle.xa_server.specs.declared.hold.Hold.TheVariants.{Shared as Shares}
-use Rattle.xa_server.specs.declared.lock.Lock.{Lock}
-use Rattle.xa_server.specs.declared.lock.Lock.TheVariants.{Exclusive as HeldBy, Shared as SharedBy}
-use Rattle.xa_server.specs.Recorded.{RowRecord}
-use Rattle.xa_server.specs.Held.{recorded_entry, recorded_entries, hold_in, with_held, held_among}
+use Rattle.xa_server.specs.declared.{branch.BranchRecord.BranchRecord, hold.{HeldRow.HeldRow, Hold.Hold}}
+use Rattle.xa_server.specs.declared.lock.Lock.{Lock, TheVariants.{Exclusive as HeldBy, Shared as SharedBy}}
+use Rattle.xa_server.specs.{Recorded.RowRecord, Held.{recorded_entry, recorded_entries, hold_in, with_held, held_among}}
 use Rattle.xa_server.specs.Overview.{entry_of, branches_of, hold_of, held_row, rows_held, rows_of}
 use Rattle.xa_server.specs.Rows.{RowMap, write_by, write_in, lock_by, mode_in, write_of}
-use Rattle.xa_server.specs.State.{State, Branch, LockMode, Exclusive, Shared, Write, is_known}
-use Rattle.xa_server.specs.Tables.{BranchMap}
+use Rattle.xa_server.specs.{State.{State, Branch, LockMode, Exclusive, Shared, Write, is_known}, Tables.BranchMap}
 use Rattle.xa_server.specs.View.{gather, map_values, branch_seen, state_of}
-use Rattle.xa_server.proofs.Gathered.{entries-mapped}
-use Rattle.xa_server.specs.Layers.{with_found as with_kept, gathered as kept}
-use Rattle.xa_server.proofs.Kept.{entries-gather, found_entries}
-use Rattle.xa_server.proofs.Seen.{get-branches, writes-seen, known_record}
+use Rattle.xa_server.{specs.Layers.{with_found as with_kept, gathered as kept}, proofs.Gathered.entries-mapped}
+use Rattle.xa_server.proofs.{Kept.{entries-gather, found_entries}, Seen.{get-branches, writes-seen, known_record}}
+use Rattle.std.specs.FinMap as fin
+use Rattle.std.specs.FinSet as set
 
 -- ---- branches
 
@@ -56,7 +46,7 @@ hold-modes xid (HeldBy holder change) = by (same_xid holder xid)
     by false = refl
 hold-modes xid (SharedBy sharers) = by (set.contains sharers xid)
   where
-    by : (b : Bool) → cond b (Some Shares) None ≡ option_map (λ (mode : LockMode). hold_of None)
+    by : (b : Bool) → cond b (Some Hold.Shared) None ≡ option_map (λ (mode : LockMode). hold_of None)
         (cond b (Some Shared) None)
     by true = refl
     by false = refl

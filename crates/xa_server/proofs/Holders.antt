@@ -1,25 +1,16 @@
 -- What the lock of a row says of the branches.
 use Rattle.std.proofs.Common.{◌≡◌, ℕ, List, [], ◌∷◌, refl, ap, sym, ◌∙◌, Bool, true, false, inl, inr, arith}
-use Rattle.std.specs.Prelude.{Option, Some, None, cond, ◌&&◌, ◌||◌, is_some, not}
-use Rattle.std.specs.Option.{option_and_then}
-use Rattle.std.specs.List.{list_any}
-use Rattle.std.specs.FinSet as set
-use Rattle.std.specs.FinSet.{contains-items, contains-empty, contains-insert, contains-remove}
+use Rattle.std.specs.{Prelude.{Option, Some, None, cond, ◌&&◌, ◌||◌, is_some, not}, Option.option_and_then}
+use Rattle.std.specs.{List.list_any, FinSet.{contains-items, contains-empty, contains-insert, contains-remove}}
 use mathlib.Core.Bool.{true≢false}
-use Rattle.xa_xid.specs.declared.xid.Xid.{Xid}
-use Rattle.xa_xid.specs.Xid.{xid_cmp, same_xid}
-use Rattle.xa_xid.proofs.Orders.{xids_total, exact_xids}
-use Rattle.xa_server.specs.declared.lock.Lock.{Lock}
-use Rattle.xa_server.specs.declared.lock.Lock.TheVariants.{Exclusive as HeldBy, Shared as SharedBy}
-use Rattle.xa_server.specs.Recorded.{RowRecord}
-use Rattle.xa_server.specs.declared.association.Association.{Association}
-use Rattle.xa_server.specs.declared.association.Association.TheVariants.{Active}
-use Rattle.xa_server.specs.State.{Write, LockMode, Shared, Exclusive}
-use Rattle.xa_server.specs.Locks.{is_another, is_exclusive}
-use Rattle.xa_server.specs.Rows.{lock_of, write_of, write_in, write_by, mode_in, lock_by, held_beside, locked_beside}
-use Rattle.xa_server.specs.Rows.{held_against, locked_against, with_sharer}
-use Rattle.xa_server.specs.Rows.{freed_lock}
+use Rattle.xa_xid.{specs.{declared.xid.Xid.Xid, Xid.{xid_cmp, same_xid}}, proofs.Orders.{xids_total, exact_xids}}
+use Rattle.xa_server.specs.declared.lock.Lock.{Lock, TheVariants.{Exclusive as HeldBy, Shared as SharedBy}}
+use Rattle.xa_server.specs.{declared.association.Association.{Association, TheVariants.Active}, Recorded.RowRecord}
+use Rattle.xa_server.specs.{State.{Write, LockMode, Shared, Exclusive}, Locks.{is_another, is_exclusive}, Rows.lock_of}
+use Rattle.xa_server.specs.Rows.{write_of, write_in, write_by, mode_in, lock_by, held_beside, locked_beside}
+use Rattle.xa_server.specs.Rows.{held_against, locked_against, with_sharer, freed_lock}
 use Rattle.xa_server.proofs.Maps.{same_or_apart, same_itself, same_is}
+use Rattle.std.specs.FinSet as set
 
 -- ---- tests
 

@@ -1,30 +1,21 @@
 -- A branch comes to hold a row: it lists the row first, and the row then names it.
 use Rattle.std.proofs.Common.{◌≡◌, ℕ, List, [], ◌∷◌, ◌++◌, refl, ap, sym, ◌∙◌, true, false, inl, inr, length, arith}
-use Rattle.std.specs.Prelude.{Option, Some, None, cond, ◌-◌, is_some}
-use Rattle.std.specs.Option.{option_map, option_map_or}
-use Rattle.std.specs.FinMap as map
-use Rattle.std.specs.FinMap.{same_map}
-use Rattle.std.proofs.Common.{length-append, ◌+◌}
-use Rattle.std.proofs.Math.Seq.{take-append_seam}
-use Rattle.xa_xid.specs.declared.xid.Xid.{Xid}
-use Rattle.xa_xid.specs.Xid.{same_xid}
-use Rattle.xa_xid.proofs.Orders.{xids_total, exact_xids}
-use Rattle.xa_server.specs.declared.branch.BranchRecord.{BranchRecord}
-use Rattle.xa_server.specs.declared.lock.Change.{Change}
+use Rattle.std.{proofs.{Common.{length-append, ◌+◌}, Math.Seq.take-append_seam}, specs.FinMap.same_map}
+use Rattle.std.specs.{Prelude.{Option, Some, None, cond, ◌-◌, is_some}, Option.{option_map, option_map_or}}
+use Rattle.xa_xid.{specs.{declared.xid.Xid.Xid, Xid.same_xid}, proofs.Orders.{xids_total, exact_xids}}
+use Rattle.xa_server.specs.declared.{branch.BranchRecord.BranchRecord, lock.Change.Change}
 use Rattle.xa_server.specs.declared.association.Association.TheVariants.{Active}
-use Rattle.xa_server.specs.State.{Exclusive, Branch, State, is_known}
+use Rattle.xa_server.specs.{State.{Exclusive, Branch, State, is_known}, Step.{with_branch, with_changed, with_lock}}
 use Rattle.xa_server.specs.Locks.{holds, is_held_against, is_locked_against}
-use Rattle.xa_server.specs.Step.{with_branch, with_changed, with_lock}
 use Rattle.xa_server.specs.Tables.{BranchMap, with_record, without_last}
-use Rattle.xa_server.specs.Rows.{RowMap, held_row, shared_row, with_change}
-use Rattle.xa_server.specs.View.{state_of, IsWhole}
+use Rattle.xa_server.specs.{Rows.{RowMap, held_row, shared_row, with_change}, View.{state_of, IsWhole}}
 use Rattle.xa_server.proofs.Maps.{same_or_apart, get_inserted, get_inserted_apart}
 use Rattle.xa_server.proofs.Holders.{mode_of, itself, turned_apart, some_if}
-use Rattle.xa_server.proofs.Seen.{holds-seen, free_row, known_record, locked_against-seen}
-use Rattle.xa_server.proofs.Steps.{same_state, same_branches, seen_changed, seen_held, seen_shared, IsShareable}
-use Rattle.xa_server.proofs.Steps.{share_there, share_others}
+use Rattle.xa_server.proofs.{Seen.{holds-seen, free_row, known_record, locked_against-seen}, Steps.same_state}
+use Rattle.xa_server.proofs.Steps.{same_branches, seen_changed, seen_held, seen_shared, IsShareable, share_there}
+use Rattle.xa_server.proofs.{Steps.share_others, Whole.{whole_more, whole_row, changed_at}}
+use Rattle.std.specs.FinMap as map
 unfoldable pub use Rattle.xa_server.proofs.Whole.{longer}
-use Rattle.xa_server.proofs.Whole.{whole_more, whole_row, changed_at}
 
 -- the branch's record without the last key that it holds
 unfoldable pub shorter : BranchRecord → BranchRecord

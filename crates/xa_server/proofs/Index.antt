@@ -2,26 +2,17 @@
 use Rattle.std.proofs.Common.{◌≡◌, ◌≢◌, ℕ, ◌<◌, zero, suc, List, [], ◌∷◌, ◌++◌, refl, ap, sym, ◌∙◌, true, false, length}
 use Rattle.std.proofs.Common.{arith, ◌⊎◌, inl, inr, get_or-set_same, get_or-set_other}
 use Rattle.std.specs.Prelude.{Option, Some, None, cond, slice_set}
-use Rattle.std.specs.Option.{option_and_then, option_map, option_map_or}
-use Rattle.std.specs.BTreeMap as tree
-use Rattle.std.specs.BTreeMap.{BTreeMap}
-use Rattle.std.specs.FinMap as map
-use Rattle.std.specs.FinMap.{get-empty}
+use Rattle.std.specs.{Option.{option_and_then, option_map, option_map_or}, BTreeMap.BTreeMap, FinMap.get-empty}
 use mathlib.Core.Bool.{true≢false}
-use lib.Dec.{eqb}
-use Rattle.xa_xid.specs.declared.xid.Xid.{Xid}
-use Rattle.xa_xid.specs.Xid.{xid_cmp, same_xid}
-use Rattle.xa_xid.proofs.Orders.{xids_total, exact_xids}
-use Rattle.xa_server.specs.declared.branch.BranchRecord.{BranchRecord}
-use Rattle.xa_server.specs.declared.branch.Phase.{Phase}
-use Rattle.xa_server.specs.declared.branch.Phase.TheVariants.{Active as PhaseActive, Idle as PhaseIdle}
-use Rattle.xa_server.specs.declared.association.Association.{Association}
-use Rattle.xa_server.specs.declared.association.Association.TheVariants.{Free, Active, Idle}
-use Rattle.xa_server.specs.State.{association_in}
+use Rattle.xa_xid.{specs.{declared.xid.Xid.Xid, Xid.{xid_cmp, same_xid}}, proofs.Orders.{xids_total, exact_xids}}
+use Rattle.xa_server.specs.{declared.branch.{BranchRecord.BranchRecord, Phase.Phase}, State.association_in}
+use Rattle.xa_server.specs.declared.association.Association.{Association, TheVariants.{Free, Active, Idle}}
 use Rattle.xa_server.specs.Tables.{BranchMap, owner_of, phase_in, opened_at, named_in, idle_of, IsIndexed, with_record}
 use Rattle.xa_server.proofs.Maps.{get_view, same_or_apart, same_itself, get_inserted, get_inserted_apart, get_removed}
-use Rattle.xa_server.proofs.Maps.{get_removed_apart}
-use Rattle.xa_server.proofs.Records.{branches_in}
+use Rattle.xa_server.proofs.{Maps.get_removed_apart, Records.branches_in}
+use Rattle.std.specs.BTreeMap as tree
+use Rattle.std.specs.FinMap as map
+use lib.Dec.{eqb}
 
 -- if two values are equal under `Some`, they are equal
 pub same_value : {A : Type 0} (x y : A) → Some x ≡ Some y → x ≡ y
@@ -360,7 +351,7 @@ module _ (opened : List Association) (nothing : Association) (old : BranchMap) (
   -- the index stays right if the session's branch becomes IDLE, and the session's place is set to it, IDLE
   pub indexed_idle :
       (idle : BranchRecord → BranchRecord) → ((branch : BranchRecord) → (idle branch).owner ≡ branch.owner) →
-      ((branch : BranchRecord) → (idle branch).phase ≡ PhaseIdle) →
+      ((branch : BranchRecord) → (idle branch).phase ≡ Phase.Idle) →
       IsIndexed (slice_set opened session (Idle xid)) nothing (with_record old xid idle)
   indexed_idle idle owner phase = by (record_owned old xid session owner_is)
     where
@@ -415,7 +406,7 @@ pub indexed_started :
     (opened : List Association) (nothing : Association) (old : BranchMap) (session : ℕ) (xid : Xid)
     (branch : BranchRecord) →
     session < length opened → owner_of old xid ≡ None → ((other : Xid) → owner_of old other ≢ Some session) →
-    branch.owner ≡ Some session → branch.phase ≡ PhaseActive → IsIndexed opened nothing old →
+    branch.owner ≡ Some session → branch.phase ≡ Phase.Active → IsIndexed opened nothing old →
     IsIndexed (slice_set opened session (Active xid)) nothing (map.insert old xid branch)
 indexed_started opened nothing old session xid branch within nobodys none owner phase is =
     indexed_set opened nothing old (map.insert old xid branch) session xid (Some branch) (Active xid)

@@ -1,36 +1,21 @@
 -- Each statement, and so each history, keeps the lock law.
 use Rattle.std.proofs.Common.{◌≡◌, ℕ, List, [], ◌∷◌, refl, ap, sym, ◌∙◌, subst, Bool, true, false, ◌⊎◌, inl, inr}
-use Rattle.std.specs.Prelude.{Option, Some, None, cond, is_some}
-use Rattle.std.specs.Option.{option_map, option_map_or, option_and_then}
-use Rattle.std.specs.FinMap as map
+use Rattle.std.specs.{Prelude.{Option, Some, None, cond, is_some}, Option.{option_map, option_map_or, option_and_then}}
 use Rattle.std.specs.FinMap.{get-empty}
 use mathlib.Core.Bool.{true≢false}
-use Rattle.xa_xid.specs.declared.xid.Xid.{Xid}
-use Rattle.xa_xid.specs.Xid.{bytes_cmp, same_xid}
+use Rattle.xa_xid.specs.{declared.{xid.Xid.Xid, statement.Statement.Statement}, Xid.{bytes_cmp, same_xid}}
 use Rattle.xa_xid.proofs.Orders.{xids_total, exact_xids, bytes_total, exact_texts}
-use Rattle.xa_xid.specs.declared.statement.Statement.{Statement}
-use Rattle.xa_xid.specs.declared.statement.Statement.TheVariants.{Start, End, Prepare, Commit, Rollback, Recover}
-use Rattle.xa_xid.specs.declared.statement.Statement.TheVariants.{Unsupported, Get, Put, Del, Disconnect}
-use Rattle.xa_server.specs.declared.branch.Phase.{Phase}
-use Rattle.xa_server.specs.declared.branch.Phase.TheVariants.{Active as PhaseActive, Idle as PhaseIdle}
-use Rattle.xa_server.specs.declared.branch.Phase.TheVariants.{Prepared as PhasePrepared}
-use Rattle.xa_server.specs.declared.association.Association.{Association}
-use Rattle.xa_server.specs.declared.association.Association.TheVariants.{Free, Active, Idle}
-use Rattle.xa_server.specs.State.{Write, Exclusive, Branch, State, no_state, is_prepared, is_prepared_phase, owns}
-use Rattle.xa_server.specs.State.{phase_at, association_in, association_of}
-use Rattle.xa_server.specs.State.{IsOpen}
-use Rattle.xa_server.specs.Locks.{LockLaw, is_exclusive}
-use Rattle.xa_server.specs.Replies.{table}
+use Rattle.xa_server.specs.{declared.{branch.Phase.Phase, association.Association.Association}, State.Write}
+use Rattle.xa_server.specs.State.{Exclusive, Branch, State, no_state, is_prepared, is_prepared_phase, owns, phase_at}
+use Rattle.xa_server.specs.{State.{association_in, association_of, IsOpen}, Locks.{LockLaw, is_exclusive}}
+use Rattle.xa_server.{specs.Replies.table, proofs.Maps.{same_or_apart, get_inserted, get_inserted_apart}}
 use Rattle.xa_server.specs.Step.{started_by, with_lock, with_own_write, effect, is_refused, after, after_all}
-use Rattle.xa_server.proofs.Maps.{same_or_apart, get_inserted, get_inserted_apart}
-use Rattle.xa_server.proofs.Index.{not_none}
+use Rattle.xa_server.proofs.{Index.not_none, Accepted.{open_association, accepted_start, accepted_end}}
 use Rattle.xa_server.proofs.Taking.{mode_in, share_exclusive, Before, held_before, exclusive_before, one_holder}
-use Rattle.xa_server.proofs.Accepted.{open_association, accepted_start, accepted_end}
-use Rattle.xa_server.proofs.Changes.{idle, detached, branch_after, effect-branch, outcome}
+use Rattle.xa_server.proofs.{Changes.{idle, detached, branch_after, effect-branch, outcome}, Steps.seen_empty}
 use Rattle.xa_server.proofs.Others.{is_owned, IsStarted, owned_before, own_found, nobodys, known_owned}
-use Rattle.xa_server.proofs.Steps.{seen_empty}
-use Rattle.xa_server.proofs.Whole.{whole_empty}
-use Rattle.xa_server.proofs.LockLaws.{lock_law}
+use Rattle.xa_server.proofs.{Whole.whole_empty, LockLaws.lock_law}
+use Rattle.std.specs.FinMap as map
 
 -- ---- what a branch keeps by itself
 
@@ -143,50 +128,50 @@ sound_after : (state : State) (session : ℕ) (association : Association) → Is
     → (at : Xid) → IsSound (map.get state.branches at) →
     IsSound (branch_after session association statement at (map.get state.branches at))
 unfolding branch_after
-sound_after state session association associated (Start xid) accepted at sound =
+sound_after state session association associated (Statement.Start xid) accepted at sound =
     one_of (same_xid at xid) _ _ (sound_started session) sound
-sound_after state session association associated (End xid) accepted at sound =
+sound_after state session association associated (Statement.End xid) accepted at sound =
     idle_at state xid at (accepted_end state association xid associated accepted) sound
-sound_after state session association associated (Prepare xid) accepted at sound =
+sound_after state session association associated (Statement.Prepare xid) accepted at sound =
     one_of (same_xid at xid) _ _ (sound_detached (map.get state.branches at) sound) sound
-sound_after state session association associated (Commit xid one_phase) accepted at sound =
+sound_after state session association associated (Statement.Commit xid one_phase) accepted at sound =
     one_of (same_xid at xid) _ _ sound_none sound
-sound_after state session association associated (Rollback xid) accepted at sound =
+sound_after state session association associated (Statement.Rollback xid) accepted at sound =
     one_of (same_xid at xid) _ _ sound_none sound
-sound_after state session association associated (Recover convert) accepted at sound = sound
-sound_after state session association associated Unsupported accepted at sound = sound
-sound_after state session Free associated (Get key) accepted at sound = sound
-sound_after state session (Active own) associated (Get key) accepted at sound =
+sound_after state session association associated (Statement.Recover convert) accepted at sound = sound
+sound_after state session association associated Statement.Unsupported accepted at sound = sound
+sound_after state session Association.Free associated (Statement.Get key) accepted at sound = sound
+sound_after state session (Association.Active own) associated (Statement.Get key) accepted at sound =
     one_of (same_xid at own) _ _ (sound_locked key (map.get state.branches at) sound) sound
-sound_after state session (Idle own) associated (Get key) accepted at sound = sound
-sound_after state session Free associated (Put key value) accepted at sound = sound
-sound_after state session (Active own) associated (Put key value) accepted at sound =
+sound_after state session (Association.Idle own) associated (Statement.Get key) accepted at sound = sound
+sound_after state session Association.Free associated (Statement.Put key value) accepted at sound = sound
+sound_after state session (Association.Active own) associated (Statement.Put key value) accepted at sound =
     one_of (same_xid at own) _ _ (sound_written key (Some value) (map.get state.branches at) sound) sound
-sound_after state session (Idle own) associated (Put key value) accepted at sound = sound
-sound_after state session Free associated (Del key) accepted at sound = sound
-sound_after state session (Active own) associated (Del key) accepted at sound =
+sound_after state session (Association.Idle own) associated (Statement.Put key value) accepted at sound = sound
+sound_after state session Association.Free associated (Statement.Del key) accepted at sound = sound
+sound_after state session (Association.Active own) associated (Statement.Del key) accepted at sound =
     one_of (same_xid at own) _ _ (sound_written key None (map.get state.branches at) sound) sound
-sound_after state session (Idle own) associated (Del key) accepted at sound = sound
-sound_after state session Free associated Disconnect accepted at sound = sound
-sound_after state session (Active own) associated Disconnect accepted at sound =
+sound_after state session (Association.Idle own) associated (Statement.Del key) accepted at sound = sound
+sound_after state session Association.Free associated Statement.Disconnect accepted at sound = sound
+sound_after state session (Association.Active own) associated Statement.Disconnect accepted at sound =
     one_of (same_xid at own) _ _ sound_none sound
-sound_after state session (Idle own) associated Disconnect accepted at sound =
+sound_after state session (Association.Idle own) associated Statement.Disconnect accepted at sound =
     one_of (same_xid at own) _ _ sound_none sound
 
 -- ---- one branch for a session
 
 -- the session has no branch open
 unfoldable pub is_free : Association → Bool
-is_free Free = true
-is_free (Active own) = false
-is_free (Idle own) = false
+is_free Association.Free = true
+is_free (Association.Active own) = false
+is_free (Association.Idle own) = false
 
 -- a session that owns a branch isn't free
 pub owner_associated : (state : State) (session : ℕ) (xid : Xid) → LockLaw state → owns state session xid ≡ true
     → is_free (association_of state session) ≡ false
 unfolding association_of is_owned is_free
 owner_associated state session xid law e =
-    ap (λ own. is_free (option_map_or (λ xid. association_in (phase_at state xid) xid) own Free))
+    ap (λ own. is_free (option_map_or (λ xid. association_in (phase_at state xid) xid) own Association.Free))
     (own_found state session xid e (λ other f. law.one_branch session xid other e f))
     ∙ by (phase_at state xid) refl
   where
@@ -197,14 +182,14 @@ owner_associated state session xid law e =
 
     by : (phase : Option Phase) → phase_at state xid ≡ phase → is_free (association_in phase xid) ≡ false
     by None is = nothing (map.get state.branches xid) (known_owned session (map.get state.branches xid) e) is
-    by (Some PhaseActive) is = refl
-    by (Some PhaseIdle) is = refl
-    by (Some PhasePrepared) is =
+    by (Some Phase.Active) is = refl
+    by (Some Phase.Idle) is = refl
+    by (Some Phase.Prepared) is =
         absurd (true≢false (sym e ∙ nobodys state session xid law
         (ap (λ phase. option_map_or is_prepared_phase phase false) is)))
 
 -- equal XA START have equal identifiers
-start_of : (xid other : Xid) → Start xid ≡ Start other → xid ≡ other
+start_of : (xid other : Xid) → Statement.Start xid ≡ Statement.Start other → xid ≡ other
 start_of xid other e = cc
 
 -- a session that starts a branch owned none
@@ -213,7 +198,7 @@ starter_free : {A : Type 0} (state : State) (session who : ℕ) (statement : Sta
     (xid other : Xid) → IsStarted session who statement xid → owns state who other ≡ true → A
 unfolding is_free
 starter_free state session who statement law accepted xid other started e =
-    let free : association_of state session ≡ Free =
+    let free : association_of state session ≡ Association.Free =
     (accepted_start state (association_of state session) xid
     (sym (ap (λ s. is_refused (table state (association_of state session) s)) started.0) ∙ accepted)).0 in
     absurd (true≢false (sym (ap is_free free) ∙ owner_associated state session other law

@@ -1,25 +1,15 @@
 -- What is gathered from records stands in their order; and a list in order is the entries of the map that it makes.
 use Rattle.std.proofs.Common.{◌≡◌, ◌≤◌, length, suc, arith, List, [], ◌∷◌, refl, ap, sym, ◌∙◌, subst, Bool, true, false}
-use Rattle.std.proofs.Common.{inl, inr, map}
+use Rattle.std.{proofs.{Common.{inl, inr, map}, lemmas.Map.Lookups.CmpEqualImpliesEq}, specs.Option.option_and_then}
+use Rattle.std.specs.{Prelude.{Option, Some, None, cond, ◌&&◌}, List.{AllByRecursion, Sorted.IsStrictlySortedBy}}
+use Rattle.std.specs.{declared.cmp.Ordering.Ordering, Ordering.{eq_by_cmp, is_lt, is_eq}}
+use Rattle.std.specs.{Cmp.{IsTotalOrder, eq_by_cmp_equiv}, FinMap.{FinMap, len, len-entries, find, is_sorted}}
+use Rattle.std.specs.FinMap.{from_sorted, from_entries, entries, same_map, get-from_entries, get-from_sorted}
+use Rattle.std.specs.FinMap.{entries-from_sorted, get-entries, entries_sorted, Entries.below_all}
 use mathlib.Core.Bool.{true≢false}
-use Rattle.std.specs.Prelude.{Option, Some, None, cond, ◌&&◌}
-use Rattle.std.specs.List.{AllByRecursion}
-use Rattle.std.specs.List.Sorted.{IsStrictlySortedBy}
-use Rattle.std.specs.Option.{option_and_then}
-use Rattle.std.specs.declared.cmp.Ordering.{Ordering}
-use Rattle.std.specs.declared.cmp.Ordering.TheVariants.{Less, Equal, Greater}
-use Rattle.std.specs.Ordering.{eq_by_cmp, is_lt, is_eq}
-use Rattle.std.specs.Cmp.{IsTotalOrder, eq_by_cmp_equiv}
-use Rattle.std.specs.FinMap.{FinMap, len, len-entries, find, is_sorted, from_sorted, from_entries, entries, same_map}
-use Rattle.std.specs.FinMap.{get-from_entries, get-from_sorted, entries-from_sorted}
-use Rattle.std.specs.FinMap.{get-entries, entries_sorted}
-use Rattle.std.specs.FinMap.Entries.{below_all}
-use Rattle.std.proofs.lemmas.Map.Lookups.{CmpEqualImpliesEq}
+use Rattle.xa_server.specs.{View.gather, Layers.{with_found as with_kept, gathered as kept}}
+use Rattle.xa_server.proofs.{Gathered.get-gather, Maps.{same_or_apart, same_itself}}
 use lib.Dec.{T}
-use Rattle.xa_server.specs.View.{gather}
-use Rattle.xa_server.specs.Layers.{with_found as with_kept, gathered as kept}
-use Rattle.xa_server.proofs.Gathered.{get-gather}
-use Rattle.xa_server.proofs.Maps.{same_or_apart, same_itself}
 
 -- if both of two tests hold, the first does
 pub first : (a b : Bool) → (a && b) ≡ true → a ≡ true
@@ -42,9 +32,9 @@ is_true false t = absurd t
 
 -- what tests as less doesn't test as equal
 apart_below : (r : Ordering) → is_lt r ≡ true → is_eq r ≡ false
-apart_below Less e = refl
-apart_below Equal e = absurd (true≢false (sym e))
-apart_below Greater e = refl
+apart_below Ordering.Less e = refl
+apart_below Ordering.Equal e = absurd (true≢false (sym e))
+apart_below Ordering.Greater e = refl
 
 module _ {K W : Type 0} where
   -- a value in front of others, if there is one, makes them longer by one at most
@@ -200,7 +190,7 @@ module _ {K V : Type 0} {R : K → K → Ordering} (total : IsTotalOrder R) (exa
       found_each (entries records) (is_true (is_sorted R (entries records)) (entries_sorted records))
 
   -- a key that is less than each key of the entries is below them all by the map's test
-  below-strict : (k : K) (es : List (K × V)) → AllByRecursion (λ y. R k y ≡ Less) (map (λ (e : K × V). e.0) es)
+  below-strict : (k : K) (es : List (K × V)) → AllByRecursion (λ y. R k y ≡ Ordering.Less) (map (λ (e : K × V). e.0) es)
       → below_all R k es ≡ true
   below-strict k [] h = refl
   below-strict k (e ∷ es) h = ap (λ r. is_lt r && below_all R k es) h.0 ∙ below-strict k es h.1

@@ -1,58 +1,34 @@
 -- Rows in layers: what the records of recent rows and the runs below them have at each key, and what changes it.
 use Rattle.std.proofs.Common.{◌≡◌, ℕ, List, [], ◌∷◌, refl, ap, sym, ◌∙◌, Bool, true, false, inl, inr, map as map_list}
-use mathlib.Core.Bool.{true≢false}
-use Rattle.std.specs.Prelude.{Option, Some, None, cond, not, ◌&&◌, ◌||◌, is_some, MatchOption}
-use Rattle.std.specs.Option.{option_map, option_and_then, unwrap_or}
-use Rattle.std.specs.List.{list_any}
-use Rattle.std.specs.Ordering.{eq_by_cmp}
-use Rattle.std.specs.Cmp.{eq_by_cmp_equiv}
-use Rattle.std.specs.BTreeMap as tree
-use Rattle.std.specs.BTreeMap.{BTreeMap, Updates}
-use Rattle.std.specs.FinMap as map
-use Rattle.std.specs.FinMap.{find, is_sorted, same_map, get-entries}
-use Rattle.std.specs.FinSet as set
+use Rattle.std.specs.{Prelude.{Option, Some, None, cond, not, ◌&&◌, ◌||◌, is_some, MatchOption}, Cmp.eq_by_cmp_equiv}
+use Rattle.std.specs.{Option.{option_map, option_and_then, unwrap_or}, List.list_any, Ordering.eq_by_cmp}
+use Rattle.std.specs.{BTreeMap.{BTreeMap, Updates}, FinMap.{find, is_sorted, same_map, get-entries, Entries.below_all}}
 use Rattle.std.specs.FinSet.{contains-items, contains-empty, contains-insert, same_set}
-use Rattle.xa_xid.specs.declared.xid.Xid.{Xid}
-use Rattle.xa_xid.specs.Xid.{Text, bytes_cmp, xid_cmp, same_xid}
-use Rattle.xa_xid.proofs.Orders.{xids_total, exact_xids, bytes_total, exact_texts}
-use Rattle.xa_server.specs.declared.association.Association.{Association}
-use Rattle.xa_server.specs.declared.association.Association.TheVariants.{Free}
-use Rattle.xa_server.specs.declared.lock.Change.{Change}
-use Rattle.xa_server.specs.declared.lock.Lock.{Lock}
-use Rattle.xa_server.specs.declared.lock.Lock.TheVariants.{Exclusive as HeldBy, Shared as SharedBy}
-use Rattle.xa_server.specs.declared.row.RecentRow.{RecentRow}
-use Rattle.xa_server.specs.declared.row.RecentValue.{RecentValue}
-use Rattle.xa_server.specs.declared.row.RecentValue.TheVariants.{AsBelow, Value, Gone}
-use Rattle.xa_server.specs.Recorded.{RowRecord}
-use Rattle.xa_server.specs.State.{Write}
-use Rattle.xa_server.specs.Locks.{is_another}
-use Rattle.xa_server.specs.Rows.{RowMap, Sharing, committed_of, lock_of, write_in, write_by, mode_in, lock_by}
-use Rattle.xa_server.specs.Rows.{held_beside}
-use Rattle.xa_server.specs.Rows.{held_against, locked_against, locked_beside, value_seen, held_row, with_sharer}
-use Rattle.xa_server.specs.Rows.{shared_row}
-use Rattle.xa_server.specs.Rows.{freed_lock, freed_row, is_needed, kept, freed, Frees}
-use Rattle.xa_server.specs.Layers.{RecentMap, change_of, change_at, recent_lock, row_over, with_row, over_entries}
-use Rattle.xa_server.specs.Layers.{layered}
-use Rattle.xa_server.specs.Layers.{value_of, hides_below, ended_value, freed_recent, is_needed_over, held_as_below}
-use Rattle.xa_server.proofs.Maps.{get_view, find_lookup, same_or_apart, same_itself, get_inserted, get_inserted_apart}
-use Rattle.xa_server.proofs.Maps.{get_removed, get_removed_apart}
-use Rattle.xa_server.proofs.Gathered.{get-gather, get-mapped}
-use Rattle.xa_server.proofs.Kept.{first, second, find_none, sorted_kept, find_kept, sorted-strict, entries-gather}
-use Rattle.xa_server.proofs.Kept.{entries-made}
-use Rattle.xa_server.proofs.Merging.{first_alone}
-use Rattle.xa_server.proofs.Underlying.{found_run}
-use Rattle.xa_server.specs.View.{gather}
-use Rattle.xa_server.specs.Held.{hold_in, with_held, held_among, held_recently}
-use Rattle.xa_server.specs.declared.hold.Hold.{Hold}
-use Rattle.xa_server.specs.declared.hold.Hold.TheVariants.{Shared as SharesRow}
-use Rattle.xa_server.specs.declared.hold.HeldRow.{HeldRow}
 use Rattle.std.specs.declared.cmp.Ordering.{Ordering}
-use Rattle.std.specs.FinMap.Entries.{below_all}
-use Rattle.xa_server.specs.Layers.{Writes, first_of, put_at, with_found, gathered}
-use Rattle.xa_server.proofs.Holders.{none_of, itself, any_some, none_passes, mode_of-lock, held_against-lock}
-use Rattle.xa_server.proofs.Holders.{locked_against-lock}
-use Rattle.xa_server.proofs.Freeing.{not_there, frees_one}
-use Rattle.xa_server.proofs.Index.{not_none}
+use mathlib.Core.Bool.{true≢false}
+use Rattle.xa_xid.specs.{declared.xid.Xid.Xid, Xid.{Text, bytes_cmp, xid_cmp, same_xid}}
+use Rattle.xa_xid.proofs.Orders.{xids_total, exact_xids, bytes_total, exact_texts}
+use Rattle.xa_server.specs.declared.{association.Association.{Association, TheVariants.Free}, lock.Change.Change}
+use Rattle.xa_server.specs.declared.lock.Lock.{Lock, TheVariants.{Exclusive as HeldBy, Shared as SharedBy}}
+use Rattle.xa_server.specs.{declared.row.{RecentRow.RecentRow, RecentValue.RecentValue}, Locks.is_another}
+use Rattle.xa_server.specs.{declared.{row.RecentValue.TheVariants.{AsBelow, Value, Gone}, hold.Hold.Hold}, State.Write}
+use Rattle.xa_server.specs.{declared.hold.{Hold.TheVariants.Shared as SharesRow, HeldRow.HeldRow}, Recorded.RowRecord}
+use Rattle.xa_server.specs.Rows.{RowMap, Sharing, committed_of, lock_of, write_in, write_by, mode_in, lock_by}
+use Rattle.xa_server.specs.Rows.{held_beside, held_against, locked_against, locked_beside, value_seen, held_row}
+use Rattle.xa_server.specs.Rows.{with_sharer, shared_row, freed_lock, freed_row, is_needed, kept, freed, Frees}
+use Rattle.xa_server.specs.Layers.{RecentMap, change_of, change_at, recent_lock, row_over, with_row, over_entries}
+use Rattle.xa_server.specs.Layers.{layered, value_of, hides_below, ended_value, freed_recent, is_needed_over}
+use Rattle.xa_server.specs.{Layers.{held_as_below, Writes, first_of, put_at, with_found, gathered}, View.gather}
+use Rattle.xa_server.{specs.Held.{hold_in, with_held, held_among, held_recently}, proofs.Maps.{get_view, find_lookup}}
+use Rattle.xa_server.proofs.Maps.{same_or_apart, same_itself, get_inserted, get_inserted_apart, get_removed}
+use Rattle.xa_server.proofs.{Maps.get_removed_apart, Gathered.{get-gather, get-mapped}, Kept.{first, second, find_none}}
+use Rattle.xa_server.proofs.Kept.{sorted_kept, find_kept, sorted-strict, entries-gather, entries-made}
+use Rattle.xa_server.proofs.{Merging.first_alone, Underlying.found_run, Holders.{none_of, itself, any_some}}
+use Rattle.xa_server.proofs.Holders.{none_passes, mode_of-lock, held_against-lock, locked_against-lock}
+use Rattle.xa_server.proofs.{Freeing.{not_there, frees_one}, Index.not_none}
+use Rattle.std.specs.BTreeMap as tree
+use Rattle.std.specs.FinMap as map
+use Rattle.std.specs.FinSet as set
 
 -- the records of recent rows, in their tree
 abbrev pub Table : Type 0

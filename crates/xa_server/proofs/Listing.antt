@@ -1,23 +1,15 @@
 -- The list of prepared branches ascends, and has exactly those.
 use Rattle.std.proofs.Common.{◌≡◌, List, [], ◌∷◌, refl, ap, sym, ◌∙◌, Bool, true, false, inl, inr, map}
-use Rattle.std.specs.Prelude.{Option, Some, None, cond, ◌&&◌, ◌||◌, is_some, filter}
-use Rattle.std.specs.Option.{option_map, option_map_or}
-use Rattle.std.specs.List.{AllByRecursion, list_any}
-use Rattle.std.specs.List.Sorted.{IsStrictlySortedBy}
-use Rattle.std.specs.declared.cmp.Ordering.{Ordering}
-use Rattle.std.specs.declared.cmp.Ordering.TheVariants.{Less, Equal, Greater}
-use Rattle.std.specs.Ordering.{is_lt}
-use Rattle.std.specs.FinMap as fin
-use Rattle.std.specs.FinMap.{contains_key-keys, entries_sorted, is_sorted}
-use Rattle.std.specs.FinMap.Entries.{below_all}
-use Rattle.std.proofs.lemmas.List.Kept.{IsStrictlySortedBy-filter}
-use lib.Dec.{T}
+use Rattle.std.{proofs.lemmas.List.Kept.IsStrictlySortedBy-filter, specs.Option.{option_map, option_map_or}}
+use Rattle.std.specs.{Prelude.{Option, Some, None, cond, ◌&&◌, ◌||◌, is_some, filter}, List.{AllByRecursion, list_any}}
+use Rattle.std.specs.{List.Sorted.IsStrictlySortedBy, declared.cmp.Ordering.Ordering, Ordering.is_lt}
+use Rattle.std.specs.FinMap.{contains_key-keys, entries_sorted, is_sorted, Entries.below_all}
 use mathlib.Core.Bool.{true≢false}
-use Rattle.xa_xid.specs.declared.xid.Xid.{Xid}
-use Rattle.xa_xid.specs.Xid.{xid_cmp, same_xid}
-use Rattle.xa_xid.proofs.Orders.{xids_total, exact_xids}
+use Rattle.xa_xid.{specs.{declared.xid.Xid.Xid, Xid.{xid_cmp, same_xid}}, proofs.Orders.{xids_total, exact_xids}}
 use Rattle.xa_server.specs.State.{Branch, State, is_prepared, is_prepared_phase, prepared_xids}
 use Rattle.xa_server.proofs.Maps.{same_or_apart, same_itself}
+use Rattle.std.specs.FinMap as fin
+use lib.Dec.{T}
 
 -- ---- in order
 
@@ -27,14 +19,14 @@ halves true b h = (refl, h)
 halves false b h = absurd h
 
 -- an order that tests as less is less
-less : (r : Ordering) → is_lt r ≡ true → r ≡ Less
-less Less e = refl
-less Equal e = absurd (true≢false (sym e))
-less Greater e = absurd (true≢false (sym e))
+less : (r : Ordering) → is_lt r ≡ true → r ≡ Ordering.Less
+less Ordering.Less e = refl
+less Ordering.Equal e = absurd (true≢false (sym e))
+less Ordering.Greater e = absurd (true≢false (sym e))
 
 -- an identifier below all keys of the entries is below each of them
 all_above : (xid : Xid) (es : List (Xid × Branch)) → T (below_all xid_cmp xid es)
-    → AllByRecursion (λ other. xid_cmp xid other ≡ Less) (map (λ (e : Xid × Branch). e.0) es)
+    → AllByRecursion (λ other. xid_cmp xid other ≡ Ordering.Less) (map (λ (e : Xid × Branch). e.0) es)
 all_above xid [] h = tt
 all_above xid (e ∷ es) h =
     let parts = halves (is_lt (xid_cmp xid e.0)) (below_all xid_cmp xid es) h in

@@ -2,19 +2,14 @@
 use Rattle.std.proofs.Common.{◌≡◌, ℕ, refl, ap, sym, ◌∙◌, Bool, true, false}
 use Rattle.std.specs.Prelude.{Option, Some, None, is_some, is_none}
 use Rattle.std.specs.Option.{option_map, option_map_or, option_and_then}
-use Rattle.std.specs.FinMap as map
 use mathlib.Core.Bool.{true≢false}
 use Rattle.xa_xid.specs.declared.xid.Xid.{Xid}
-use Rattle.xa_server.specs.declared.branch.BranchRecord.{BranchRecord}
-use Rattle.xa_server.specs.Recorded.{RowRecord}
-use Rattle.xa_server.specs.State.{is_known, is_prepared, is_prepared_phase, owner_at}
-use Rattle.xa_server.specs.Locks.{LockLaw, is_exclusive}
-use Rattle.xa_server.specs.Tables.{BranchMap}
-use Rattle.xa_server.specs.Rows.{RowMap, lock_of, write_by}
-use Rattle.xa_server.specs.View.{state_of, IsWhole}
-use Rattle.xa_server.proofs.Holders.{mode_of, mode_of-lock, alone_in, writes_in}
-use Rattle.xa_server.proofs.Seen.{lock_at-seen, holds-seen, is_known-seen, is_prepared-seen, owner_at-seen, owns_owner}
-use Rattle.xa_server.proofs.Seen.{write_at-seen}
+use Rattle.xa_server.specs.{declared.branch.BranchRecord.BranchRecord, Recorded.RowRecord, Tables.BranchMap}
+use Rattle.xa_server.specs.{State.{is_known, is_prepared, is_prepared_phase, owner_at}, Locks.{LockLaw, is_exclusive}}
+use Rattle.xa_server.specs.{Rows.{RowMap, lock_of, write_by}, View.{state_of, IsWhole}}
+use Rattle.xa_server.proofs.{Holders.{mode_of, mode_of-lock, alone_in, writes_in}, Seen.{lock_at-seen, holds-seen}}
+use Rattle.xa_server.proofs.Seen.{is_known-seen, is_prepared-seen, owner_at-seen, owns_owner, write_at-seen}
+use Rattle.std.specs.FinMap as map
 
 -- whether a branch has a record that says PREPARED
 is_prepared_in : Option BranchRecord → Bool

@@ -1,25 +1,18 @@
 -- A `BTreeMap` seen as a finite map: what look-ups, writes and removals of the one are in the other.
-use Rattle.std.proofs.Common.{◌≡◌, List, [], ◌∷◌, refl, ap, sym, ◌∙◌, true, false, ◌⊎◌, inl, inr}
+use Rattle.std.{proofs.Common.{◌≡◌, List, [], ◌∷◌, refl, ap, sym, ◌∙◌, true, false, ◌⊎◌, inl, inr}, specs.Map.lookup}
+use Rattle.std.{proofs.lemmas.{Cmp.tied_itself, Map.Lookups.CmpEqualImpliesEq}, specs.Prelude.{Some, None, cond}}
+use Rattle.std.specs.{declared.cmp.Ordering.Ordering, Ordering.{eq_by_cmp, is_eq}, Cmp.{IsTotalOrder, eq_by_cmp_equiv}}
+use Rattle.std.specs.{BTreeMap.{BTreeMap, is_at, Updates, IsUnchanged, IsEmpty}, FinMap.{FinMap, find, from_entries}}
+use Rattle.std.specs.FinMap.{insert, remove, empty, get, same_map, get-from_entries, get-insert, get-remove}
 use mathlib.Core.Bool.{true≢false}
-use Rattle.std.specs.Prelude.{Some, None, cond}
-use Rattle.std.specs.declared.cmp.Ordering.{Ordering}
-use Rattle.std.specs.declared.cmp.Ordering.TheVariants.{Less, Equal, Greater}
-use Rattle.std.specs.Ordering.{eq_by_cmp, is_eq}
-use Rattle.std.proofs.lemmas.Cmp.{tied_itself}
-use Rattle.std.specs.Cmp.{IsTotalOrder, eq_by_cmp_equiv}
-use Rattle.std.specs.Map.{lookup}
 use Rattle.std.specs.BTreeMap as tree
-use Rattle.std.specs.BTreeMap.{BTreeMap, is_at, Updates, IsUnchanged, IsEmpty}
-use Rattle.std.specs.FinMap.{FinMap, find, from_entries, insert, remove, empty, get, same_map, get-from_entries}
-use Rattle.std.specs.FinMap.{get-insert, get-remove}
-use Rattle.std.proofs.lemmas.Map.Lookups.{CmpEqualImpliesEq}
 
 module _ {K : Type 0} {R : K → K → Ordering} (total : IsTotalOrder R) (exact : CmpEqualImpliesEq R) where
   -- two keys are one, or the order tells them apart, by how they compare
   by_test : (r : Ordering) (x y : K) → R x y ≡ r → (x ≡ y) ⊎ (is_eq r ≡ false)
-  by_test Less x y is = inr refl
-  by_test Equal x y is = inl (exact x y is)
-  by_test Greater x y is = inr refl
+  by_test Ordering.Less x y is = inr refl
+  by_test Ordering.Equal x y is = inl (exact x y is)
+  by_test Ordering.Greater x y is = inr refl
 
   -- two keys are one, or the order tells them apart
   pub same_or_apart : (x y : K) → (x ≡ y) ⊎ (eq_by_cmp R x y ≡ false)

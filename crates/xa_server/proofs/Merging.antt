@@ -1,20 +1,14 @@
 -- Ascending entries: how one is found by halves, and what two lists of them are when they are merged.
 use Rattle.std.proofs.Common.{◌≡◌, ◌≤◌, ◌<◌, ◌+◌, ℕ, arith, List, [], ◌∷◌, ◌++◌, refl, ap, sym, ◌∙◌, Bool, true, false}
 use Rattle.std.proofs.Common.{inl, inr, length, take, drop, append_assoc, append-nil, take-append-drop}
-use mathlib.Core.Bool.{true≢false}
-use Rattle.std.specs.Prelude.{Option, Some, None, cond, ◌&&◌}
-use Rattle.std.specs.Option.{option_and_then, unwrap_or}
-use Rattle.std.specs.declared.cmp.Ordering.{Ordering}
-use Rattle.std.specs.declared.cmp.Ordering.TheVariants.{Less, Equal, Greater}
-use Rattle.std.specs.Ordering.{eq_by_cmp, is_lt, is_eq, ordering_reverse}
-use Rattle.std.specs.Cmp.{IsTotalOrder, eq_by_cmp_equiv}
-use Rattle.std.specs.FinMap.{find, is_sorted}
+use Rattle.std.{proofs.lemmas.Map.Lookups.CmpEqualImpliesEq, specs.Prelude.{Option, Some, None, cond, ◌&&◌}}
+use Rattle.std.specs.{Option.{option_and_then, unwrap_or}, declared.cmp.Ordering.Ordering}
+use Rattle.std.specs.{declared.cmp.Ordering.TheVariants.{Less, Equal, Greater}, FinMap.{find, is_sorted}}
+use Rattle.std.specs.{Ordering.{eq_by_cmp, is_lt, is_eq, ordering_reverse}, Cmp.{IsTotalOrder, eq_by_cmp_equiv}}
 use Rattle.std.specs.FinMap.Entries.{below_all, by_order}
-use Rattle.std.proofs.lemmas.Map.Lookups.{CmpEqualImpliesEq}
-use Rattle.xa_server.specs.Layers.{first_of, with_found, gathered}
-use Rattle.xa_server.specs.Merging.{merged_from, merged, least_of}
-use Rattle.xa_server.proofs.Maps.{same_or_apart, same_itself}
-use Rattle.xa_server.proofs.Kept.{first, second, both, find_none}
+use mathlib.Core.Bool.{true≢false}
+use Rattle.xa_server.specs.{Layers.{first_of, with_found, gathered}, Merging.{merged_from, merged, least_of}}
+use Rattle.xa_server.proofs.{Maps.{same_or_apart, same_itself}, Kept.{first, second, both, find_none}}
 
 -- an order that tests as less is less
 less : (r : Ordering) → is_lt r ≡ true → r ≡ Less

@@ -1,35 +1,21 @@
 -- A statement of one session leaves what another session has open.
 use Rattle.std.proofs.Common.{◌≡◌, ◌≢◌, ℕ, List, [], ◌∷◌, refl, ap, sym, ◌∙◌, Bool, true, false, ◌⊎◌, inl, inr}
 use Rattle.std.specs.Prelude.{Option, Some, None, cond, ◌==◌, is_some, find, not}
-use Rattle.std.specs.Option.{option_map, option_map_or, option_and_then}
-use Rattle.std.specs.FinMap as map
-use Rattle.std.specs.FinMap.{contains_key-keys}
+use Rattle.std.specs.{Option.{option_map, option_map_or, option_and_then}, FinMap.contains_key-keys}
 use mathlib.Core.Bool.{true≢false}
-use Rattle.xa_xid.specs.declared.xid.Xid.{Xid}
-use Rattle.xa_xid.specs.Xid.{same_xid}
+use Rattle.xa_xid.specs.{declared.{xid.Xid.Xid, statement.Statement.Statement}, Xid.same_xid}
 use Rattle.xa_xid.proofs.Orders.{xids_total, exact_xids}
-use Rattle.xa_xid.specs.declared.statement.Statement.{Statement}
-use Rattle.xa_xid.specs.declared.statement.Statement.TheVariants.{Start, End, Prepare, Commit, Rollback, Recover}
-use Rattle.xa_xid.specs.declared.statement.Statement.TheVariants.{Unsupported, Get, Put, Del, Disconnect}
-use Rattle.xa_server.specs.declared.branch.Phase.{Phase}
-use Rattle.xa_server.specs.declared.branch.Phase.TheVariants.{Active as PhaseActive, Idle as PhaseIdle}
-use Rattle.xa_server.specs.declared.branch.Phase.TheVariants.{Prepared as PhasePrepared}
-use Rattle.xa_server.specs.declared.xa_error.XaError.TheVariants.{Nota, Rmfail}
+use Rattle.xa_server.specs.declared.{branch.Phase.Phase, xa_error.XaError.TheVariants.{Nota, Rmfail}}
 use Rattle.xa_server.specs.declared.xa_error.BranchState.TheVariants.{Prepared as StatePrepared}
-use Rattle.xa_server.specs.declared.reply.Reply.TheVariants.{Refused}
-use Rattle.xa_server.specs.declared.association.Association.{Association}
-use Rattle.xa_server.specs.declared.association.Association.TheVariants.{Free, Active, Idle}
-use Rattle.xa_server.specs.State.{Branch, State, is_prepared, owner_at, owns, own_xid, phase_at, association_in}
-use Rattle.xa_server.specs.State.{association_of}
-use Rattle.xa_server.specs.Locks.{LockLaw}
-use Rattle.xa_server.specs.Replies.{refused_if, table}
-use Rattle.xa_server.specs.Step.{started_by, with_lock, with_own_write, is_refused, after}
-use Rattle.xa_server.specs.Laws.{LeavesSession}
-use Rattle.xa_server.proofs.Maps.{same_or_apart, same_itself}
-use Rattle.xa_server.proofs.Index.{same_value, not_none}
-use Rattle.xa_server.proofs.Seen.{find_one, find_none, owned_is}
+use Rattle.xa_server.specs.declared.{reply.Reply.TheVariants.Refused, association.Association.Association}
+use Rattle.xa_server.specs.{declared.association.Association.TheVariants.{Free, Active, Idle}, State.{Branch, State}}
+use Rattle.xa_server.specs.State.{is_prepared, owner_at, owns, own_xid, phase_at, association_in, association_of}
+use Rattle.xa_server.{specs.{Locks.LockLaw, Replies.{refused_if, table}}, proofs.Maps.{same_or_apart, same_itself}}
+use Rattle.xa_server.specs.{Step.{started_by, with_lock, with_own_write, is_refused, after}, Laws.LeavesSession}
+use Rattle.xa_server.proofs.{Index.{same_value, not_none}, Seen.{find_one, find_none, owned_is}}
 use Rattle.xa_server.proofs.Accepted.{accepted_start, own_is, passes}
 use Rattle.xa_server.proofs.Changes.{idle, detached, branch_after, effect-branch, outcome}
+use Rattle.std.specs.FinMap as map
 
 -- the session owns the branch
 unfoldable pub is_owned : ℕ → Option Branch → Bool
@@ -60,9 +46,9 @@ find_passes p (x ∷ xs) xid e = passing p x (find p xs) xid (find_passes p xs x
 in_phase : (state : State) (session : ℕ) (phase : Option Phase) (xid : Xid) → owns state session xid ≡ true
     → IsOwn state session (association_in phase xid)
 in_phase state session None xid e = tt
-in_phase state session (Some PhaseActive) xid e = e
-in_phase state session (Some PhaseIdle) xid e = e
-in_phase state session (Some PhasePrepared) xid e = tt
+in_phase state session (Some Phase.Active) xid e = e
+in_phase state session (Some Phase.Idle) xid e = e
+in_phase state session (Some Phase.Prepared) xid e = tt
 
 -- what a session has open is its own
 pub own_association : (state : State) (session : ℕ) → IsOwn state session (association_of state session)
@@ -111,7 +97,7 @@ none_found state session none =
 -- an XA END is accepted only of a branch of the session
 pub accepted_end_own : (state : State) (session : ℕ) (association : Association) (xid : Xid)
     → IsOwn state session association
-    → is_refused (table state association (End xid)) ≡ false
+    → is_refused (table state association (Statement.End xid)) ≡ false
     → owns state session xid ≡ true
 unfolding table
 accepted_end_own state session Free xid own e = absurd (true≢false e)
@@ -121,7 +107,7 @@ accepted_end_own state session (Idle associated) xid own e = absurd (true≢fals
 -- an XA PREPARE is accepted only of a branch of the session
 pub accepted_prepare_own : (state : State) (session : ℕ) (association : Association) (xid : Xid)
     → IsOwn state session association
-    → is_refused (table state association (Prepare xid)) ≡ false → owns state session xid ≡ true
+    → is_refused (table state association (Statement.Prepare xid)) ≡ false → owns state session xid ≡ true
 unfolding table
 accepted_prepare_own state session Free xid own e = absurd (true≢false e)
 accepted_prepare_own state session (Active associated) xid own e = absurd (true≢false e)
@@ -140,7 +126,7 @@ IsFinishable state session xid = (owns state session xid ≡ true) ⊎ (is_prepa
 -- an XA COMMIT is accepted only of a branch that the session owns, or of a PREPARED one
 pub accepted_commit_own : (state : State) (session : ℕ) (association : Association) (xid : Xid) (one_phase : Bool)
     → IsOwn state session association
-    → is_refused (table state association (Commit xid one_phase)) ≡ false → IsFinishable state session xid
+    → is_refused (table state association (Statement.Commit xid one_phase)) ≡ false → IsFinishable state session xid
 unfolding table
 accepted_commit_own state session Free xid false own e = inr (passes (is_prepared state xid) _ e)
 accepted_commit_own state session Free xid true own e = never_done (is_prepared state xid) e
@@ -153,7 +139,7 @@ accepted_commit_own state session (Idle associated) xid true own e =
 -- an XA ROLLBACK is accepted only of a branch that the session owns, or of a PREPARED one
 pub accepted_rollback_own : (state : State) (session : ℕ) (association : Association) (xid : Xid)
     → IsOwn state session association
-    → is_refused (table state association (Rollback xid)) ≡ false → IsFinishable state session xid
+    → is_refused (table state association (Statement.Rollback xid)) ≡ false → IsFinishable state session xid
 unfolding table
 accepted_rollback_own state session Free xid own e = inr (passes (is_prepared state xid) _ e)
 accepted_rollback_own state session (Active associated) xid own e = absurd (true≢false e)
@@ -213,39 +199,39 @@ kept : (state : State) (session other : ℕ) → LockLaw state → session ≢ o
     (at : Xid) → owns state other at ≡ true → branch_after session association statement at (map.get state.branches at)
     ≡ map.get state.branches at
 unfolding branch_after is_owned
-kept state session other law apart association own (Start xid) accepted at e =
+kept state session other law apart association own (Statement.Start xid) accepted at e =
     spared state other xid at _ (unknown_owned other (map.get state.branches xid)
     (accepted_start state association xid accepted).1) e
-kept state session other law apart association own (End xid) accepted at e =
+kept state session other law apart association own (Statement.End xid) accepted at e =
     spared state other xid at _ (not_others state session other xid apart
     (accepted_end_own state session association xid own accepted)) e
-kept state session other law apart association own (Prepare xid) accepted at e =
+kept state session other law apart association own (Statement.Prepare xid) accepted at e =
     spared state other xid at _ (not_others state session other xid apart
     (accepted_prepare_own state session association xid own accepted)) e
-kept state session other law apart association own (Commit xid one_phase) accepted at e =
+kept state session other law apart association own (Statement.Commit xid one_phase) accepted at e =
     spared state other xid at _ (not_anothers state session other xid law apart
     (accepted_commit_own state session association xid one_phase own accepted)) e
-kept state session other law apart association own (Rollback xid) accepted at e =
+kept state session other law apart association own (Statement.Rollback xid) accepted at e =
     spared state other xid at _ (not_anothers state session other xid law apart
     (accepted_rollback_own state session association xid own accepted)) e
-kept state session other law apart association own (Recover convert) accepted at e = refl
-kept state session other law apart association own Unsupported accepted at e = refl
-kept state session other law apart Free own (Get key) accepted at e = refl
-kept state session other law apart (Active associated) own (Get key) accepted at e =
+kept state session other law apart association own (Statement.Recover convert) accepted at e = refl
+kept state session other law apart association own Statement.Unsupported accepted at e = refl
+kept state session other law apart Free own (Statement.Get key) accepted at e = refl
+kept state session other law apart (Active associated) own (Statement.Get key) accepted at e =
     spared state other associated at _ (not_others state session other associated apart own) e
-kept state session other law apart (Idle associated) own (Get key) accepted at e = refl
-kept state session other law apart Free own (Put key value) accepted at e = refl
-kept state session other law apart (Active associated) own (Put key value) accepted at e =
+kept state session other law apart (Idle associated) own (Statement.Get key) accepted at e = refl
+kept state session other law apart Free own (Statement.Put key value) accepted at e = refl
+kept state session other law apart (Active associated) own (Statement.Put key value) accepted at e =
     spared state other associated at _ (not_others state session other associated apart own) e
-kept state session other law apart (Idle associated) own (Put key value) accepted at e = refl
-kept state session other law apart Free own (Del key) accepted at e = refl
-kept state session other law apart (Active associated) own (Del key) accepted at e =
+kept state session other law apart (Idle associated) own (Statement.Put key value) accepted at e = refl
+kept state session other law apart Free own (Statement.Del key) accepted at e = refl
+kept state session other law apart (Active associated) own (Statement.Del key) accepted at e =
     spared state other associated at _ (not_others state session other associated apart own) e
-kept state session other law apart (Idle associated) own (Del key) accepted at e = refl
-kept state session other law apart Free own Disconnect accepted at e = refl
-kept state session other law apart (Active associated) own Disconnect accepted at e =
+kept state session other law apart (Idle associated) own (Statement.Del key) accepted at e = refl
+kept state session other law apart Free own Statement.Disconnect accepted at e = refl
+kept state session other law apart (Active associated) own Statement.Disconnect accepted at e =
     spared state other associated at _ (not_others state session other associated apart own) e
-kept state session other law apart (Idle associated) own Disconnect accepted at e =
+kept state session other law apart (Idle associated) own Statement.Disconnect accepted at e =
     spared state other associated at _ (not_others state session other associated apart own) e
 
 -- ---- another session gets no branch
@@ -280,7 +266,7 @@ removed other found e = absurd (true≢false (sym e))
 
 -- a branch that the session has just started
 abbrev pub IsStarted : ℕ → ℕ → Statement → Xid → Type 0
-IsStarted session who statement at = (statement ≡ Start at) × (session ≡ who)
+IsStarted session who statement at = (statement ≡ Statement.Start at) × (session ≡ who)
 
 -- a branch that a session owns after a statement, it owned before, or has just started
 pub owned_before : (session who : ℕ) (association : Association) (statement : Statement) (at : Xid)
@@ -288,41 +274,42 @@ pub owned_before : (session who : ℕ) (association : Association) (statement : 
     → is_owned who (branch_after session association statement at found) ≡ true →
     (is_owned who found ≡ true) ⊎ IsStarted session who statement at
 unfolding branch_after idle is_owned
-owned_before session who association (Start xid) at found e = elim (same_or_apart xids_total exact_xids at xid) [
-  | inl is ↦ inr (
-    ap Start (sym is),
-    same_value session who (owned_is (Some session) who
-        (ap (λ b. is_owned who (cond b (Some (started_by session)) found))
-        (sym (ap (λ x. same_xid x xid) is ∙ same_itself xids_total exact_xids xid)) ∙ e)),
-  )
-  | inr apart ↦ inl (ap (λ b. is_owned who (cond b (Some (started_by session)) found)) (sym apart) ∙ e)
-]
-owned_before session who association (End xid) at found e =
+owned_before session who association (Statement.Start xid) at found e = elim
+    (same_or_apart xids_total exact_xids at xid) [
+      | inl is ↦ inr (
+        ap Statement.Start (sym is),
+        same_value session who (owned_is (Some session) who
+            (ap (λ b. is_owned who (cond b (Some (started_by session)) found))
+            (sym (ap (λ x. same_xid x xid) is ∙ same_itself xids_total exact_xids xid)) ∙ e)),
+      )
+      | inr apart ↦ inl (ap (λ b. is_owned who (cond b (Some (started_by session)) found)) (sym apart) ∙ e)
+    ]
+owned_before session who association (Statement.End xid) at found e =
     inl (either who (same_xid at xid) _ found (same_owner who idle (λ b. refl) found) e)
-owned_before session who association (Prepare xid) at found e =
+owned_before session who association (Statement.Prepare xid) at found e =
     inl (either who (same_xid at xid) _ found (ownerless who found) e)
-owned_before session who association (Commit xid one_phase) at found e =
+owned_before session who association (Statement.Commit xid one_phase) at found e =
     inl (either who (same_xid at xid) _ found (removed who found) e)
-owned_before session who association (Rollback xid) at found e =
+owned_before session who association (Statement.Rollback xid) at found e =
     inl (either who (same_xid at xid) _ found (removed who found) e)
-owned_before session who association (Recover convert) at found e = inl e
-owned_before session who association Unsupported at found e = inl e
-owned_before session who Free (Get key) at found e = inl e
-owned_before session who (Active own) (Get key) at found e =
+owned_before session who association (Statement.Recover convert) at found e = inl e
+owned_before session who association Statement.Unsupported at found e = inl e
+owned_before session who Free (Statement.Get key) at found e = inl e
+owned_before session who (Active own) (Statement.Get key) at found e =
     inl (either who (same_xid at own) _ found (same_owner who (with_lock key) (λ b. refl) found) e)
-owned_before session who (Idle own) (Get key) at found e = inl e
-owned_before session who Free (Put key value) at found e = inl e
-owned_before session who (Active own) (Put key value) at found e =
+owned_before session who (Idle own) (Statement.Get key) at found e = inl e
+owned_before session who Free (Statement.Put key value) at found e = inl e
+owned_before session who (Active own) (Statement.Put key value) at found e =
     inl (either who (same_xid at own) _ found (same_owner who (with_own_write key (Some value)) (λ b. refl) found) e)
-owned_before session who (Idle own) (Put key value) at found e = inl e
-owned_before session who Free (Del key) at found e = inl e
-owned_before session who (Active own) (Del key) at found e =
+owned_before session who (Idle own) (Statement.Put key value) at found e = inl e
+owned_before session who Free (Statement.Del key) at found e = inl e
+owned_before session who (Active own) (Statement.Del key) at found e =
     inl (either who (same_xid at own) _ found (same_owner who (with_own_write key None) (λ b. refl) found) e)
-owned_before session who (Idle own) (Del key) at found e = inl e
-owned_before session who Free Disconnect at found e = inl e
-owned_before session who (Active own) Disconnect at found e =
+owned_before session who (Idle own) (Statement.Del key) at found e = inl e
+owned_before session who Free Statement.Disconnect at found e = inl e
+owned_before session who (Active own) Statement.Disconnect at found e =
     inl (either who (same_xid at own) _ found (removed who found) e)
-owned_before session who (Idle own) Disconnect at found e =
+owned_before session who (Idle own) Statement.Disconnect at found e =
     inl (either who (same_xid at own) _ found (removed who found) e)
 
 -- no other session owns a branch after a statement that it didn't own before

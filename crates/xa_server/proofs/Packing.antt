@@ -1,12 +1,8 @@
 -- Rows that are packed: what stands behind their bytes doesn't change them, and one that is put there is read again.
 use Rattle.std.proofs.Common.{length, arith, [], ◌≡◌, ◌≤◌, ◌+◌, ◌++◌, ℕ, zero, suc, List, ◌∷◌, refl, ap, sym, ◌∙◌}
-use Rattle.std.proofs.Common.{append_assoc, subst, take}
-use Rattle.std.proofs.lemmas.List.{take-append-le, map-append, length-append}
-use Rattle.std.proofs.lemmas.List.Elements.{All-tail}
-use Rattle.std.proofs.Math.Seq.{drop-append_seam, take-append_seam, take-length}
-use Rattle.std.specs.Prelude.{Option, Some, None}
-use Rattle.std.specs.Option.{option_map, option_map_or}
-use Rattle.std.specs.List.{All}
+use Rattle.std.proofs.{Common.{append_assoc, subst, take}, lemmas.List.{take-append-le, map-append, length-append}}
+use Rattle.std.proofs.{lemmas.List.Elements.All-tail, Math.Seq.{drop-append_seam, take-append_seam, take-length}}
+use Rattle.std.specs.{Prelude.{Option, Some, None}, Option.{option_map, option_map_or}, List.All}
 use Rattle.xa_server.specs.declared.packed.Place.{Place}
 use Rattle.xa_server.specs.Packed.{PackedRow, text_of, part_of, row_of, rows_of, value_length, Fits}
 

@@ -1,32 +1,18 @@
 -- Values in parts: what all of them have for a key is what its part has; and writes that are sorted out by parts.
-use Rattle.std.proofs.Common.{length, arith, [], ◌≡◌, ◌≢◌, ◌<◌, ◌+◌, ◌++◌, ℕ, zero, suc, List, ◌∷◌, refl, ap, sym, ◌∙◌, Bool, true, false}
-use Rattle.std.proofs.Common.{eq-eqb, ne_eqb, inl, inr, set, get_or, replicate, append_assoc, append-nil, filter, slice_get}
-use Rattle.std.proofs.Common.{map as map'}
-use Rattle.std.proofs.lemmas.List.{map-set, length-map}
-use Rattle.std.proofs.lemmas.Option.{unwrap_or-slice_get}
-use Rattle.std.specs.Prelude.{Option, Some, None, cond, ◌==◌, ◌&&◌}
-use Rattle.std.proofs.lemmas.Bool.Decides.{eqb_tells}
-use Rattle.std.specs.Option.{option_and_then, option_map, unwrap_or}
-use Rattle.std.specs.Ordering.{eq_by_cmp, is_lt}
-use Rattle.std.specs.FinMap as map
-use Rattle.std.specs.FinMap.{find, is_sorted, same_map}
-use Rattle.std.specs.FinMap.Entries.{below_all}
-use Rattle.xa_xid.specs.Xid.{Text, bytes_cmp}
-use Rattle.xa_xid.proofs.Orders.{bytes_total, exact_texts}
-use Rattle.xa_server.specs.State.{Write}
-use Rattle.xa_server.specs.Step.{with_writes}
-use Rattle.xa_server.specs.View.{mapped}
-use Rattle.xa_server.specs.Layers.{Writes, under}
-use Rattle.xa_server.specs.Parts.{Values, Rows, part_of, of_part, in_parts, parted, only, sorted_out, first_part}
-use Rattle.xa_server.specs.Parts.{other_parts, all_rewritten, rows_at, AllAscend}
-use Rattle.xa_server.proofs.Maps.{same_or_apart, same_itself}
-use Rattle.xa_server.proofs.Gathered.{get-gather, get-mapped}
-use Rattle.xa_server.proofs.Ending.{get-with_writes}
-use Rattle.xa_server.proofs.Kept.{first, second, both}
+use Rattle.std.proofs.Common.{length, arith, [], ◌≡◌, ◌≢◌, ◌<◌, ◌+◌, ◌++◌, ℕ, zero, suc, List, ◌∷◌, refl, ap, sym, ◌∙◌}
+use Rattle.std.proofs.Common.{Bool, true, false, eq-eqb, ne_eqb, inl, inr, set, get_or, replicate, append_assoc}
+use Rattle.std.proofs.{Common.{append-nil, filter, slice_get, map as map'}, lemmas.List.{map-set, length-map}}
+use Rattle.std.{proofs.lemmas.{Option.unwrap_or-slice_get, Bool.Decides.eqb_tells}, specs.FinMap.Entries.below_all}
+use Rattle.std.specs.{Prelude.{Option, Some, None, cond, ◌==◌, ◌&&◌, is_none}, FinMap.{find, is_sorted, same_map}}
+use Rattle.std.specs.{Option.{option_and_then, option_map, unwrap_or, option_map_or}, Ordering.{eq_by_cmp, is_lt}}
+use Rattle.xa_xid.{specs.Xid.{Text, bytes_cmp}, proofs.Orders.{bytes_total, exact_texts}}
+use Rattle.xa_server.specs.{State.Write, Step.with_writes, View.mapped, Layers.{Writes, under}, Parts.{Values, Rows}}
+use Rattle.xa_server.specs.Parts.{part_of, of_part, in_parts, parted, only, sorted_out, first_part, other_parts}
+use Rattle.xa_server.{specs.Parts.{all_rewritten, rows_at, AllAscend}, proofs.Maps.{same_or_apart, same_itself}}
+use Rattle.xa_server.proofs.{Gathered.{get-gather, get-mapped}, Ending.get-with_writes, Kept.{first, second, both}}
 use Rattle.xa_server.proofs.Underlying.{under_first, found_run}
 use mathlib.Core.Bool.{true≢false}
-use Rattle.std.specs.Prelude.{is_none}
-use Rattle.std.specs.Option.{option_map_or}
+use Rattle.std.specs.FinMap as map
 
 -- ---- what parts have for a key
 

@@ -1,17 +1,11 @@
 -- The records of branches in their tree, seen as a finite map.
-use Rattle.std.proofs.Common.{◌≡◌, refl, ap, sym, ◌∙◌, inl, inr}
-use Rattle.std.specs.Prelude.{Option, Some, None, MatchOption}
-use Rattle.std.specs.Option.{option_map_or}
-use Rattle.std.specs.BTreeMap as tree
-use Rattle.std.specs.BTreeMap.{BTreeMap, Updates}
-use Rattle.std.specs.FinMap as map
-use Rattle.std.specs.FinMap.{from_entries, same_map}
-use Rattle.xa_xid.specs.declared.xid.Xid.{Xid}
-use Rattle.xa_xid.specs.Xid.{xid_cmp}
-use Rattle.xa_xid.proofs.Orders.{xids_total, exact_xids}
-use Rattle.xa_server.specs.declared.branch.BranchRecord.{BranchRecord}
-use Rattle.xa_server.specs.Tables.{BranchMap, with_record}
+use Rattle.std.{proofs.Common.{◌≡◌, refl, ap, sym, ◌∙◌, inl, inr}, specs.Prelude.{Option, Some, None, MatchOption}}
+use Rattle.std.specs.{Option.option_map_or, BTreeMap.{BTreeMap, Updates}, FinMap.{from_entries, same_map}}
+use Rattle.xa_xid.{specs.{declared.xid.Xid.Xid, Xid.xid_cmp}, proofs.Orders.{xids_total, exact_xids}}
+use Rattle.xa_server.specs.{declared.branch.BranchRecord.BranchRecord, Tables.{BranchMap, with_record}}
 use Rattle.xa_server.proofs.Maps.{get_view, one_set, one_gone, same_or_apart, get_inserted, get_inserted_apart}
+use Rattle.std.specs.BTreeMap as tree
+use Rattle.std.specs.FinMap as map
 
 -- the map of identifiers to records that the tree's entries make
 abbrev pub branches_in : BTreeMap Xid BranchRecord → BranchMap

@@ -1,38 +1,26 @@
 -- What the state that records stand for has, by what the records have.
-use Rattle.std.proofs.Common.{◌≡◌, ◌≢◌, ℕ, List, [], ◌∷◌, refl, ap, sym, ◌∙◌, Bool, true, false, inl, inr}
+use Rattle.std.proofs.Common.{◌≡◌, ◌≢◌, ℕ, List, [], ◌∷◌, refl, ap, sym, ◌∙◌, Bool, true, false, inl, inr, eq-eqb}
 use Rattle.std.specs.Prelude.{Option, Some, None, cond, ◌&&◌, ◌||◌, ◌==◌, is_some, is_none, find, filter, not}
-use Rattle.std.specs.Option.{option_map, option_map_or, option_and_then, unwrap_or}
-use Rattle.std.specs.List.{list_any}
-use Rattle.std.specs.FinMap as map
+use Rattle.std.specs.{Option.{option_map, option_map_or, option_and_then, unwrap_or}, List.list_any}
 use Rattle.std.specs.FinMap.{contains_key-keys}
 use mathlib.Core.Bool.{true≢false}
-use Rattle.std.proofs.Common.{eq-eqb}
-use borrow.Author.Tests.{eqb-true}
-use Rattle.xa_xid.specs.declared.xid.Xid.{Xid}
-use Rattle.xa_xid.specs.Xid.{same_xid}
+use Rattle.xa_xid.specs.{declared.xid.Xid.Xid, Xid.same_xid}
 use Rattle.xa_xid.proofs.Orders.{xids_total, exact_xids, bytes_total, exact_texts}
-use Rattle.xa_server.specs.declared.branch.Phase.{Phase}
-use Rattle.xa_server.specs.declared.branch.BranchRecord.{BranchRecord}
-use Rattle.xa_server.specs.Recorded.{RowRecord}
-use Rattle.xa_server.specs.declared.association.Association.{Association}
-use Rattle.xa_server.specs.declared.association.Association.TheVariants.{Free, Active, Idle}
-use Rattle.xa_server.specs.declared.branch.Phase.TheVariants.{Active as PhaseActive, Idle as PhaseIdle}
-use Rattle.xa_server.specs.declared.branch.Phase.TheVariants.{Prepared as PhasePrepared}
+use Rattle.xa_server.specs.{declared.branch.{Phase.Phase, BranchRecord.BranchRecord}, Recorded.RowRecord}
+use Rattle.xa_server.specs.declared.association.Association.{Association, TheVariants.{Free, Active, Idle}}
 use Rattle.xa_server.specs.State.{LockMode, Branch, is_known, phase_at, is_prepared_phase, is_prepared, owner_at, owns}
-use Rattle.xa_server.specs.State.{own_xid, association_in, association_of}
-use Rattle.xa_server.specs.State.{committed_value, write_at, value_within, prepared_xids}
+use Rattle.xa_server.specs.State.{own_xid, association_in, association_of, committed_value, write_at, value_within}
+use Rattle.xa_server.specs.State.{prepared_xids}
 use Rattle.xa_server.specs.Locks.{lock_at, holds, is_exclusive, is_another, is_held_against, is_locked_against}
 use Rattle.xa_server.specs.Tables.{BranchMap, owner_of, phase_in as recorded_phase, named_in, prepared_among}
 use Rattle.xa_server.specs.Rows.{RowMap, committed_of, lock_of, write_by, lock_by, held_against, locked_against}
-use Rattle.xa_server.specs.Rows.{value_seen}
-use Rattle.xa_server.specs.View.{gather, branch_seen, state_of, times_in, times_listed, IsWhole}
-use Rattle.xa_server.proofs.Maps.{same_or_apart}
-use Rattle.xa_server.proofs.Gathered.{get-gather, keys-mapped, get-mapped}
-use Rattle.xa_server.proofs.Index.{not_none}
+use Rattle.xa_server.specs.{Rows.value_seen, View.{gather, branch_seen, state_of, times_in, times_listed, IsWhole}}
+use Rattle.xa_server.proofs.{Maps.same_or_apart, Gathered.{get-gather, keys-mapped, get-mapped}, Index.not_none}
 use Rattle.xa_server.proofs.Holders.{zero_or_one, mode_of, mode_of-lock, none_of, same_truth, both, any_witness}
-use Rattle.xa_server.proofs.Holders.{any_some, held_against-lock}
-use Rattle.xa_server.proofs.Holders.{locked_against-lock, beside_there, beside_witness, locked_there, locked_witness}
-use Rattle.xa_server.proofs.Holders.{unwritten}
+use Rattle.xa_server.proofs.Holders.{any_some, held_against-lock, locked_against-lock, beside_there, beside_witness}
+use Rattle.xa_server.proofs.Holders.{locked_there, locked_witness, unwritten}
+use Rattle.std.specs.FinMap as map
+use borrow.Author.Tests.{eqb-true}
 
 -- the branch at an identifier of the state is that of its record, with writes and locks from the rows' records
 pub get-branches : (branches : BranchMap) (rows : RowMap) (xid : Xid)
@@ -239,15 +227,15 @@ association-opened branches rows session opened whole named owned = by opened re
     none free xid owner = at (map.get branches xid) refl
       where
         clash : (branch : BranchRecord) (phase : Phase) → branch.phase ≡ phase → map.get branches xid ≡ Some branch → ⊥
-        clash branch PhaseActive p is =
+        clash branch Phase.Active p is =
             let e : Free ≡ Active xid = sym free ∙ owned xid owner
             ∙ ap (λ found. association_in (option_map (λ (b : BranchRecord). b.phase) found) xid) is
             ∙ ap (λ phase. association_in (Some phase) xid) p in cc
-        clash branch PhaseIdle p is =
+        clash branch Phase.Idle p is =
             let e : Free ≡ Idle xid = sym free ∙ owned xid owner
             ∙ ap (λ found. association_in (option_map (λ (b : BranchRecord). b.phase) found) xid) is
             ∙ ap (λ phase. association_in (Some phase) xid) p in cc
-        clash branch PhasePrepared p is =
+        clash branch Phase.Prepared p is =
             true≢false (sym (whole.attached xid branch is ∙ ap is_prepared_phase p)
             ∙ ap is_none (sym (ap (option_and_then (λ (b : BranchRecord). b.owner)) is) ∙ owner))
 

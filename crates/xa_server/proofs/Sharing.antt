@@ -1,22 +1,16 @@
 -- The branches that share a row, a list of the first and a tree of the later ones, seen as a finite set.
 use Rattle.std.proofs.Common.{◌≡◌, List, [], ◌∷◌, ◌++◌, refl, ap, sym, ◌∙◌, Bool, true, false, inl, inr, arith}
-use Rattle.std.proofs.Common.{length-append}
-use Rattle.std.proofs.lemmas.List.Folds.{list_all-append, list_any-append}
+use Rattle.std.proofs.{Common.length-append, lemmas.List.Folds.{list_all-append, list_any-append}}
+use Rattle.std.specs.{Prelude.{cond, not, ◌&&◌, ◌||◌, ◌⊎◌, filter, length}, List.{list_all, list_any}}
+use Rattle.std.specs.{Cmp.eq_by_cmp_equiv, BTreeSet.{BTreeSet, Updates}, FinSet.{contains-empty, contains-insert}}
+use Rattle.std.specs.FinSet.{contains-remove, contains-from_list, contains-items, contains-is_subset}
+use Rattle.std.specs.FinSet.{is_subset-contains, same_set}
 use mathlib.Core.Bool.{true≢false}
-use Rattle.std.specs.Prelude.{cond, not, ◌&&◌, ◌||◌, ◌⊎◌, filter, length}
-use Rattle.std.specs.List.{list_all, list_any}
-use Rattle.std.specs.Cmp.{eq_by_cmp_equiv}
-use Rattle.std.specs.BTreeSet as tree
-use Rattle.std.specs.BTreeSet.{BTreeSet, Updates}
-use Rattle.std.specs.FinSet as set
-use Rattle.std.specs.FinSet.{contains-empty, contains-insert, contains-remove, contains-from_list, contains-items}
-use Rattle.std.specs.FinSet.{contains-is_subset, is_subset-contains, same_set}
-use Rattle.xa_xid.specs.declared.xid.Xid.{Xid}
-use Rattle.xa_xid.specs.Xid.{xid_cmp, same_xid}
-use Rattle.xa_xid.proofs.Orders.{xids_total, exact_xids}
-use Rattle.xa_server.specs.Rows.{Sharing}
-use Rattle.xa_server.proofs.Holders.{both, itself, same_any, same_truth, turned_apart}
+use Rattle.xa_xid.{specs.{declared.xid.Xid.Xid, Xid.{xid_cmp, same_xid}}, proofs.Orders.{xids_total, exact_xids}}
+use Rattle.xa_server.{specs.Rows.Sharing, proofs.Holders.{both, itself, same_any, same_truth, turned_apart}}
 use Rattle.xa_server.proofs.Maps.{same_or_apart}
+use Rattle.std.specs.BTreeSet as tree
+use Rattle.std.specs.FinSet as set
 
 -- the set of the identifiers in a list
 abbrev pub listed : List Xid → Sharing

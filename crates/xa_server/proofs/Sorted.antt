@@ -1,30 +1,19 @@
 -- The PREPARED branches in a tree's entries are those of the map that the entries make, in the order of its keys.
 use Rattle.std.proofs.Common.{◌≡◌, List, [], ◌∷◌, ◌++◌, refl, ap, sym, ◌∙◌, subst, Bool, true, false, map, append_assoc}
-use Rattle.std.specs.Prelude.{Some, cond, ◌&&◌, filter}
-use Rattle.std.specs.List.{AllByRecursion}
-use Rattle.std.specs.Option.{option_map, option_map_or}
-use Rattle.std.specs.declared.cmp.Ordering.{Ordering}
-use Rattle.std.specs.declared.cmp.Ordering.TheVariants.{Less}
-use Rattle.std.specs.Ordering.{eq_by_cmp, is_lt, is_eq}
-use Rattle.std.specs.Cmp.{eq_by_cmp_equiv}
-use Rattle.std.specs.List.Sorted.{IsStrictlySortedBy}
-use Rattle.std.specs.FinMap.{find, is_sorted, from_sorted, from_entries, entries, same_map, get-from_entries}
-use Rattle.std.specs.FinMap.{get-from_sorted, entries-from_sorted}
-use Rattle.std.specs.FinMap.Entries.{below_all}
+use Rattle.std.specs.{Prelude.{Some, cond, ◌&&◌, filter}, List.{AllByRecursion, Sorted.IsStrictlySortedBy}}
+use Rattle.std.specs.{Option.{option_map, option_map_or}, declared.cmp.Ordering.Ordering, FinMap.Entries.below_all}
+use Rattle.std.specs.{Ordering.{eq_by_cmp, is_lt, is_eq}, Cmp.eq_by_cmp_equiv, FinMap.{find, is_sorted, from_sorted}}
+use Rattle.std.specs.FinMap.{from_entries, entries, same_map, get-from_entries, get-from_sorted, entries-from_sorted}
+use Rattle.xa_xid.{specs.{declared.xid.Xid.Xid, Xid.xid_cmp}, proofs.Orders.{xids_total, exact_xids}}
+use Rattle.xa_server.specs.{declared.branch.BranchRecord.BranchRecord, State.is_prepared_phase}
+use Rattle.xa_server.{specs.Tables.{prepared_keys, is_prepared_at, prepared_among}, proofs.Maps.same_itself}
 use lib.Dec.{T}
-use Rattle.xa_xid.specs.declared.xid.Xid.{Xid}
-use Rattle.xa_xid.specs.Xid.{xid_cmp}
-use Rattle.xa_xid.proofs.Orders.{xids_total, exact_xids}
-use Rattle.xa_server.specs.declared.branch.BranchRecord.{BranchRecord}
-use Rattle.xa_server.specs.State.{is_prepared_phase}
-use Rattle.xa_server.specs.Tables.{prepared_keys, is_prepared_at, prepared_among}
-use Rattle.xa_server.proofs.Maps.{same_itself}
 
 -- ---- a list in order
 
 -- an identifier that is below each key of the entries is below them all by the map's test
 below-all : (xid : Xid) (es : List (Xid × BranchRecord))
-    → AllByRecursion (λ y. xid_cmp xid y ≡ Less) (map (λ (e : Xid × BranchRecord). e.0) es)
+    → AllByRecursion (λ y. xid_cmp xid y ≡ Ordering.Less) (map (λ (e : Xid × BranchRecord). e.0) es)
     → below_all xid_cmp xid es ≡ true
 below-all xid [] h = refl
 below-all xid (e ∷ es) h = ap (λ r. is_lt r && below_all xid_cmp xid es) h.0 ∙ below-all xid es h.1
@@ -53,11 +42,11 @@ tests : List (Xid × BranchRecord) → Xid → Bool
 tests es xid = option_map_or is_prepared_phase (option_map (λ (b : BranchRecord). b.phase) (find xid_cmp xid es)) false
 
 -- a greater identifier isn't equal to a smaller one
-flipped : (r : Ordering) (x y : Xid) → r ≡ Less → xid_cmp x y ≡ r → eq_by_cmp xid_cmp y x ≡ false
+flipped : (r : Ordering) (x y : Xid) → r ≡ Ordering.Less → xid_cmp x y ≡ r → eq_by_cmp xid_cmp y x ≡ false
 flipped r x y less is = (eq_by_cmp_equiv xids_total).symm y x ∙ ap is_eq (is ∙ less)
 
 -- the first entry says nothing about a greater identifier
-test_beside : (e : Xid × BranchRecord) (all : List (Xid × BranchRecord)) (xid : Xid) → xid_cmp e.0 xid ≡ Less
+test_beside : (e : Xid × BranchRecord) (all : List (Xid × BranchRecord)) (xid : Xid) → xid_cmp e.0 xid ≡ Ordering.Less
     → tests (e ∷ all) xid ≡ tests all xid
 unfolding tests
 test_beside e all xid less =
@@ -67,7 +56,7 @@ test_beside e all xid less =
 
 -- the first entry, which is below all others, changes nothing about which of the others are PREPARED
 tests_beside : (e : Xid × BranchRecord) (all es : List (Xid × BranchRecord))
-    → AllByRecursion (λ y. xid_cmp e.0 y ≡ Less) (map (λ (f : Xid × BranchRecord). f.0) es) →
+    → AllByRecursion (λ y. xid_cmp e.0 y ≡ Ordering.Less) (map (λ (f : Xid × BranchRecord). f.0) es) →
     filter (tests (e ∷ all)) (map (λ (f : Xid × BranchRecord). f.0) es)
     ≡ filter (tests all) (map (λ (f : Xid × BranchRecord). f.0) es)
 unfolding tests

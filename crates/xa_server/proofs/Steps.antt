@@ -1,34 +1,23 @@
 -- What a change of the records is in the state that they stand for.
 use Rattle.std.proofs.Common.{◌≡◌, ℕ, List, [], refl, ap, sym, ◌∙◌, Bool, true, false, inl, inr}
-use Rattle.std.specs.Prelude.{Option, Some, None, cond, is_some}
-use Rattle.std.specs.Option.{option_map, option_map_or, option_and_then}
-use Rattle.std.specs.FinMap as map
-use Rattle.std.specs.FinMap.{get-empty, same_map}
-use Rattle.std.specs.FinSet as set
-use Rattle.std.specs.FinSet.{contains-empty}
+use Rattle.std.specs.{Prelude.{Option, Some, None, cond, is_some}, Option.{option_map, option_map_or, option_and_then}}
+use Rattle.std.specs.{FinMap.{get-empty, same_map}, FinSet.contains-empty}
 use mathlib.Core.Bool.{true≢false}
-use Rattle.xa_xid.specs.declared.xid.Xid.{Xid}
-use Rattle.xa_xid.specs.Xid.{Text, bytes_cmp, xid_cmp, same_xid}
+use Rattle.xa_xid.specs.{declared.xid.Xid.Xid, Xid.{Text, bytes_cmp, xid_cmp, same_xid}}
 use Rattle.xa_xid.proofs.Orders.{xids_total, exact_xids, bytes_total, exact_texts}
-use Rattle.xa_server.specs.declared.branch.Phase.TheVariants.{Active as PhaseActive}
-use Rattle.xa_server.specs.declared.branch.BranchRecord.{BranchRecord}
-use Rattle.xa_server.specs.declared.lock.Change.{Change}
-use Rattle.xa_server.specs.declared.lock.Lock.TheVariants.{Shared as SharedBy}
-use Rattle.xa_server.specs.Recorded.{RowRecord}
-use Rattle.xa_server.specs.declared.association.Association.TheVariants.{Active}
-use Rattle.xa_server.specs.State.{LockMode, Shared, Exclusive, Branch, State, no_state}
-use Rattle.xa_server.specs.Locks.{is_exclusive}
-use Rattle.xa_server.specs.Step.{started_by, with_branch, with_changed, with_lock, with_write}
-use Rattle.xa_server.specs.Tables.{BranchMap, with_record}
-use Rattle.xa_server.specs.Rows.{RowMap, committed_of, lock_of, write_of, write_by, mode_in, lock_by, locked_against}
-use Rattle.xa_server.specs.Rows.{held_row, shared_row, with_change}
-use Rattle.xa_server.specs.View.{gather, branch_seen, state_of}
+use Rattle.xa_server.specs.declared.branch.{Phase.TheVariants.Active as PhaseActive, BranchRecord.BranchRecord}
+use Rattle.xa_server.specs.declared.{lock.{Change.Change, Lock.Lock}, association.Association.TheVariants.Active}
+use Rattle.xa_server.specs.{Recorded.RowRecord, State.{LockMode, Shared, Exclusive, Branch, State, no_state}}
+use Rattle.xa_server.specs.{Locks.is_exclusive, Step.{started_by, with_branch, with_changed, with_lock, with_write}}
+use Rattle.xa_server.specs.{Tables.{BranchMap, with_record}, Rows.{RowMap, committed_of, lock_of, write_of, write_by}}
+use Rattle.xa_server.specs.Rows.{mode_in, lock_by, locked_against, held_row, shared_row, with_change}
+use Rattle.xa_server.{specs.View.{gather, branch_seen, state_of}, proofs.Gathered.get-gather}
 use Rattle.xa_server.proofs.Maps.{same_or_apart, get_inserted, get_inserted_apart, get_removed, get_removed_apart}
-use Rattle.xa_server.proofs.Gathered.{get-gather}
 use Rattle.xa_server.proofs.Holders.{mode_of, mode_of-lock, none_of, itself, turned_apart, unwritten}
-use Rattle.xa_server.proofs.Holders.{locked_against-lock, sharer_there, sharer_beside}
-use Rattle.xa_server.proofs.Holders.{sharer_writes}
+use Rattle.xa_server.proofs.Holders.{locked_against-lock, sharer_there, sharer_beside, sharer_writes}
 use Rattle.xa_server.proofs.Seen.{get-branches}
+use Rattle.std.specs.FinMap as map
+use Rattle.std.specs.FinSet as set
 
 -- states with the same branches and rows are one
 pub same_state : (s t : State) → s.branches ≡ t.branches → s.rows ≡ t.rows → s ≡ t
@@ -169,7 +158,7 @@ seen_changed branches rows xid change seen is =
         seen_inserted branches rows xid (change branch) ∙ ap (with_branch (state_of branches rows) xid) (is branch)
 
 -- a row without sharers is held by no branch
-pub nobodys : (xid : Xid) → mode_in xid (SharedBy set.empty) ≡ None
+pub nobodys : (xid : Xid) → mode_in xid (Lock.Shared set.empty) ≡ None
 nobodys xid = ap (λ b. cond b (Some Shared) None) (contains-empty xid_cmp xid)
 
 -- a branch that a session has just started, and that no row's record names, is in the state as `started_by` says
@@ -190,7 +179,7 @@ unheld_writes xid found none = unwritten xid found (ap is_some none)
 -- a committed value set in a record that nobody holds is one set in the state
 pub seen_put : (branches : BranchMap) (rows : RowMap) (key : List ℕ) (value : Text)
     → ((xid : Xid) → mode_of xid (map.get rows key) ≡ None) →
-    state_of branches (map.insert rows key (record { committed = Some value; lock = SharedBy set.empty }))
+    state_of branches (map.insert rows key (record { committed = Some value; lock = Lock.Shared set.empty }))
     ≡ record (state_of branches rows) { rows = with_write key (Some value) (state_of branches rows).rows }
 unfolding state_of
 seen_put branches rows key value free = same_state _ _

@@ -1,29 +1,21 @@
 -- How a branch holds a row after a statement, by how it held it before.
-use Rattle.std.proofs.Common.{◌≡◌, ℕ, List, refl, ap, sym, ◌∙◌, Bool, true, false, ◌⊎◌, inl, inr}
-use Rattle.std.specs.Prelude.{Option, Some, None, cond, not, ◌&&◌, is_some}
-use Rattle.std.specs.Option.{option_map, option_and_then}
-use Rattle.std.specs.List.{list_any}
-use Rattle.std.specs.Ordering.{eq_by_cmp}
-use Rattle.std.specs.FinMap as map
-use Rattle.std.specs.FinMap.{contains_key-keys, get-empty}
+use Rattle.std.{proofs.Common.{◌≡◌, ℕ, List, refl, ap, sym, ◌∙◌, Bool, true, false, ◌⊎◌, inl, inr}, specs.List.list_any}
+use Rattle.std.specs.{Prelude.{Option, Some, None, cond, not, ◌&&◌, is_some}, Option.{option_map, option_and_then}}
+use Rattle.std.specs.{Ordering.eq_by_cmp, FinMap.{contains_key-keys, get-empty}}
 use mathlib.Core.Bool.{true≢false}
-use Rattle.xa_xid.specs.declared.xid.Xid.{Xid}
-use Rattle.xa_xid.specs.Xid.{bytes_cmp, same_xid}
+use Rattle.xa_xid.specs.declared.{xid.Xid.Xid, statement.Statement.{Statement, TheVariants.{Start, End, Prepare}}}
+use Rattle.xa_xid.specs.declared.statement.Statement.TheVariants.{Commit, Rollback, Recover, Unsupported, Get, Put, Del}
+use Rattle.xa_xid.specs.{declared.statement.Statement.TheVariants.Disconnect, Xid.{bytes_cmp, same_xid}}
 use Rattle.xa_xid.proofs.Orders.{xids_total, exact_xids, bytes_total, exact_texts}
-use Rattle.xa_xid.specs.declared.statement.Statement.{Statement}
-use Rattle.xa_xid.specs.declared.statement.Statement.TheVariants.{Start, End, Prepare, Commit, Rollback, Recover}
-use Rattle.xa_xid.specs.declared.statement.Statement.TheVariants.{Unsupported, Get, Put, Del, Disconnect}
-use Rattle.xa_server.specs.declared.association.Association.{Association}
-use Rattle.xa_server.specs.declared.association.Association.TheVariants.{Free, Active, Idle}
-use Rattle.xa_server.specs.State.{Write, LockMode, Shared, Exclusive, RowLocks, Branch, State}
-use Rattle.xa_server.specs.Locks.{LockLaw, lock_at, holds, is_exclusive, holds_exclusively, is_another, is_held_against}
-use Rattle.xa_server.specs.Locks.{is_locked_against}
-use Rattle.xa_server.specs.Replies.{table}
+use Rattle.xa_server.specs.declared.association.Association.{Association, TheVariants.{Free, Active, Idle}}
+use Rattle.xa_server.specs.{State.{Write, LockMode, Shared, Exclusive, RowLocks, Branch, State}, Locks.LockLaw}
+use Rattle.xa_server.specs.Locks.{lock_at, holds, is_exclusive, holds_exclusively, is_another, is_held_against}
+use Rattle.xa_server.specs.{Locks.is_locked_against, Replies.table}
 use Rattle.xa_server.specs.Step.{started_by, with_share, with_lock, with_own_write, is_refused}
 use Rattle.xa_server.proofs.Maps.{same_or_apart, get_inserted, get_inserted_apart}
-use Rattle.xa_server.proofs.Holders.{any_some, exclusive_some, one_xid}
+use Rattle.xa_server.proofs.{Holders.{any_some, exclusive_some, one_xid}, Changes.{idle, detached, branch_after}}
 use Rattle.xa_server.proofs.Accepted.{accepted_get, accepted_put, accepted_del}
-use Rattle.xa_server.proofs.Changes.{idle, detached, branch_after}
+use Rattle.std.specs.FinMap as map
 
 -- how the branch holds the row, if there is a branch and it holds it
 unfoldable pub mode_in : List ℕ → Option Branch → Option LockMode

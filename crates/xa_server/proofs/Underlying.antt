@@ -1,19 +1,14 @@
 -- Runs: what one of them has for a key, what two have when they are merged, and what they have together.
 use Rattle.std.proofs.Common.{length, arith, [], ◌≡◌, ℕ, List, ◌∷◌, refl, ap, sym, ◌∙◌, Bool, true, false, subst}
-use Rattle.std.specs.Prelude.{Option, Some, None, cond, ◌==◌}
+use Rattle.std.specs.{Prelude.{Option, Some, None, cond, ◌==◌}, Option.{option_and_then, unwrap_or}}
+use Rattle.std.specs.FinMap.{find, is_sorted, get-entries, get-from_sorted}
+use Rattle.xa_xid.{specs.Xid.{Text, bytes_cmp}, proofs.Orders.{bytes_total, exact_texts}}
+use Rattle.xa_server.specs.{State.Write, Layers.{Writes, under, first_of, value_only, kept_write, merged_at, gathered}}
+use Rattle.xa_server.{specs.Merging.merged, proofs.{Ending.get-with_writes, Kept.{sorted_kept, find_kept}}}
+use Rattle.xa_server.proofs.Merging.{find_merged, sorted_merged}
 use borrow.Author.Tests.{eqb-true}
 use lib.Dec.{T}
-use Rattle.std.specs.Option.{option_and_then, unwrap_or}
 use Rattle.std.specs.FinMap as map
-use Rattle.std.specs.FinMap.{find, is_sorted, get-entries, get-from_sorted}
-use Rattle.xa_xid.specs.Xid.{Text, bytes_cmp}
-use Rattle.xa_xid.proofs.Orders.{bytes_total, exact_texts}
-use Rattle.xa_server.specs.State.{Write}
-use Rattle.xa_server.specs.Layers.{Writes, under, first_of, value_only, kept_write, merged_at, gathered}
-use Rattle.xa_server.specs.Merging.{merged}
-use Rattle.xa_server.proofs.Ending.{get-with_writes}
-use Rattle.xa_server.proofs.Kept.{sorted_kept, find_kept}
-use Rattle.xa_server.proofs.Merging.{find_merged, sorted_merged}
 
 -- the rows of a run
 abbrev pub Rows : Type 0

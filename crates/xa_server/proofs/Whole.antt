@@ -1,27 +1,17 @@
 -- What the records keep, under each change of them.
 use Rattle.std.proofs.Common.{◌≡◌, ◌≢◌, ℕ, suc, ◌+◌, List, [], ◌∷◌, ◌++◌, length, refl, ap, sym, ◌∙◌, Bool, true, false}
-use Rattle.std.proofs.Common.{◌⊎◌, inl, inr, arith}
-use Rattle.std.specs.Prelude.{Option, Some, None, cond, ◌||◌, filter, is_none, is_some}
-use Rattle.std.specs.Option.{option_map, option_map_or, option_and_then}
-use Rattle.std.specs.List.{list_any}
-use Rattle.std.specs.Ordering.{eq_by_cmp}
-use Rattle.std.specs.FinMap as map
-use Rattle.std.specs.FinMap.{get-empty}
+use Rattle.std.{proofs.Common.{◌⊎◌, inl, inr, arith}, specs.Option.{option_map, option_map_or, option_and_then}}
+use Rattle.std.specs.{Prelude.{Option, Some, None, cond, ◌||◌, filter, is_none, is_some}, List.list_any}
+use Rattle.std.specs.{Ordering.eq_by_cmp, FinMap.get-empty}
 use mathlib.Core.Bool.{true≢false}
-use Rattle.xa_xid.specs.declared.xid.Xid.{Xid}
-use Rattle.xa_xid.specs.Xid.{bytes_cmp, xid_cmp, same_xid}
+use Rattle.xa_xid.specs.{declared.xid.Xid.Xid, Xid.{bytes_cmp, xid_cmp, same_xid}}
 use Rattle.xa_xid.proofs.Orders.{xids_total, exact_xids, bytes_total, exact_texts}
-use Rattle.xa_server.specs.declared.branch.BranchRecord.{BranchRecord}
-use Rattle.xa_server.specs.Recorded.{RowRecord}
-use Rattle.xa_server.specs.State.{is_prepared_phase}
-use Rattle.xa_server.specs.Tables.{BranchMap, owner_of, with_record}
-use Rattle.xa_server.specs.Rows.{RowMap, lock_by, Frees}
-use Rattle.xa_server.specs.View.{times_in, IsWhole}
-use Rattle.xa_server.proofs.Maps.{same_or_apart, same_itself, get_inserted, get_inserted_apart, get_removed}
-use Rattle.xa_server.proofs.Maps.{get_removed_apart}
-use Rattle.xa_server.proofs.Index.{same_value, not_none}
-use Rattle.xa_server.proofs.Holders.{zero_or_one, mode_of}
-use Rattle.xa_server.proofs.Ending.{IsListedIn, own_mode, beside_mode}
+use Rattle.xa_server.specs.{declared.branch.BranchRecord.BranchRecord, Recorded.RowRecord, State.is_prepared_phase}
+use Rattle.xa_server.specs.{Tables.{BranchMap, owner_of, with_record}, Rows.{RowMap, lock_by, Frees}}
+use Rattle.xa_server.{specs.View.{times_in, IsWhole}, proofs.Maps.{same_or_apart, same_itself, get_inserted}}
+use Rattle.xa_server.proofs.{Maps.{get_inserted_apart, get_removed, get_removed_apart}, Index.{same_value, not_none}}
+use Rattle.xa_server.proofs.{Holders.{zero_or_one, mode_of}, Ending.{IsListedIn, own_mode, beside_mode}}
+use Rattle.std.specs.FinMap as map
 
 -- the session that owns a branch, by its record
 owner : Option BranchRecord → Option ℕ

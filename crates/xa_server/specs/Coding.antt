@@ -1,40 +1,31 @@
 -- How a state, and the server's records of branches and rows, are encoded where finite maps keep them: each record as
 -- the pairs of its fields.
 use Rattle.std.specs.Prelude.{◌≡◌, ℕ, Option, Some, None, List, zero, suc, refl}
-use Rattle.std.specs.FinMap as map
-use Rattle.std.specs.Coded.{Coded, code_by, coded×, coded_option, coded_ℕ}
-use Rattle.std.specs.FinSet as set
-use Rattle.xa_xid.specs.declared.xid.Xid.{Xid}
-use Rattle.xa_xid.specs.Xid.{Text, bytes_cmp, xid_cmp, coded_text, coded_xid}
-use Rattle.std.specs.Coded.{coded_list}
-use Rattle.xa_server.specs.declared.branch.Phase.{Phase}
-use Rattle.xa_server.specs.declared.branch.Phase.TheVariants.{Active, Idle, Prepared}
-use Rattle.xa_server.specs.declared.branch.BranchRecord.{BranchRecord}
-use Rattle.xa_server.specs.declared.lock.Change.{Change}
-use Rattle.xa_server.specs.declared.lock.Change.TheVariants.{Put, Delete}
-use Rattle.xa_server.specs.declared.lock.Lock.{Lock}
-use Rattle.xa_server.specs.declared.lock.Lock.TheVariants.{Exclusive as HeldBy, Shared as SharedBy}
-use Rattle.xa_server.specs.Recorded.{RowRecord}
-use Rattle.xa_server.specs.Rows.{Sharing, write_of}
+use Rattle.std.specs.Coded.{Coded, code_by, coded×, coded_option, coded_ℕ, coded_list}
+use Rattle.xa_xid.specs.{declared.xid.Xid.Xid, Xid.{Text, bytes_cmp, xid_cmp, coded_text, coded_xid}}
+use Rattle.xa_server.specs.declared.{branch.{Phase.Phase, BranchRecord.BranchRecord}, lock.{Change.Change, Lock.Lock}}
+use Rattle.xa_server.specs.{Recorded.RowRecord, Rows.{Sharing, write_of}}
 use Rattle.xa_server.specs.State.{Write, LockMode, Shared, Exclusive, RowLocks, Branch, State}
+use Rattle.std.specs.FinMap as map
+use Rattle.std.specs.FinSet as set
 
 -- a phase is encoded as a number
 abbrev pub number_of_phase : Phase → ℕ
-number_of_phase Active = 0
-number_of_phase Idle = 1
-number_of_phase Prepared = 2
+number_of_phase Phase.Active = 0
+number_of_phase Phase.Idle = 1
+number_of_phase Phase.Prepared = 2
 
 -- the phase of a number; any number from 2 on is PREPARED
 abbrev pub phase_of_number : ℕ → Phase
-phase_of_number zero = Active
-phase_of_number (suc zero) = Idle
-phase_of_number (suc (suc n)) = Prepared
+phase_of_number zero = Phase.Active
+phase_of_number (suc zero) = Phase.Idle
+phase_of_number (suc (suc n)) = Phase.Prepared
 
 -- a phase is found again by its number
 abbrev pub phase_back : (phase : Phase) → phase_of_number (number_of_phase phase) ≡ phase
-phase_back Active = refl
-phase_back Idle = refl
-phase_back Prepared = refl
+phase_back Phase.Active = refl
+phase_back Phase.Idle = refl
+phase_back Phase.Prepared = refl
 
 -- a branch's phase is encoded as its number, `number_of_phase`
 abbrev pub coded_phase : Coded Phase
@@ -95,13 +86,13 @@ coded_branches = map.code coded_xid coded_branch_record
 
 -- the change that makes this write: of a value, or None for a deletion
 abbrev pub change_of : Write → Change
-change_of (Some value) = Put value
-change_of None = Delete
+change_of (Some value) = Change.Put value
+change_of None = Change.Delete
 
 -- a change is found again by what it writes
 abbrev pub change_back : (change : Change) → change_of (write_of change) ≡ change
-change_back (Put value) = refl
-change_back Delete = refl
+change_back (Change.Put value) = refl
+change_back Change.Delete = refl
 
 -- a change of a row is encoded as the write that it makes
 abbrev pub coded_change : Coded Change
@@ -109,18 +100,18 @@ coded_change = code_by Write (coded_option coded_text) write_of change_of change
 
 -- a lock as a pair: the branch that holds it exclusively, if one does, with its change; and the sharers
 abbrev pub holder_and_sharers : Lock → Option (Xid × Change) × Sharing
-holder_and_sharers (HeldBy holder change) = (Some (holder, change), set.empty)
-holder_and_sharers (SharedBy sharers) = (None, sharers)
+holder_and_sharers (Lock.Exclusive holder change) = (Some (holder, change), set.empty)
+holder_and_sharers (Lock.Shared sharers) = (None, sharers)
 
 -- the lock of a holder, if there is one, else of sharers
 abbrev pub lock_of_parts : Option (Xid × Change) × Sharing → Lock
-lock_of_parts (Some held, sharers) = HeldBy held.0 held.1
-lock_of_parts (None, sharers) = SharedBy sharers
+lock_of_parts (Some held, sharers) = Lock.Exclusive held.0 held.1
+lock_of_parts (None, sharers) = Lock.Shared sharers
 
 -- a lock is found again by its parts
 abbrev pub lock_back : (lock : Lock) → lock_of_parts (holder_and_sharers lock) ≡ lock
-lock_back (HeldBy holder change) = refl
-lock_back (SharedBy sharers) = refl
+lock_back (Lock.Exclusive holder change) = refl
+lock_back (Lock.Shared sharers) = refl
 
 -- a lock is encoded by who holds it, and by the change if it is exclusive
 abbrev pub coded_lock : Coded Lock

@@ -4,13 +4,8 @@
 --     FinishesAt      a place of a history at which a prepared branch is finished
 --     PreparesAt      a place at which a branch is prepared
 use Rattle.std.specs.Prelude.{◌≡◌, ℕ, true, false, Some, List, take, slice_get}
-use Rattle.xa_xid.specs.declared.xid.Xid.{Xid}
-use Rattle.xa_xid.specs.declared.statement.Statement.{Statement}
-use Rattle.xa_xid.specs.declared.statement.Statement.TheVariants.{Prepare, Commit, Rollback}
-use Rattle.xa_server.specs.declared.reply.Reply.TheVariants.{Ok as Accepted}
-use Rattle.xa_server.specs.State.{State, is_prepared}
-use Rattle.xa_server.specs.Replies.{reply_to}
-use Rattle.xa_server.specs.Step.{after_all}
+use Rattle.xa_xid.specs.declared.{xid.Xid.Xid, statement.Statement.{Statement, TheVariants.{Prepare, Commit, Rollback}}}
+use Rattle.xa_server.specs.{declared.reply.Reply.Reply, State.{State, is_prepared}, Replies.reply_to, Step.after_all}
 
 -- an XA COMMIT without ONE PHASE, or an XA ROLLBACK, of the branch
 pub data Finishes : Statement → Xid → Type 0 where
@@ -24,10 +19,10 @@ pub record FinishesAt (base : State) (history : List (ℕ × Statement)) (place 
   pub entry : slice_get history place ≡ Some (session, statement)
   pub finishes : Finishes statement xid
   pub prepared : is_prepared (after_all base (take place history)) xid ≡ true
-  pub accepted : reply_to (after_all base (take place history)) session statement ≡ Accepted
+  pub accepted : reply_to (after_all base (take place history)) session statement ≡ Reply.Ok
 
 -- there is an accepted XA PREPARE of the branch at this place
 pub record PreparesAt (base : State) (history : List (ℕ × Statement)) (place : ℕ) (xid : Xid) : Type 0 where
   pub session : ℕ
   pub entry : slice_get history place ≡ Some (session, Prepare xid)
-  pub accepted : reply_to (after_all base (take place history)) session (Prepare xid) ≡ Accepted
+  pub accepted : reply_to (after_all base (take place history)) session (Prepare xid) ≡ Reply.Ok

@@ -5,24 +5,13 @@
 --     held_among         the rows that this branch holds, of those in a list of records
 --     held_recently      the same, of those in a list of the records of recent rows
 --     recorded_entries   every branch, by its record
-use Rattle.std.specs.Prelude.{ℕ, cond, Option, Some, None, List, [], ◌∷◌, map}
-use Rattle.std.specs.Option.{option_map_or}
+use Rattle.std.specs.{Prelude.{ℕ, cond, Option, Some, None, List, [], ◌∷◌, map}, Option.option_map_or}
+use Rattle.xa_xid.specs.{declared.xid.Xid.Xid, Xid.same_xid}
+use Rattle.xa_server.specs.declared.{branch.BranchRecord.BranchRecord, hold.{Hold.Hold, HeldRow.HeldRow}}
+use Rattle.xa_server.specs.declared.{lock.Lock.Lock, overview.BranchEntry.BranchEntry, row.RecentRow.RecentRow}
+use Rattle.xa_server.specs.{Recorded.RowRecord, Overview.hold_of, Rows.write_of, Tables.BranchMap}
 use Rattle.std.specs.FinMap as fin
 use Rattle.std.specs.FinSet as set
-use Rattle.xa_xid.specs.declared.xid.Xid.{Xid}
-use Rattle.xa_xid.specs.Xid.{same_xid}
-use Rattle.xa_server.specs.declared.branch.BranchRecord.{BranchRecord}
-use Rattle.xa_server.specs.declared.hold.Hold.{Hold}
-use Rattle.xa_server.specs.declared.hold.Hold.TheVariants.{Shared as Shares}
-use Rattle.xa_server.specs.declared.hold.HeldRow.{HeldRow}
-use Rattle.xa_server.specs.declared.lock.Lock.{Lock}
-use Rattle.xa_server.specs.declared.lock.Lock.TheVariants.{Exclusive as HeldBy, Shared as SharedBy}
-use Rattle.xa_server.specs.declared.overview.BranchEntry.{BranchEntry}
-use Rattle.xa_server.specs.declared.row.RecentRow.{RecentRow}
-use Rattle.xa_server.specs.Recorded.{RowRecord}
-use Rattle.xa_server.specs.Overview.{hold_of}
-use Rattle.xa_server.specs.Rows.{write_of}
-use Rattle.xa_server.specs.Tables.{BranchMap}
 
 -- a branch without its rows, by its record
 abbrev pub recorded_entry : Xid × BranchRecord → BranchEntry
@@ -35,8 +24,8 @@ recorded_entries branches = map recorded_entry (fin.entries branches)
 -- how this branch holds a row, by the row's lock: by its newest write if it holds the row exclusively, else in share;
 -- None if it doesn't hold the row
 abbrev pub hold_in : Xid → Lock → Option Hold
-hold_in xid (HeldBy holder change) = cond (same_xid holder xid) (Some (hold_of (Some (write_of change)))) None
-hold_in xid (SharedBy sharers) = cond (set.contains sharers xid) (Some Shares) None
+hold_in xid (Lock.Exclusive holder change) = cond (same_xid holder xid) (Some (hold_of (Some (write_of change)))) None
+hold_in xid (Lock.Shared sharers) = cond (set.contains sharers xid) (Some Hold.Shared) None
 
 -- these rows with the row of this key in front, if `held` says how the branch holds it; with None they are unchanged
 abbrev pub with_held : List ℕ → Option Hold → List HeldRow → List HeldRow

@@ -2,11 +2,9 @@
 --     IsPreparedBetween    there is an accepted XA PREPARE of the branch between two places of a history
 --     LeavesSession        what a session has open is as it was
 use Rattle.std.specs.Prelude.{◌≡◌, ℕ, ◌<◌, true, List}
+use Rattle.xa_xid.specs.declared.{xid.Xid.Xid, statement.Statement.Statement}
+use Rattle.xa_server.specs.{State.{State, owns, own_xid, phase_at, association_of}, Finish.PreparesAt}
 use Rattle.std.specs.FinMap as map
-use Rattle.xa_xid.specs.declared.xid.Xid.{Xid}
-use Rattle.xa_xid.specs.declared.statement.Statement.{Statement}
-use Rattle.xa_server.specs.State.{State, owns, own_xid, phase_at, association_of}
-use Rattle.xa_server.specs.Finish.{PreparesAt}
 
 -- there is an accepted XA PREPARE of the branch between two places of a history, at neither of them
 pub record IsPreparedBetween (base : State) (history : List (ℕ × Statement)) (first second : ℕ)

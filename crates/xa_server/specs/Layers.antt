@@ -9,23 +9,14 @@
 --     gathered               what is found in each of a list of entries, in their order
 --     value_of, hides_below, freed_recent, is_needed_over, held_as_below      the parts of what the records do
 use Rattle.std.specs.Prelude.{ℕ, Bool, true, false, not, cond, ◌||◌, Option, Some, None, List, [], ◌∷◌}
-use Rattle.std.specs.Option.{option_and_then, unwrap_or}
-use Rattle.std.specs.Ordering.{eq_by_cmp}
+use Rattle.std.specs.{Option.{option_and_then, unwrap_or}, Ordering.eq_by_cmp}
+use Rattle.xa_xid.specs.{declared.xid.Xid.Xid, Xid.{Text, bytes_cmp}}
+use Rattle.xa_server.specs.{declared.{association.Association.TheVariants.Free, lock.Lock.Lock}, Recorded.RowRecord}
+use Rattle.xa_server.specs.declared.{lock.Lock.TheVariants.Shared as SharedBy, row.RecentRow.RecentRow}
+use Rattle.xa_server.specs.{declared.row.RecentValue.{RecentValue, TheVariants.{AsBelow, Value, Gone}}, View.mapped}
+use Rattle.xa_server.specs.{Rows.{RowMap, write_in, held_beside, freed_lock, kept}, State.Write, Step.with_writes}
 use Rattle.std.specs.FinMap as map
 use Rattle.std.specs.FinSet as set
-use Rattle.xa_xid.specs.declared.xid.Xid.{Xid}
-use Rattle.xa_xid.specs.Xid.{Text, bytes_cmp}
-use Rattle.xa_server.specs.declared.association.Association.TheVariants.{Free}
-use Rattle.xa_server.specs.declared.lock.Lock.{Lock}
-use Rattle.xa_server.specs.declared.lock.Lock.TheVariants.{Shared as SharedBy}
-use Rattle.xa_server.specs.declared.row.RecentRow.{RecentRow}
-use Rattle.xa_server.specs.declared.row.RecentValue.{RecentValue}
-use Rattle.xa_server.specs.declared.row.RecentValue.TheVariants.{AsBelow, Value, Gone}
-use Rattle.xa_server.specs.Recorded.{RowRecord}
-use Rattle.xa_server.specs.Rows.{RowMap, write_in, held_beside, freed_lock, kept}
-use Rattle.xa_server.specs.State.{Write}
-use Rattle.xa_server.specs.Step.{with_writes}
-use Rattle.xa_server.specs.View.{mapped}
 
 -- the records of the recent rows, by their keys
 abbrev pub RecentMap : Type 0

@@ -6,15 +6,12 @@
 --     LockLaw              what every state of a server keeps
 --     is_exclusive         whether a branch's hold of a row is exclusive
 --     is_another           the branch isn't the session's own
-use Rattle.std.specs.Prelude.{◌≡◌, ℕ, Bool, true, false, not, ◌&&◌, Option, Some, None, List, is_some}
-use Rattle.std.specs.List.{list_any}
+use Rattle.std.specs.{Prelude.{◌≡◌, ℕ, Bool, true, false, not, ◌&&◌, Option, Some, None, List, is_some}, List.list_any}
 use Rattle.std.specs.Option.{option_and_then}
-use Rattle.std.specs.FinMap as map
-use Rattle.xa_xid.specs.declared.xid.Xid.{Xid}
-use Rattle.xa_xid.specs.Xid.{same_xid}
-use Rattle.xa_server.specs.declared.association.Association.{Association}
-use Rattle.xa_server.specs.declared.association.Association.TheVariants.{Free, Active, Idle}
+use Rattle.xa_xid.specs.{declared.xid.Xid.Xid, Xid.same_xid}
+use Rattle.xa_server.specs.declared.association.Association.{Association, TheVariants.{Free, Active, Idle}}
 use Rattle.xa_server.specs.State.{State, LockMode, Shared, Exclusive, is_known, is_prepared, owner_at, owns, write_at}
+use Rattle.std.specs.FinMap as map
 
 -- how the branch holds the row; None if it doesn't hold it. What a branch holds, it holds until it ends (own rule)
 abbrev pub lock_at : State → Xid → List ℕ → Option LockMode

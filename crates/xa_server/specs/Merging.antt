@@ -1,10 +1,7 @@
 -- Two lists of entries, each ascending by key, merged.
 --     merged         all entries in order; of two with one key the newer list's
 --     least_of       which of two lists has the entry with the least key
-use Rattle.std.specs.Prelude.{List, [], ◌∷◌}
-use Rattle.std.specs.declared.cmp.Ordering.{Ordering}
-use Rattle.std.specs.declared.cmp.Ordering.TheVariants.{Less, Greater}
-use Rattle.std.specs.FinMap.Entries.{by_order}
+use Rattle.std.specs.{Prelude.{List, [], ◌∷◌}, declared.cmp.Ordering.Ordering, FinMap.Entries.by_order}
 
 module _ {K V : Type 0} (R : K → K → Ordering) where
   -- an entry and more entries merged with older ones; `later` merges those more
@@ -21,6 +18,6 @@ module _ {K V : Type 0} (R : K → K → Ordering) where
   -- which of two lists has the entry with the least key: the first (Less), the second (Greater), or both; an empty one
   -- hasn't
   abbrev pub least_of : List (K × V) → List (K × V) → Ordering
-  least_of [] older = Greater
-  least_of (e ∷ newer) [] = Less
+  least_of [] older = Ordering.Greater
+  least_of (e ∷ newer) [] = Ordering.Less
   least_of (e ∷ newer) (f ∷ older) = R e.0 f.0

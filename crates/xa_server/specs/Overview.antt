@@ -5,19 +5,12 @@
 --     keys_of                    the keys of these rows
 --     keys_about                 the keys of the rows that a statement is about
 --     keys_open                  the keys of the rows that the session's branch holds
-use Rattle.std.specs.Prelude.{ℕ, Option, Some, None, List, [], ◌∷◌, map}
-use Rattle.std.specs.Option.{option_map_or}
-use Rattle.std.specs.FinMap as fin
-use Rattle.xa_xid.specs.declared.xid.Xid.{Xid}
-use Rattle.xa_xid.specs.declared.statement.Statement.{Statement}
-use Rattle.xa_xid.specs.declared.statement.Statement.TheVariants.{Commit, Rollback, Get, Put, Del, Disconnect}
-use Rattle.xa_server.specs.declared.hold.Hold.{Hold}
-use Rattle.xa_server.specs.declared.hold.Hold.TheVariants.{Shared as Shares, Put as Puts, Delete as Deletes}
-use Rattle.xa_server.specs.declared.hold.HeldRow.{HeldRow}
-use Rattle.xa_server.specs.declared.overview.BranchEntry.{BranchEntry}
-use Rattle.xa_server.specs.declared.association.Association.{Association}
-use Rattle.xa_server.specs.declared.association.Association.TheVariants.{Free, Active, Idle}
+use Rattle.std.specs.{Prelude.{ℕ, Option, Some, None, List, [], ◌∷◌, map}, Option.option_map_or}
+use Rattle.xa_xid.specs.declared.{xid.Xid.Xid, statement.Statement.Statement}
+use Rattle.xa_server.specs.declared.{hold.{Hold.Hold, HeldRow.HeldRow}, overview.BranchEntry.BranchEntry}
+use Rattle.xa_server.specs.declared.association.Association.{Association, TheVariants.{Free, Active, Idle}}
 use Rattle.xa_server.specs.State.{Write, LockMode, Branch, State, association_of}
+use Rattle.std.specs.FinMap as fin
 
 -- a branch as a list shows it: identifier, phase and owner, without its rows
 abbrev pub entry_of : Xid × Branch → BranchEntry
@@ -30,9 +23,9 @@ branches_of state = map entry_of (fin.entries state.branches)
 -- how a branch holds a row, by its newest write of the row: in share if it didn't write it (None), else exclusively,
 -- with this write
 abbrev pub hold_of : Option Write → Hold
-hold_of None = Shares
-hold_of (Some (Some value)) = Puts value
-hold_of (Some None) = Deletes
+hold_of None = Hold.Shared
+hold_of (Some (Some value)) = Hold.Put value
+hold_of (Some None) = Hold.Delete
 
 -- a row that the branch holds, as a list shows it: its key, and how the branch holds it, by the branch's newest write
 -- of it (the lock mode isn't looked at)
@@ -61,10 +54,10 @@ keys_open state (Idle own) = keys_of (rows_of state own)
 -- and XA ROLLBACK those that the named branch holds; of DISCONNECT those that the session's branch holds; of others
 -- none
 unfoldable pub keys_about : State → ℕ → Statement → List (List ℕ)
-keys_about state session (Commit xid one_phase) = keys_of (rows_of state xid)
-keys_about state session (Rollback xid) = keys_of (rows_of state xid)
-keys_about state session (Get key) = key ∷ []
-keys_about state session (Put key value) = key ∷ []
-keys_about state session (Del key) = key ∷ []
-keys_about state session Disconnect = keys_open state (association_of state session)
+keys_about state session (Statement.Commit xid one_phase) = keys_of (rows_of state xid)
+keys_about state session (Statement.Rollback xid) = keys_of (rows_of state xid)
+keys_about state session (Statement.Get key) = key ∷ []
+keys_about state session (Statement.Put key value) = key ∷ []
+keys_about state session (Statement.Del key) = key ∷ []
+keys_about state session Statement.Disconnect = keys_open state (association_of state session)
 keys_about state session statement = []

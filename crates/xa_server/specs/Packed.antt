@@ -4,13 +4,9 @@
 --     end_of, Fits         where a row ends;  that it ends within the bytes, and its value isn't too long
 --     seen, FitsText       a row that is looked at;  that its value isn't too long
 use Rattle.std.specs.Prelude.{ℕ, ◌+◌, ◌≤◌, List, take, drop, length, IfSome, map as each}
-use Rattle.std.specs.Option.{option_map, option_map_or}
-use Rattle.std.specs.Coded.{Coded, coded×, coded_option}
+use Rattle.std.specs.{Option.{option_map, option_map_or}, Coded.{Coded, coded×, coded_option}}
 use Rattle.xa_xid.specs.Xid.{Text, coded_text}
-use Rattle.xa_server.specs.declared.packed.Place.{Place}
-use Rattle.xa_server.specs.declared.packed.Row.{Row}
-use Rattle.xa_server.specs.Coding.{coded_key}
-use Rattle.xa_server.specs.State.{Write}
+use Rattle.xa_server.specs.{declared.packed.{Place.Place, Row.Row}, Coding.coded_key, State.Write}
 
 -- a row of a run: its key, and its value, if it wasn't deleted
 abbrev pub PackedRow : Type 0

@@ -7,14 +7,10 @@
 --     all_rewritten          all parts after writes to the rows of each
 --     rows_at, AllAscend     the writes to the rows of one of several parts;  each part's are in order
 use Rattle.std.specs.Prelude.{◌≡◌, true, ◌+◌, ◌*◌, ◌/◌, ◌%◌, ◌^◌, ◌==◌, ℕ, zero, suc, cond, List, [], ◌∷◌, Some, None}
-use Rattle.std.specs.Prelude.{filter, fold}
-use Rattle.std.specs.FinMap as map
-use Rattle.std.specs.FinMap.{is_sorted}
+use Rattle.std.specs.{Prelude.{filter, fold}, FinMap.is_sorted}
 use Rattle.xa_xid.specs.Xid.{Text, bytes_cmp}
-use Rattle.xa_server.specs.State.{Write}
-use Rattle.xa_server.specs.Step.{with_writes}
-use Rattle.xa_server.specs.View.{gather, mapped}
-use Rattle.xa_server.specs.Layers.{Writes, under}
+use Rattle.xa_server.specs.{State.Write, Step.with_writes, View.{gather, mapped}, Layers.{Writes, under}}
+use Rattle.std.specs.FinMap as map
 
 -- the values of rows, by their keys
 abbrev pub Values : Type 0

@@ -3,21 +3,16 @@
 --     table      the table of replies, by statement and state of the session
 --     reply_to   the reply to a session's statement
 use Rattle.std.specs.Prelude.{ℕ, Bool, true, false, not}
-use Rattle.xa_xid.specs.Xid.{same_xid}
-use Rattle.xa_xid.specs.declared.statement.Statement.{Statement}
-use Rattle.xa_xid.specs.declared.statement.Statement.TheVariants.{Start, End, Prepare, Commit, Rollback, Recover}
-use Rattle.xa_xid.specs.declared.statement.Statement.TheVariants.{Unsupported, Get, Put, Del, Disconnect}
-use Rattle.xa_server.specs.declared.reply.Reply.{Reply}
-use Rattle.xa_server.specs.declared.reply.Reply.TheVariants.{Ok as Accepted, Value, Recovered, Refused}
-use Rattle.xa_server.specs.declared.xa_error.XaError.{XaError}
-use Rattle.xa_server.specs.declared.xa_error.XaError.TheVariants.{Nota, Inval, Rmfail, Dupid, RowLocked}
+use Rattle.xa_xid.specs.{Xid.same_xid, declared.statement.Statement.{Statement, TheVariants.{Start, End, Prepare}}}
+use Rattle.xa_xid.specs.declared.statement.Statement.TheVariants.{Commit, Rollback, Recover, Unsupported, Get, Put, Del}
+use Rattle.xa_xid.specs.declared.statement.Statement.TheVariants.{Disconnect}
+use Rattle.xa_server.specs.declared.reply.Reply.{Reply, TheVariants.{Ok as Accepted, Value, Recovered, Refused}}
+use Rattle.xa_server.specs.declared.xa_error.XaError.{XaError, TheVariants.{Nota, Inval, Rmfail, Dupid, RowLocked}}
 use Rattle.xa_server.specs.declared.xa_error.BranchState.TheVariants.{NonExisting, Active as StateActive}
 use Rattle.xa_server.specs.declared.xa_error.BranchState.TheVariants.{Idle as StateIdle, Prepared as StatePrepared}
-use Rattle.xa_server.specs.declared.association.Association.{Association}
-use Rattle.xa_server.specs.declared.association.Association.TheVariants.{Free, Active, Idle}
+use Rattle.xa_server.specs.declared.association.Association.{Association, TheVariants.{Free, Active, Idle}}
 use Rattle.xa_server.specs.State.{State, is_known, is_prepared, association_of, committed_value, value_within}
-use Rattle.xa_server.specs.State.{prepared_xids}
-use Rattle.xa_server.specs.Locks.{is_held_against, is_locked_against}
+use Rattle.xa_server.specs.{State.prepared_xids, Locks.{is_held_against, is_locked_against}}
 
 -- the reply is OK if the test holds, and else a refusal with this error
 abbrev pub ok_if : Bool → XaError → Reply

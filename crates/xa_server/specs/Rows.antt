@@ -15,24 +15,15 @@
 --                            by the row's lock
 --     with_sharer, freed_lock      the lock after the branch shares the row;  after it has ended
 --     is_needed, kept        whether a row needs its record;  the record, if it does
-use Rattle.std.specs.Prelude.{◌≡◌, ℕ, Bool, false, cond, ◌||◌, is_some, Option, Some, None, List}
-use Rattle.std.specs.List.{list_any}
-use Rattle.std.specs.Ordering.{eq_by_cmp}
-use Rattle.std.specs.Option.{option_and_then, option_map_or, unwrap_or}
+use Rattle.std.specs.{Prelude.{◌≡◌, ℕ, Bool, false, cond, ◌||◌, is_some, Option, Some, None, List}, List.list_any}
+use Rattle.std.specs.{Ordering.eq_by_cmp, Option.{option_and_then, option_map_or, unwrap_or}}
+use Rattle.xa_xid.specs.{declared.xid.Xid.Xid, Xid.{Text, bytes_cmp, xid_cmp, same_xid}}
+use Rattle.xa_server.specs.declared.lock.{Change.{Change, TheVariants.{Put, Delete}}, Lock.Lock}
+use Rattle.xa_server.specs.declared.lock.Lock.TheVariants.{Exclusive as HeldBy, Shared as SharedBy}
+use Rattle.xa_server.specs.{declared.association.Association.{Association, TheVariants.Free}, Recorded.RowRecord}
+use Rattle.xa_server.specs.{State.{Write, LockMode, Shared, Exclusive, Branch}, Step.with_own_write, Locks.is_another}
 use Rattle.std.specs.FinMap as map
 use Rattle.std.specs.FinSet as set
-use Rattle.xa_xid.specs.declared.xid.Xid.{Xid}
-use Rattle.xa_xid.specs.Xid.{Text, bytes_cmp, xid_cmp, same_xid}
-use Rattle.xa_server.specs.declared.lock.Change.{Change}
-use Rattle.xa_server.specs.declared.lock.Change.TheVariants.{Put, Delete}
-use Rattle.xa_server.specs.declared.lock.Lock.{Lock}
-use Rattle.xa_server.specs.declared.lock.Lock.TheVariants.{Exclusive as HeldBy, Shared as SharedBy}
-use Rattle.xa_server.specs.Recorded.{RowRecord}
-use Rattle.xa_server.specs.declared.association.Association.{Association}
-use Rattle.xa_server.specs.declared.association.Association.TheVariants.{Free}
-use Rattle.xa_server.specs.State.{Write, LockMode, Shared, Exclusive, Branch}
-use Rattle.xa_server.specs.Step.{with_own_write}
-use Rattle.xa_server.specs.Locks.{is_another}
 
 -- the records of rows, by their keys
 abbrev pub RowMap : Type 0

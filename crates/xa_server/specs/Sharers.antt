@@ -2,8 +2,7 @@
 --     set_of        the set of these branches
 use Rattle.std.specs.FinSet as set
 use Rattle.xa_xid.specs.Xid.{xid_cmp}
-use Rattle.xa_server.specs.declared.sharers.Branches.{Branches}
-use Rattle.xa_server.specs.declared.sharers.Branches.TheVariants.{Nobody, One, Several}
+use Rattle.xa_server.specs.declared.sharers.Branches.{Branches, TheVariants.{Nobody, One, Several}}
 
 -- the branches as a set, by how many there are
 abbrev pub set_of : Branches → set.FinSet xid_cmp

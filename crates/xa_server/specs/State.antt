@@ -16,14 +16,9 @@
 --     write_at             the branch's own newest write of a row
 use Rattle.std.specs.Prelude.{◌≡◌, ℕ, Bool, true, false, ◌==◌, Option, Some, None, List, find, filter}
 use Rattle.std.specs.Option.{option_map_or, option_and_then, option_map, unwrap_or}
+use Rattle.xa_xid.specs.{declared.xid.Xid.Xid, Xid.{Text, bytes_cmp, xid_cmp}}
+use Rattle.xa_server.specs.declared.{branch.Phase.Phase, association.Association.Association}
 use Rattle.std.specs.FinMap as map
-use Rattle.xa_xid.specs.declared.xid.Xid.{Xid}
-use Rattle.xa_xid.specs.Xid.{Text, bytes_cmp, xid_cmp}
-use Rattle.xa_server.specs.declared.branch.Phase.{Phase}
-use Rattle.xa_server.specs.declared.branch.Phase.TheVariants.{Active as PhaseActive, Idle as PhaseIdle}
-use Rattle.xa_server.specs.declared.branch.Phase.TheVariants.{Prepared as PhasePrepared}
-use Rattle.xa_server.specs.declared.association.Association.{Association}
-use Rattle.xa_server.specs.declared.association.Association.TheVariants.{Free, Active, Idle}
 
 -- what commit does to a row: it gets this value, or with None it loses its value
 abbrev pub Write : Type 0
@@ -68,9 +63,9 @@ phase_at state xid = option_map (λ branch. branch.phase) (map.get state.branche
 
 -- whether the phase is PREPARED
 abbrev pub is_prepared_phase : Phase → Bool
-is_prepared_phase PhaseActive = false
-is_prepared_phase PhaseIdle = false
-is_prepared_phase PhasePrepared = true
+is_prepared_phase Phase.Active = false
+is_prepared_phase Phase.Idle = false
+is_prepared_phase Phase.Prepared = true
 
 -- a branch of this identifier is PREPARED
 abbrev pub is_prepared : State → Xid → Bool
@@ -91,16 +86,16 @@ own_xid state session = find (owns state session) (map.keys state.branches)
 -- what a session has open whose branch is in this phase; nothing if it has none (None), or if the branch is PREPARED,
 -- since such a branch has no owner
 abbrev pub association_in : Option Phase → Xid → Association
-association_in None xid = Free
-association_in (Some PhaseActive) xid = Active xid
-association_in (Some PhaseIdle) xid = Idle xid
-association_in (Some PhasePrepared) xid = Free
+association_in None xid = Association.Free
+association_in (Some Phase.Active) xid = Association.Active xid
+association_in (Some Phase.Idle) xid = Association.Idle xid
+association_in (Some Phase.Prepared) xid = Association.Free
 
 -- what the session has open: the branch that it owns, with its phase, or nothing if it is free (manual, 'XA Transaction
 -- States')
 unfoldable pub association_of : State → ℕ → Association
 association_of state session =
-    option_map_or (λ xid. association_in (phase_at state xid) xid) (own_xid state session) Free
+    option_map_or (λ xid. association_in (phase_at state xid) xid) (own_xid state session) Association.Free
 
 -- the value that all sessions see
 abbrev pub committed_value : State → List ℕ → Option Text
@@ -121,6 +116,6 @@ prepared_xids state = filter (is_prepared state) (map.keys state.branches)
 
 -- the branch that an association names is in the phase that it names; of `Free`, which names none, nothing is asked
 abbrev pub IsOpen : State → Association → Type 0
-IsOpen state Free = Unit {0}
-IsOpen state (Active own) = phase_at state own ≡ Some PhaseActive
-IsOpen state (Idle own) = phase_at state own ≡ Some PhaseIdle
+IsOpen state Association.Free = Unit {0}
+IsOpen state (Association.Active own) = phase_at state own ≡ Some Phase.Active
+IsOpen state (Association.Idle own) = phase_at state own ≡ Some Phase.Idle

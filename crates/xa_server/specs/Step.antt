@@ -13,25 +13,15 @@
 --     makes_record    carrying the statement out may make a record or add to one, if it is accepted
 use Rattle.std.specs.Prelude.{◌≡◌, ℕ, Bool, true, false, cond, not, ◌&&◌, ◌||◌, Some, None, List, [], ◌∷◌}
 use Rattle.std.specs.Option.{option_map_or}
+use Rattle.xa_xid.specs.{declared.{xid.Xid.Xid, statement.Statement.Statement}, Xid.{Text, bytes_cmp}}
+use Rattle.xa_server.specs.declared.{branch.Phase.Phase, reply.Reply.Reply, association.Association.Association}
+use Rattle.xa_server.specs.{declared.association.Association.TheVariants.{Free, Active, Idle}, Replies.reply_to}
+use Rattle.xa_server.specs.{State.{Write, Shared, Exclusive, RowLocks, Branch, State, association_of}, Locks.holds}
 use Rattle.std.specs.FinMap as map
-use Rattle.xa_xid.specs.declared.xid.Xid.{Xid}
-use Rattle.xa_xid.specs.Xid.{Text, bytes_cmp}
-use Rattle.xa_xid.specs.declared.statement.Statement.{Statement}
-use Rattle.xa_xid.specs.declared.statement.Statement.TheVariants.{Start, End, Prepare, Commit, Rollback, Recover}
-use Rattle.xa_xid.specs.declared.statement.Statement.TheVariants.{Unsupported, Get, Put, Del, Disconnect}
-use Rattle.xa_server.specs.declared.branch.Phase.TheVariants.{Active as PhaseActive, Idle as PhaseIdle}
-use Rattle.xa_server.specs.declared.branch.Phase.TheVariants.{Prepared as PhasePrepared}
-use Rattle.xa_server.specs.declared.reply.Reply.{Reply}
-use Rattle.xa_server.specs.declared.reply.Reply.TheVariants.{Ok as Accepted, Value, Recovered, Refused}
-use Rattle.xa_server.specs.declared.association.Association.{Association}
-use Rattle.xa_server.specs.declared.association.Association.TheVariants.{Free, Active, Idle}
-use Rattle.xa_server.specs.State.{Write, Shared, Exclusive, RowLocks, Branch, State, association_of}
-use Rattle.xa_server.specs.Locks.{holds}
-use Rattle.xa_server.specs.Replies.{reply_to}
 
 -- a branch that the session has just started
 abbrev pub started_by : ℕ → Branch
-started_by session = record { phase = PhaseActive; owner = Some session; writes = map.empty; locks = map.empty }
+started_by session = record { phase = Phase.Active; owner = Some session; writes = map.empty; locks = map.empty }
 
 -- the state with this branch at the identifier
 abbrev pub with_branch : State → Xid → Branch → State
@@ -86,29 +76,30 @@ row_written state (Idle own) key write = state
 -- what an accepted statement does, one line for each statement (the phases are the manual's and C193's; rows and
 -- DISCONNECT are our own)
 unfoldable pub effect : State → ℕ → Association → Statement → State
-effect state session association (Start xid) = with_branch state xid (started_by session)
-effect state session association (End xid) = with_changed state xid (λ branch. record branch { phase = PhaseIdle })
-effect state session association (Prepare xid) =
-    with_changed state xid (λ branch. record branch { phase = PhasePrepared; owner = None })
-effect state session association (Commit xid one_phase) = committed state xid
-effect state session association (Rollback xid) = without_branch state xid
-effect state session association (Recover convert) = state
-effect state session association Unsupported = state
-effect state session Free (Get key) = state
-effect state session (Active own) (Get key) = with_changed state own (with_lock key)
-effect state session (Idle own) (Get key) = state
-effect state session association (Put key value) = row_written state association key (Some value)
-effect state session association (Del key) = row_written state association key None
-effect state session Free Disconnect = state
-effect state session (Active own) Disconnect = without_branch state own
-effect state session (Idle own) Disconnect = without_branch state own
+effect state session association (Statement.Start xid) = with_branch state xid (started_by session)
+effect state session association (Statement.End xid) = with_changed state xid
+    (λ branch. record branch { phase = Phase.Idle })
+effect state session association (Statement.Prepare xid) =
+    with_changed state xid (λ branch. record branch { phase = Phase.Prepared; owner = None })
+effect state session association (Statement.Commit xid one_phase) = committed state xid
+effect state session association (Statement.Rollback xid) = without_branch state xid
+effect state session association (Statement.Recover convert) = state
+effect state session association Statement.Unsupported = state
+effect state session Free (Statement.Get key) = state
+effect state session (Active own) (Statement.Get key) = with_changed state own (with_lock key)
+effect state session (Idle own) (Statement.Get key) = state
+effect state session association (Statement.Put key value) = row_written state association key (Some value)
+effect state session association (Statement.Del key) = row_written state association key None
+effect state session Free Statement.Disconnect = state
+effect state session (Active own) Statement.Disconnect = without_branch state own
+effect state session (Idle own) Statement.Disconnect = without_branch state own
 
 -- a refused statement leaves the state as it was
 abbrev pub unless_refused : Reply → State → State → State
-unless_refused Accepted old new = new
-unless_refused (Value value) old new = new
-unless_refused (Recovered xids) old new = new
-unless_refused (Refused error) old new = old
+unless_refused Reply.Ok old new = new
+unless_refused (Reply.Value value) old new = new
+unless_refused (Reply.Recovered xids) old new = new
+unless_refused (Reply.Refused error) old new = old
 
 -- the state after a session's statement
 unfoldable pub after : State → ℕ → Statement → State
@@ -121,34 +112,34 @@ Step old session statement reply new = (reply ≡ reply_to old session statement
 
 -- whether the reply is a refusal
 abbrev pub is_refused : Reply → Bool
-is_refused Accepted = false
-is_refused (Value value) = false
-is_refused (Recovered xids) = false
-is_refused (Refused error) = true
+is_refused Reply.Ok = false
+is_refused (Reply.Value value) = false
+is_refused (Reply.Recovered xids) = false
+is_refused (Reply.Refused error) = true
 
 -- the reply is a list of identifiers, the only reply that takes memory
 abbrev pub is_list : Reply → Bool
-is_list (Recovered xids) = true
+is_list (Reply.Recovered xids) = true
 is_list reply = false
 
 -- whether the statement, if it is accepted, is logged (own rule): XA RECOVER and unsupported ones never are; GET is
 -- only in an ACTIVE branch that doesn't hold the row yet, DISCONNECT only if it ends a branch; all others are
 unfoldable pub may_enter : State → Association → Statement → Bool
-may_enter state association (Start xid) = true
-may_enter state association (End xid) = true
-may_enter state association (Prepare xid) = true
-may_enter state association (Commit xid one_phase) = true
-may_enter state association (Rollback xid) = true
-may_enter state association (Recover convert) = false
-may_enter state association Unsupported = false
-may_enter state Free (Get key) = false
-may_enter state (Active own) (Get key) = not (holds state own key)
-may_enter state (Idle own) (Get key) = false
-may_enter state association (Put key value) = true
-may_enter state association (Del key) = true
-may_enter state Free Disconnect = false
-may_enter state (Active own) Disconnect = true
-may_enter state (Idle own) Disconnect = true
+may_enter state association (Statement.Start xid) = true
+may_enter state association (Statement.End xid) = true
+may_enter state association (Statement.Prepare xid) = true
+may_enter state association (Statement.Commit xid one_phase) = true
+may_enter state association (Statement.Rollback xid) = true
+may_enter state association (Statement.Recover convert) = false
+may_enter state association Statement.Unsupported = false
+may_enter state Free (Statement.Get key) = false
+may_enter state (Active own) (Statement.Get key) = not (holds state own key)
+may_enter state (Idle own) (Statement.Get key) = false
+may_enter state association (Statement.Put key value) = true
+may_enter state association (Statement.Del key) = true
+may_enter state Free Statement.Disconnect = false
+may_enter state (Active own) Statement.Disconnect = true
+may_enter state (Idle own) Statement.Disconnect = true
 
 -- whether the statement is logged: it isn't refused, and is one of those that are logged if they are accepted
 unfoldable pub enters : State → ℕ → Statement → Bool
@@ -163,15 +154,15 @@ after_all state (entry ∷ entries) = after_all (after state entry.0 entry.1) en
 
 -- the statement is an XA RECOVER, whose reply is a list
 abbrev pub is_recover : Statement → Bool
-is_recover (Recover convert) = true
+is_recover (Statement.Recover convert) = true
 is_recover statement = false
 
 -- carrying the statement out may make a record, of a branch or of a row, or add to one, if the statement is accepted
 abbrev pub makes_record : Statement → Bool
-makes_record (Start xid) = true
-makes_record (Get key) = true
-makes_record (Put key value) = true
-makes_record (Del key) = true
+makes_record (Statement.Start xid) = true
+makes_record (Statement.Get key) = true
+makes_record (Statement.Put key value) = true
+makes_record (Statement.Del key) = true
 makes_record statement = false
 
 -- carrying the statement out may take memory: XA RECOVER, and of what is logged XA START and the row statements (own

@@ -13,16 +13,11 @@
 --     IsIndexed              the index has exactly the branches that have owners, each at its owner's place and in its
 --                            phase
 use Rattle.std.specs.Prelude.{◌≡◌, ℕ, ◌-◌, Bool, false, cond, [], ◌∷◌, filter, Option, Some, None, List, slice_index_or}
-use Rattle.std.specs.Prelude.{take, length}
-use Rattle.std.specs.Option.{option_and_then, option_map, option_map_or}
+use Rattle.std.specs.{Prelude.{take, length}, Option.{option_and_then, option_map, option_map_or}}
+use Rattle.xa_xid.specs.{declared.xid.Xid.Xid, Xid.xid_cmp}
+use Rattle.xa_server.specs.declared.branch.{BranchRecord.BranchRecord, Phase.Phase}
+use Rattle.xa_server.specs.{declared.association.Association.Association, State.{is_prepared_phase, association_in}}
 use Rattle.std.specs.FinMap as map
-use Rattle.xa_xid.specs.declared.xid.Xid.{Xid}
-use Rattle.xa_xid.specs.Xid.{xid_cmp}
-use Rattle.xa_server.specs.declared.branch.BranchRecord.{BranchRecord}
-use Rattle.xa_server.specs.declared.branch.Phase.{Phase}
-use Rattle.xa_server.specs.declared.association.Association.{Association}
-use Rattle.xa_server.specs.declared.association.Association.TheVariants.{Free, Active, Idle}
-use Rattle.xa_server.specs.State.{is_prepared_phase, association_in}
 
 -- the records of branches, by their identifiers
 abbrev pub BranchMap : Type 0
@@ -38,24 +33,24 @@ phase_in branches xid = option_map (λ branch. branch.phase) (map.get branches x
 
 -- what the session at this place of the index has open; past its end nothing
 abbrev pub opened_at : List Association → ℕ → Association
-opened_at opened session = slice_index_or opened session Free
+opened_at opened session = slice_index_or opened session Association.Free
 
 -- the branch that an association names; `Free` names none
 abbrev pub named_in : Association → Option Xid
-named_in Free = None
-named_in (Active own) = Some own
-named_in (Idle own) = Some own
+named_in Association.Free = None
+named_in (Association.Active own) = Some own
+named_in (Association.Idle own) = Some own
 
 -- what a session has open after XA END, by what it had open before
 abbrev pub idle_of : Association → Association
-idle_of Free = Free
-idle_of (Active own) = Idle own
-idle_of (Idle own) = Idle own
+idle_of Association.Free = Association.Free
+idle_of (Association.Active own) = Association.Idle own
+idle_of (Association.Idle own) = Association.Idle own
 
 -- the index has exactly the branches that have owners, each at its owner's place and in its phase
 pub record IsIndexed (opened : List Association) (nothing : Association) (branches : BranchMap) : Type 0 where
   -- what is lent for a session past the end of the index: nothing open
-  pub free : nothing ≡ Free
+  pub free : nothing ≡ Association.Free
   -- a session owns the branch that is at its place
   pub found : (session : ℕ) (xid : Xid) → named_in (opened_at opened session) ≡ Some xid
       → owner_of branches xid ≡ Some session

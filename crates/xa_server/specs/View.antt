@@ -7,16 +7,11 @@
 --     is_holder            a row's record says that the branch holds the row
 --     IsWhole              what holds of the records of branches and rows together
 use Rattle.std.specs.Prelude.{◌≡◌, ℕ, Bool, cond, Option, Some, List, [], ◌∷◌, filter, length, is_none, is_some}
-use Rattle.std.specs.Option.{option_map_or, option_and_then}
-use Rattle.std.specs.declared.cmp.Ordering.{Ordering}
-use Rattle.std.specs.Ordering.{eq_by_cmp}
+use Rattle.std.specs.{Option.{option_map_or, option_and_then}, declared.cmp.Ordering.Ordering, Ordering.eq_by_cmp}
+use Rattle.xa_xid.specs.{declared.xid.Xid.Xid, Xid.bytes_cmp}
+use Rattle.xa_server.specs.{declared.branch.BranchRecord.BranchRecord, State.{Branch, State, is_prepared_phase}}
+use Rattle.xa_server.specs.{Tables.{BranchMap, owner_of}, Rows.{RowMap, write_by, lock_by}}
 use Rattle.std.specs.FinMap as map
-use Rattle.xa_xid.specs.declared.xid.Xid.{Xid}
-use Rattle.xa_xid.specs.Xid.{bytes_cmp}
-use Rattle.xa_server.specs.declared.branch.BranchRecord.{BranchRecord}
-use Rattle.xa_server.specs.State.{Branch, State, is_prepared_phase}
-use Rattle.xa_server.specs.Tables.{BranchMap, owner_of}
-use Rattle.xa_server.specs.Rows.{RowMap, write_by, lock_by}
 
 -- the entries with each value changed, by its key and value
 abbrev pub map_values : {K V W : Type 0} → (K → V → W) → List (K × V) → List (K × W)

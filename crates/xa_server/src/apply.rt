@@ -1,9 +1,7 @@
 //! The effect of an accepted statement.
 ghost use Rattle.std.specs.Prelude.{◌≡◌, ℕ, true, false, IfOk, OnOk, OnErr};
-ghost use Rattle.xa_server.specs.Replies.{table, reply_to};
-ghost use Rattle.xa_server.specs.State.{association_of};
-ghost use Rattle.xa_server.specs.Step.{Step, after, effect, is_refused, makes_record, may_enter, may_take_memory};
-ghost use Rattle.xa_server.specs.Step.{row_written};
+ghost use Rattle.xa_server.specs.{Replies.{table, reply_to}, State.association_of, Step.{Step, after, effect}};
+ghost use Rattle.xa_server.specs.Step.{is_refused, makes_record, may_enter, may_take_memory, row_written};
 ghost use Rattle.xa_xid.specs.declared.statement.Statement.TheVariants.{Get, Put, Del, Disconnect};
 
 use crate::association::Association;

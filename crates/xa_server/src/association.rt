@@ -1,6 +1,5 @@
 //! The branch that a session has open.
-ghost use Rattle.std.specs.Prelude.{◌≡◌};
-ghost use Rattle.std.specs.Ordering.{eq_by_cmp};
+ghost use Rattle.std.specs.{Prelude.◌≡◌, Ordering.eq_by_cmp};
 ghost use Rattle.xa_xid.specs.Xid.{bytes_cmp, same_xid};
 
 use crate::shared_xid::SharedXid;
@@ -49,8 +48,7 @@ pub fn is_same(left: &Xid, right: &Xid) -> bool
 }
 
 impl Association {
-    ghost use Rattle.xa_server.specs.Locks.{is_another as is_another_of};
-    ghost use Rattle.xa_server.specs.Tables.{idle_of};
+    ghost use Rattle.xa_server.specs.{Locks.is_another as is_another_of, Tables.idle_of};
 
     /// Returns the association after the branch's work has ended: IDLE if it was ACTIVE, else as it was.
     pub fn ended(self) -> Association

@@ -1,6 +1,5 @@
 //! The record of a transaction branch.
-ghost use Rattle.std.specs.Prelude.{◌≡◌, true, false};
-ghost use Rattle.std.specs.Option.{option_map_or};
+ghost use Rattle.std.specs.{Prelude.{◌≡◌, true, false}, Option.option_map_or};
 ghost use Rattle.xa_server.specs.State.{is_prepared_phase};
 
 use crate::keys::Keys;

@@ -1,11 +1,9 @@
 //! The records of all branches, found by identifier and by session.
-ghost use Rattle.std.specs.Prelude.{◌≡◌, true, ◌≢◌, ℕ, [], ◌∷◌, ◌++◌, OnOk, OnErr, IfOk, MatchOption, ◌<◌, length};
-ghost use Rattle.std.specs.Prelude.{slice_set};
-ghost use Rattle.std.specs.Option.{option_map, option_and_then};
 ghost use Rattle.std.specs.BTreeMap as tree;
 ghost use Rattle.std.specs.FinMap as map;
-ghost use Rattle.xa_xid.specs.declared.xid.Xid.{Xid as XidSeen};
-ghost use Rattle.xa_xid.specs.Xid.{xid_cmp};
+ghost use Rattle.std.specs.Prelude.{◌≡◌, true, ◌≢◌, ℕ, [], ◌∷◌, ◌++◌, OnOk, OnErr, IfOk, MatchOption, ◌<◌, length};
+ghost use Rattle.std.specs.{Prelude.slice_set, Option.{option_map, option_and_then}};
+ghost use Rattle.xa_xid.specs.{declared.xid.Xid.Xid as XidSeen, Xid.xid_cmp};
 ghost use Rattle.xa_server.specs.State.{association_in};
 ghost use Rattle.xa_server.specs.Tables.{opened_at as opened_in, idle_of, prepared_keys, without_last};
 
@@ -36,8 +34,7 @@ pub struct BranchTable {
 impl Model for BranchTable {
     ghost use Rattle.std.specs.FinMap as map;
     ghost use Rattle.xa_xid.specs.Xid.{xid_cmp};
-    ghost use Rattle.xa_server.specs.Coding.{coded_branches};
-    ghost use Rattle.xa_server.specs.Tables.{BranchMap, IsIndexed};
+    ghost use Rattle.xa_server.specs.{Coding.coded_branches, Tables.{BranchMap, IsIndexed}};
 
     ghost Value = { BranchMap };
 

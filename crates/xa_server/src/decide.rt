@@ -1,11 +1,9 @@
 //! The table of replies: the reply to each statement.
 ghost use Rattle.std.specs.Prelude.{◌≡◌, true, Ok, IfOk, OnErr};
-ghost use Rattle.xa_server.specs.Locks.{LockLaw};
-ghost use Rattle.xa_server.specs.Replies.{table, reply_to, ok_if as ok_reply_if};
+ghost use Rattle.xa_server.specs.{Locks.LockLaw, Replies.{table, reply_to, ok_if as ok_reply_if}};
 ghost use Rattle.xa_server.specs.Step.{may_enter as may_enter_in, enters, is_recover};
 ghost use Rattle.xa_xid.specs.declared.statement.Statement.TheVariants.{Start, End, Prepare, Commit, Rollback, Get};
-ghost use Rattle.xa_xid.specs.declared.statement.Statement.TheVariants.{Put, Del};
-ghost use Rattle.xa_xid.specs.Xid.{Text};
+ghost use Rattle.xa_xid.specs.{declared.statement.Statement.TheVariants.{Put, Del}, Xid.Text};
 
 use crate::association::{Association, is_same};
 use crate::{BranchState, Reply, Server, XaError};

@@ -1,6 +1,6 @@
 //! The ways in which a branch holds a row.
-ghost use Rattle.std.specs.Prelude.{◌≡◌, ◌≢◌, [], IfOk, OnErr};
 ghost use Rattle.std.specs.BTreeMap as tree;
+ghost use Rattle.std.specs.Prelude.{◌≡◌, ◌≢◌, [], IfOk, OnErr};
 ghost use Rattle.xa_xid.specs.Xid.{bytes_cmp};
 ghost use Rattle.xa_server.specs.Held.{hold_in as hold_in_lock, held_recently};
 

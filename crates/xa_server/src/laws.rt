@@ -1,15 +1,9 @@
 //! Laws of every state and every history, each as the contract of a function that does nothing.
-ghost use Rattle.std.specs.Prelude.{◌≡◌, ◌≢◌, ◌↔◌, ℕ, ◌<◌, true, false, List, IsTrue};
-ghost use Rattle.std.specs.List.{list_any};
+ghost use Rattle.std.specs.{Prelude.{◌≡◌, ◌≢◌, ◌↔◌, ℕ, ◌<◌, true, false, List, IsTrue}, List.list_any};
 ghost use Rattle.std.specs.List.Sorted.{IsStrictlySortedBy};
-ghost use Rattle.xa_xid.specs.declared.xid.Xid.{Xid};
-ghost use Rattle.xa_xid.specs.declared.statement.Statement.{Statement};
-ghost use Rattle.xa_xid.specs.Xid.{same_xid, xid_cmp};
-ghost use Rattle.xa_server.specs.State.{State, no_state, is_prepared, prepared_xids};
-ghost use Rattle.xa_server.specs.Locks.{LockLaw};
-ghost use Rattle.xa_server.specs.Replies.{reply_to};
-ghost use Rattle.xa_server.specs.Step.{after, after_all, enters, is_refused};
-ghost use Rattle.xa_server.specs.Finish.{FinishesAt};
+ghost use Rattle.xa_xid.specs.{declared.{xid.Xid.Xid, statement.Statement.Statement}, Xid.{same_xid, xid_cmp}};
+ghost use Rattle.xa_server.specs.{State.{State, no_state, is_prepared, prepared_xids}, Locks.LockLaw, Replies.reply_to};
+ghost use Rattle.xa_server.specs.{Step.{after, after_all, enters, is_refused}, Finish.FinishesAt};
 ghost use Rattle.xa_server.specs.Laws.{IsPreparedBetween, LeavesSession};
 
 use crate::{BranchState, XaError};

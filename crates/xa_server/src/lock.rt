@@ -1,7 +1,6 @@
 //! The branches that hold a row.
-ghost use Rattle.std.specs.Prelude.{◌≡◌, true, is_some, IfOk, OnOk, OnErr};
 ghost use Rattle.std.specs.FinSet as set;
-ghost use Rattle.std.specs.Option.{option_map};
+ghost use Rattle.std.specs.{Prelude.{◌≡◌, true, is_some, IfOk, OnOk, OnErr}, Option.option_map};
 ghost use Rattle.xa_server.specs.Rows.{write_of, write_in, mode_in, held_beside, locked_beside, with_sharer};
 ghost use Rattle.xa_server.specs.Rows.{freed_lock};
 

@@ -1,9 +1,8 @@
 //! What a server holds, for a person to read: its branches, the rows that they hold, and values.
-ghost use Rattle.std.specs.Prelude.{◌≡◌, ◌≢◌, [], ◌∷◌, IfOk, OnErr, map};
 ghost use Rattle.std.specs.BTreeMap as tree;
+ghost use Rattle.std.specs.Prelude.{◌≡◌, ◌≢◌, [], ◌∷◌, IfOk, OnErr, map};
 ghost use Rattle.xa_xid.specs.Xid.{xid_cmp};
-ghost use Rattle.xa_server.specs.Held.{recorded_entry};
-ghost use Rattle.xa_server.specs.Overview.{keys_of as keys_of_rows};
+ghost use Rattle.xa_server.specs.{Held.recorded_entry, Overview.keys_of as keys_of_rows};
 
 use crate::association::Association;
 use crate::branch::{BranchRecord, Phase};

@@ -1,7 +1,6 @@
 //! Rows packed: their keys and values one after another.
 ghost use Rattle.std.specs.Prelude.{◌≡◌, ◌≤◌, ◌+◌, ℕ, true, List, [], ◌∷◌, ◌++◌, IfOk, OnOk, take, drop, length};
-ghost use Rattle.std.specs.Prelude.{IfSome, MatchOption, ◌==◌};
-ghost use Rattle.std.specs.Option.{option_map, option_map_or};
+ghost use Rattle.std.specs.{Prelude.{IfSome, MatchOption, ◌==◌}, Option.{option_map, option_map_or}};
 ghost use Rattle.xa_server.specs.Packed.{part_of, text_of, row_of, value_length, Fits, seen, FitsText};
 
 use std::alloc::{AllocError, Global};
@@ -34,9 +33,7 @@ pub struct Packed {
 }
 
 impl Model for Packed {
-    ghost use Rattle.std.specs.Prelude.{List};
-    ghost use Rattle.std.specs.List.{All};
-    ghost use Rattle.std.specs.Coded.{coded_list};
+    ghost use Rattle.std.specs.{Prelude.List, List.All, Coded.coded_list};
     ghost use Rattle.xa_server.specs.Packed.{PackedRow, coded_row, rows_of, Fits};
 
     ghost Value = { List PackedRow };
@@ -58,9 +55,7 @@ pub struct Rows<'a> {
 }
 
 impl<'a> Model for Rows<'a> {
-    ghost use Rattle.std.specs.Prelude.{List};
-    ghost use Rattle.std.specs.List.{All};
-    ghost use Rattle.std.specs.Coded.{coded_list};
+    ghost use Rattle.std.specs.{Prelude.List, List.All, Coded.coded_list};
     ghost use Rattle.xa_server.specs.Packed.{PackedRow, coded_row, rows_of, Fits};
 
     ghost Value = { List PackedRow };

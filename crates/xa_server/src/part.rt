@@ -1,7 +1,6 @@
 //! The runs of one part of the rows.
-ghost use Rattle.std.specs.Prelude.{◌≡◌, ℕ, true, List, ◌∷◌, IfOk};
-ghost use Rattle.std.specs.Option.{unwrap_or};
 ghost use Rattle.std.specs.FinMap as map;
+ghost use Rattle.std.specs.{Prelude.{◌≡◌, ℕ, true, List, ◌∷◌, IfOk}, Option.unwrap_or};
 
 use crate::run::Run;
 use std::alloc::Global;
@@ -21,8 +20,7 @@ pub struct Part {
 impl Model for Part {
     ghost use Rattle.std.specs.FinMap as map;
     ghost use Rattle.xa_xid.specs.Xid.{Text, bytes_cmp, coded_text};
-    ghost use Rattle.xa_server.specs.Coding.{coded_key};
-    ghost use Rattle.xa_server.specs.Layers.{under};
+    ghost use Rattle.xa_server.specs.{Coding.coded_key, Layers.under};
 
     ghost Value = { map.FinMap bytes_cmp Text };
 

@@ -60,10 +60,8 @@ pub struct XidList {
 }
 
 impl Model for XidList {
-    ghost use Rattle.std.specs.Prelude.{List};
-    ghost use Rattle.std.specs.Coded.{coded_list};
-    ghost use Rattle.xa_xid.specs.declared.xid.Xid.{Xid};
-    ghost use Rattle.xa_xid.specs.Xid.{coded_xid};
+    ghost use Rattle.std.specs.{Prelude.List, Coded.coded_list};
+    ghost use Rattle.xa_xid.specs.{declared.xid.Xid.Xid, Xid.coded_xid};
 
     ghost Value = { List Xid };
 

@@ -1,9 +1,8 @@
 //! The records of the rows that were touched lately.
-ghost use Rattle.std.specs.Prelude.{◌≡◌, true, is_some, IfOk};
-ghost use Rattle.std.specs.Option.{option_copied};
-ghost use Rattle.xa_server.specs.Rows.{held_beside, locked_beside, mode_in, write_in};
-ghost use Rattle.xa_server.specs.Layers.{recent_lock, change_of, change_at, value_of, hides_below, freed_recent};
-ghost use Rattle.xa_server.specs.Layers.{is_needed_over, held_as_below};
+ghost use Rattle.std.specs.{Prelude.{◌≡◌, true, is_some, IfOk}, Option.option_copied};
+ghost use Rattle.xa_server.specs.{Rows.{held_beside, locked_beside, mode_in, write_in}, Layers.recent_lock};
+ghost use Rattle.xa_server.specs.Layers.{change_of, change_at, value_of, hides_below, freed_recent, is_needed_over};
+ghost use Rattle.xa_server.specs.Layers.{held_as_below};
 
 use crate::association::{Association, is_same};
 use crate::lock::{Change, Lock, is_same_text};

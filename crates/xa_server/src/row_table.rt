@@ -1,15 +1,12 @@
 //! All rows: the records of those that were touched lately, and runs of the others.
-ghost use Rattle.std.specs.Prelude.{◌≡◌, ◌≢◌, true, false, is_some, Some, None, [], ◌∷◌, ◌++◌, List, ℕ, IfOk, OnOk};
-ghost use Rattle.std.specs.Prelude.{OnErr};
-ghost use Rattle.std.specs.Prelude.{MatchOption, IfSome, IsTrue};
-ghost use Rattle.std.specs.Option.{option_copied, option_and_then};
 ghost use Rattle.std.specs.BTreeMap as tree;
 ghost use Rattle.std.specs.FinMap as map;
 ghost use Rattle.std.specs.FinSet as set;
+ghost use Rattle.std.specs.Prelude.{◌≡◌, ◌≢◌, true, false, is_some, Some, None, [], ◌∷◌, ◌++◌, List, ℕ, IfOk, OnOk};
+ghost use Rattle.std.specs.{Prelude.{OnErr, MatchOption, IfSome, IsTrue}, Option.{option_copied, option_and_then}};
 ghost use Rattle.xa_xid.specs.Xid.{bytes_cmp};
-ghost use Rattle.xa_server.specs.Held.{held_among};
-ghost use Rattle.xa_server.specs.Rows.{held_row, shared_row, with_sharer, Frees, committed_of, value_seen, lock_by};
-ghost use Rattle.xa_server.specs.Rows.{held_against, locked_against};
+ghost use Rattle.xa_server.specs.{Held.held_among, Rows.{held_row, shared_row, with_sharer, Frees, committed_of}};
+ghost use Rattle.xa_server.specs.Rows.{value_seen, lock_by, held_against, locked_against};
 ghost use Rattle.xa_server.specs.Layers.{freed_recent, is_needed_over, change_of, held_as_below, put_at, gathered};
 
 use crate::association::Association;
@@ -46,9 +43,7 @@ pub struct RowTable {
 impl Model for RowTable {
     ghost use Rattle.std.specs.FinMap as map;
     ghost use Rattle.xa_xid.specs.Xid.{bytes_cmp};
-    ghost use Rattle.xa_server.specs.Coding.{coded_rows};
-    ghost use Rattle.xa_server.specs.Rows.{RowMap};
-    ghost use Rattle.xa_server.specs.Layers.{layered};
+    ghost use Rattle.xa_server.specs.{Coding.coded_rows, Rows.RowMap, Layers.layered};
 
     ghost Value = { RowMap };
 

@@ -1,10 +1,8 @@
 //! Rows that never change, in the order of their keys.
-ghost use Rattle.std.specs.Prelude.{◌≡◌, ℕ, true, List, ◌++◌, IfOk, OnOk, take, drop};
 ghost use Rattle.std.specs.FinMap as map;
-ghost use Rattle.std.specs.FinMap.{is_sorted};
+ghost use Rattle.std.specs.{Prelude.{◌≡◌, ℕ, true, List, ◌++◌, IfOk, OnOk, take, drop}, FinMap.is_sorted};
 ghost use Rattle.xa_xid.specs.Xid.{bytes_cmp};
-ghost use Rattle.xa_server.specs.Layers.{merged_at, kept_write, gathered};
-ghost use Rattle.xa_server.specs.Merging.{merged, least_of};
+ghost use Rattle.xa_server.specs.{Layers.{merged_at, kept_write, gathered}, Merging.{merged, least_of}};
 
 use crate::packed::{Packed, Row, Rows, copy_of_value};
 use crate::shared_text::SharedText;
@@ -24,13 +22,10 @@ pub struct Run {
 }
 
 impl Model for Run {
-    ghost use Rattle.std.specs.Prelude.{◌≡◌, true};
-    ghost use Rattle.std.specs.Coded.{coded_option};
     ghost use Rattle.std.specs.FinMap as map;
-    ghost use Rattle.std.specs.FinMap.{is_sorted};
+    ghost use Rattle.std.specs.{Prelude.{◌≡◌, true}, Coded.coded_option, FinMap.is_sorted};
     ghost use Rattle.xa_xid.specs.Xid.{bytes_cmp, coded_text};
-    ghost use Rattle.xa_server.specs.Coding.{coded_key};
-    ghost use Rattle.xa_server.specs.State.{Write};
+    ghost use Rattle.xa_server.specs.{Coding.coded_key, State.Write};
 
     ghost Value = { map.FinMap bytes_cmp Write };
 

@@ -1,12 +1,10 @@
 //! The values below the recent rows, in parts.
-ghost use Rattle.std.specs.Prelude.{◌≡◌, ◌<◌, ℕ, true, [], List, replicate, fold, IfOk, map as each};
-ghost use Rattle.std.specs.Option.{unwrap_or};
 ghost use Rattle.std.specs.FinMap as map;
-ghost use Rattle.std.specs.FinMap.{is_sorted};
+ghost use Rattle.std.specs.Prelude.{◌≡◌, ◌<◌, ℕ, true, [], List, replicate, fold, IfOk, map as each};
+ghost use Rattle.std.specs.{Option.unwrap_or, FinMap.is_sorted};
 ghost use Rattle.xa_xid.specs.Xid.{bytes_cmp};
-ghost use Rattle.xa_server.specs.Step.{with_writes};
-ghost use Rattle.xa_server.specs.Parts.{with_byte, part_of, sorted_out, parted, first_part, other_parts};
-ghost use Rattle.xa_server.specs.Parts.{all_rewritten, AllAscend};
+ghost use Rattle.xa_server.specs.{Step.with_writes, Parts.{with_byte, part_of, sorted_out, parted, first_part}};
+ghost use Rattle.xa_server.specs.Parts.{other_parts, all_rewritten, AllAscend};
 
 use crate::part::Part;
 use crate::run::Run;
@@ -36,10 +34,8 @@ pub struct Runs {
 impl Model for Runs {
     ghost use Rattle.std.specs.FinMap as map;
     ghost use Rattle.xa_xid.specs.Xid.{Text, bytes_cmp, coded_text};
-    ghost use Rattle.xa_server.specs.Coding.{coded_key};
-    ghost use Rattle.std.specs.Prelude.{[]};
-    ghost use Rattle.std.specs.Option.{option_map_or};
-    ghost use Rattle.xa_server.specs.Parts.{parted};
+    ghost use Rattle.xa_server.specs.{Coding.coded_key, Parts.parted};
+    ghost use Rattle.std.specs.{Prelude.[], Option.option_map_or};
 
     ghost Value = { map.FinMap bytes_cmp Text };
 

@@ -1,6 +1,6 @@
 //! The server: its records, and the state that they stand for.
-ghost use Rattle.std.specs.Prelude.{◌≡◌, ◌≢◌, ◌≤◌, [], true, false, cond, is_some, Some, None, OnOk, OnErr, IfOk};
 ghost use Rattle.std.specs.FinMap as map;
+ghost use Rattle.std.specs.Prelude.{◌≡◌, ◌≢◌, ◌≤◌, [], true, false, cond, is_some, Some, None, OnOk, OnErr, IfOk};
 ghost use Rattle.xa_server.specs.Tables.{with_record, without_last};
 
 use crate::association::Association;
@@ -30,9 +30,7 @@ pub struct Server {
 }
 
 impl Model for Server {
-    ghost use Rattle.xa_server.specs.State.{State};
-    ghost use Rattle.xa_server.specs.Coding.{coded_state};
-    ghost use Rattle.xa_server.specs.View.{state_of, IsWhole};
+    ghost use Rattle.xa_server.specs.{State.State, Coding.coded_state, View.{state_of, IsWhole}};
 
     ghost Value = { State };
 
@@ -61,16 +59,13 @@ fn unlist_refused(branches: &mut BranchTable, own: &Xid, held: &Result<(), NoMem
 
 impl Server {
     ghost use Rattle.xa_server.specs.State.{no_state, is_known, is_prepared, association_of};
-    ghost use Rattle.xa_server.specs.State.{prepared_xids as prepared_xids_of};
-    ghost use Rattle.xa_server.specs.State.{committed_value as committed_value_of, value_within as value_within_of};
-    ghost use Rattle.xa_server.specs.Locks.{LockLaw, holds as holds_of, is_held_against as is_held_against_of};
-    ghost use Rattle.xa_server.specs.Locks.{is_locked_against as is_locked_against_of};
-    ghost use Rattle.xa_server.specs.Step.{started_by, with_branch, with_changed, with_lock, with_write};
-    ghost use Rattle.xa_server.specs.Step.{without_branch, committed};
-    ghost use Rattle.xa_server.specs.Overview.{branches_of, rows_of};
-    ghost use Rattle.xa_server.specs.Rows.{with_change};
+    ghost use Rattle.xa_server.specs.State.{prepared_xids as prepared_xids_of, committed_value as committed_value_of};
+    ghost use Rattle.xa_server.specs.{State.value_within as value_within_of, Locks.{LockLaw, holds as holds_of}};
+    ghost use Rattle.xa_server.specs.{Locks.is_held_against as is_held_against_of, Overview.{branches_of, rows_of}};
+    ghost use Rattle.xa_server.specs.{Locks.is_locked_against as is_locked_against_of, Step.{started_by, with_branch}};
+    ghost use Rattle.xa_server.specs.Step.{with_changed, with_lock, with_write, without_branch, committed};
+    ghost use Rattle.xa_server.specs.{Rows.with_change, declared.association.Association.TheVariants.{Free, Active}};
     ghost use Rattle.xa_server.specs.declared.branch.Phase.TheVariants.{Idle as PhaseIdle, Prepared as PhasePrepared};
-    ghost use Rattle.xa_server.specs.declared.association.Association.TheVariants.{Free, Active};
 
     /// Makes a server with no branches and no rows.
     ///

@@ -1,8 +1,7 @@
 //! Several branches that share a row.
-ghost use Rattle.std.specs.Prelude.{◌≡◌, ◌↔◌, IsTrue, true, false, not, filter, IfOk, OnOk, OnErr, MatchOption};
 ghost use Rattle.std.specs.FinSet as set;
-ghost use Rattle.std.specs.BTreeSet.{keys, Updates};
-ghost use Rattle.std.specs.List.{list_all, list_any};
+ghost use Rattle.std.specs.Prelude.{◌≡◌, ◌↔◌, IsTrue, true, false, not, filter, IfOk, OnOk, OnErr, MatchOption};
+ghost use Rattle.std.specs.{BTreeSet.{keys, Updates}, List.{list_all, list_any}};
 ghost use Rattle.xa_xid.specs.Xid.{same_xid, xid_cmp};
 ghost use Rattle.xa_server.specs.Locks.{is_another as is_another_of};
 
@@ -30,8 +29,8 @@ pub struct SeveralSharers {
 }
 
 impl Model for SeveralSharers {
-    ghost use Rattle.std.specs.Prelude.{◌++◌};
     ghost use Rattle.std.specs.FinSet as set;
+    ghost use Rattle.std.specs.Prelude.{◌++◌};
     ghost use Rattle.xa_xid.specs.Xid.{xid_cmp, coded_xid};
 
     ghost Value = { set.FinSet xid_cmp };

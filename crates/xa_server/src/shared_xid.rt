@@ -17,8 +17,7 @@ pub struct SharedXid {
 }
 
 impl Model for SharedXid {
-    ghost use Rattle.xa_xid.specs.declared.xid.Xid.{Xid as XidSeen};
-    ghost use Rattle.xa_xid.specs.Xid.{coded_xid};
+    ghost use Rattle.xa_xid.specs.{declared.xid.Xid.Xid as XidSeen, Xid.coded_xid};
 
     ghost Value = { XidSeen };
 

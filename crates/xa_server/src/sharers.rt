@@ -1,10 +1,7 @@
 //! The branches that share a row.
-ghost use Rattle.std.specs.Prelude.{◌≡◌, true, IfOk, OnOk, OnErr, MatchOption};
 ghost use Rattle.std.specs.FinSet as set;
-ghost use Rattle.std.specs.List.{list_any};
-ghost use Rattle.std.specs.Option.{option_map_or};
-ghost use Rattle.xa_server.specs.Locks.{is_another as is_another_of};
-ghost use Rattle.xa_server.specs.Sharers.{set_of};
+ghost use Rattle.std.specs.{Prelude.{◌≡◌, true, IfOk, OnOk, OnErr, MatchOption}, List.list_any, Option.option_map_or};
+ghost use Rattle.xa_server.specs.{Locks.is_another as is_another_of, Sharers.set_of};
 
 use crate::association::{Association, is_same};
 use crate::several_sharers::SeveralSharers;

@@ -1,28 +1,17 @@
 -- What a look, a reply and an add make of an answer or a fault, what tries one after another come to, and what an
 -- answer says of its statement.
 use Rattle.std.proofs.Common.{◌≡◌, ◌+◌, ℕ, Bool, true, false, List, [], ◌∷◌, ◌++◌, length, take, refl, ap, sym, ◌∙◌}
-use Rattle.std.proofs.Common.{subst, ⊎_elim, inl, inr, Some, Ok, Err}
-use Rattle.std.proofs.Common.{arith, length-append}
+use Rattle.std.proofs.Common.{subst, ⊎_elim, inl, inr, Some, Ok, Err, arith, length-append}
 use Rattle.std.specs.Prelude.{slice_get, ◌⊎◌, Result, OnOk, OnErr, not, ◌&&◌}
 use Rattle.xa_words.specs.Entry.{Entry}
-use Rattle.xa_xid.specs.declared.statement.Statement.{Statement}
-use Rattle.xa_server.specs.State.{State, association_of}
-use Rattle.xa_server.specs.Replies.{reply_to}
-use Rattle.xa_server.specs.Step.{enters, may_enter, is_refused, may_take_memory}
-use Rattle.decision_log.specs.History.{Begins}
-use Rattle.decision_log.specs.Calls.{Looked, IsAdded}
-use Rattle.decision_log.specs.declared.known.Known.{Known}
+use Rattle.xa_xid.specs.declared.statement.Statement.{Statement, TheVariants.Disconnect}
+use Rattle.xa_server.specs.{State.{State, association_of}, Replies.reply_to}
+use Rattle.xa_server.specs.{Step.{enters, may_enter, is_refused, may_take_memory}, declared.reply.Reply.Reply}
+use Rattle.decision_log.specs.{History.Begins, Calls.{Looked, IsAdded}, declared.known.Known.Known}
 use Rattle.decision_log.proofs.Histories.{begins_itself, begins_append, begins_through, length_begins}
-use Rattle.xa_session.specs.Replay.{state_at}
-use Rattle.xa_session.specs.Answer.{entry_of, Advances, IsAnswered, IsUnanswered, IsKept, Fails}
-use Rattle.xa_session.specs.declared.answer.Answer.{Answer}
-use Rattle.xa_session.specs.declared.replica.Replica.{Replica}
-use Rattle.xa_session.specs.declared.fault.Fault.{Fault}
-use Rattle.xa_session.specs.declared.fault.Fault.TheVariants.{Overtaken, Full, NoMemory, Busy}
-use Rattle.xa_server.specs.declared.reply.Reply.TheVariants.{Ok as Accepted}
-use Rattle.xa_xid.specs.declared.statement.Statement.TheVariants.{Disconnect}
-use Rattle.xa_session.proofs.Entering.{disconnect_accepted}
-use Rattle.xa_session.proofs.Replaying.{state_at-begins}
+use Rattle.xa_session.specs.{Replay.state_at, Answer.{entry_of, Advances, IsAnswered, IsUnanswered, IsKept, Fails}}
+use Rattle.xa_session.specs.declared.{answer.Answer.Answer, replica.Replica.Replica, fault.Fault.Fault}
+use Rattle.xa_session.proofs.{Entering.disconnect_accepted, Replaying.state_at-begins}
 
 -- the entry that was put behind a history stands at its end
 pub slice_get-last : (xs : List Entry) (entry : Entry) → slice_get (xs ++ entry ∷ []) (length xs) ≡ Some entry
@@ -180,13 +169,13 @@ kept_entered base statement answer entry mid new replica server session replayed
 pub fails_unanswered : (turns : Bool) (capacity : ℕ) (base : State) (statement : Statement) (fault : Fault)
     (old new : Known)
     → Fails turns capacity base statement fault old new → IsUnanswered old new
-fails_unanswered turns capacity base statement (Overtaken front) old new fails = record {
+fails_unanswered turns capacity base statement (Fault.Overtaken front) old new fails = record {
   advances = record { number = fails.number; seen = fails.seen; looks = fails.looks; tries = omega arith };
   mine = fails.mine;
 }
-fails_unanswered turns capacity base statement Full old new fails = fails.unanswered
-fails_unanswered turns capacity base statement NoMemory old new fails = fails
-fails_unanswered turns capacity base statement Busy old new fails = fails.1
+fails_unanswered turns capacity base statement Fault.Full old new fails = fails.unanswered
+fails_unanswered turns capacity base statement Fault.NoMemory old new fails = fails
+fails_unanswered turns capacity base statement Fault.Busy old new fails = fails.1
 
 -- a session that knows what it knew has appended nothing
 pub unanswered_itself : (known : Known) → IsUnanswered known known
@@ -199,7 +188,7 @@ unanswered_itself known =
 
 -- if DISCONNECT was answered, it was answered Ok at that place
 pub disconnected : (base : State) (answer : Answer) (old new : Known) → IsAnswered base Disconnect answer old new
-    → IsAnswered base Disconnect (record { place = answer.place; reply = Accepted }) old new
+    → IsAnswered base Disconnect (record { place = answer.place; reply = Reply.Ok }) old new
 disconnected base answer old new is = record {
   advances = is.advances;
   looked = is.looked;

@@ -1,25 +1,18 @@
 -- A call that has appended its statement ends with the reply of the server right before that entry.
 --     Appended     the session's call has appended its statement, right after this history
-use Rattle.std.proofs.Common.{◌≡◌, ◌≢◌, ℕ, ◌+◌, ◌≤◌, Some, None, List, [], ◌∷◌, ◌++◌, length, take, drop}
-use Rattle.std.proofs.Common.{refl, ap, sym, ◌∙◌, subst, inl, inr, arith, length-append}
-use Rattle.std.proofs.lemmas.Bool.{cases_lt}
+use Rattle.std.proofs.Common.{◌≡◌, ◌≢◌, ℕ, ◌+◌, ◌≤◌, Some, None, List, [], ◌∷◌, ◌++◌, length, take, drop, refl, ap, sym}
+use Rattle.std.proofs.{Common.{◌∙◌, subst, inl, inr, arith, length-append}, lemmas.Bool.cases_lt}
 use Rattle.std.proofs.lemmas.Option.{none-some, same_Some}
-use native.Mathlib.Decide.{ℕ_discrete}
 use mathlib.Core.Logic.{dite}
 use Rattle.xa_words.specs.Entry.{Entry}
-use Rattle.xa_server.specs.State.{State}
-use Rattle.xa_server.specs.Replies.{reply_to}
-use Rattle.xa_server.specs.Step.{enters}
-use Rattle.decision_log.specs.History.{Begins, entries_of}
-use Rattle.decision_log.specs.Machine.{Look, Add, IsState}
+use Rattle.xa_server.specs.{State.State, Replies.reply_to, Step.enters}
+use Rattle.decision_log.specs.{History.{Begins, entries_of}, Machine.{Look, Add, IsState}}
 use Rattle.decision_log.proofs.Histories.{begins_itself, begins_append, begins_through, begins_same, begins_between}
 use Rattle.decision_log.proofs.Histories.{behind, own_append, own_last}
-use Rattle.xa_session.specs.Replay.{state_after, state_at}
-use Rattle.xa_session.specs.declared.answer.Answer.{Answer}
-use Rattle.xa_session.specs.Answer.{entry_of, IsAnswered}
+use Rattle.xa_session.{specs.{Replay.{state_after, state_at}, declared.answer.Answer.Answer}, proofs.Futures.Ends}
+use Rattle.xa_session.{specs.Answer.{entry_of, IsAnswered}, proofs.Moments.{who, either, frame, state_comes}}
 use Rattle.xa_session.specs.Timed.{Moment, Call, Return, Fail, Log, Open, Stage, known_at, Comes, Passes}
-use Rattle.xa_session.proofs.Moments.{who, either, frame, state_comes}
-use Rattle.xa_session.proofs.Futures.{Ends}
+use native.Mathlib.Decide.{ℕ_discrete}
 
 -- a list isn't the same list with an element more
 pub grown : (xs ys : List Entry) (entry : Entry) → ys ≡ xs → ys ≡ xs ++ entry ∷ [] → ⊥

@@ -1,23 +1,15 @@
 -- What a session has open stays while only others add, and what its own statements make of it.
 use Rattle.std.proofs.Common.{◌≡◌, ℕ, Bool, true, false, List, [], ◌∷◌, ◌++◌, length, take, drop, refl, ap, sym, ◌∙◌}
-use Rattle.std.proofs.Common.{subst, cond, arith, append-nil}
-use Rattle.std.specs.Prelude.{nat_eq}
-use Rattle.std.proofs.lemmas.Bool.{eqb-false}
+use Rattle.std.{proofs.{Common.{subst, cond, arith, append-nil}, lemmas.Bool.eqb-false}, specs.Prelude.nat_eq}
 use Rattle.std.proofs.lemmas.List.{append_cancel_left, append_cancel_right, take_all, length-take}
 use Rattle.xa_words.specs.Entry.{Entry}
 use Rattle.xa_xid.specs.declared.statement.Statement.{Statement}
-use Rattle.xa_server.specs.State.{State, association_of}
-use Rattle.xa_server.specs.Locks.{LockLaw}
-use Rattle.xa_server.specs.Step.{after, enters}
-use Rattle.xa_server.proofs.Others.{others_left}
-use Rattle.xa_server.proofs.Keeping.{law_after}
-use Rattle.decision_log.specs.History.{Begins, entries_of}
-use Rattle.decision_log.specs.declared.known.Known.{Known}
+use Rattle.xa_server.specs.{State.{State, association_of}, Locks.LockLaw, Step.{after, enters}}
+use Rattle.xa_server.proofs.{Others.others_left, Keeping.law_after}
+use Rattle.decision_log.specs.{History.{Begins, entries_of}, declared.known.Known.Known}
 use Rattle.decision_log.proofs.Histories.{behind, own_append, own_last, begins_between, begins_append}
-use Rattle.xa_session.specs.Answer.{entry_of, IsAnswered, IsUnanswered}
-use Rattle.xa_session.specs.Replay.{state_after, state_at}
-use Rattle.xa_session.specs.declared.answer.Answer.{Answer}
-use Rattle.xa_session.proofs.Replaying.{state_after-last, state_at-whole}
+use Rattle.xa_session.specs.{Answer.{entry_of, IsAnswered, IsUnanswered}, Replay.{state_after, state_at}}
+use Rattle.xa_session.{specs.declared.answer.Answer.Answer, proofs.Replaying.{state_after-last, state_at-whole}}
 
 -- if an entry and the rest, filtered, leave nothing, the entry didn't pass and the rest is empty
 left_out : (is : Bool) (entry : Entry) (rest : List Entry) → cond is (entry ∷ rest) rest ≡ []

@@ -2,9 +2,7 @@
 use Rattle.std.specs.Prelude.{Result, Ok, Err}
 use Rattle.decision_log.specs.declared.log.DecisionLog.{Ghosts as LogOf}
 use Rattle.xa_xid.specs.declared.statement.Statement.{Statement}
-use Rattle.xa_session.specs.Outcome.{Answers, Finds}
-use Rattle.xa_session.specs.declared.answer.Answer.{Answer}
-use Rattle.xa_session.specs.declared.fault.Fault.{Fault}
+use Rattle.xa_session.specs.{Outcome.{Answers, Finds}, declared.{answer.Answer.Answer, fault.Fault.Fault}}
 use Rattle.xa_session.specs.declared.session.Session.{Session}
 
 -- what an attempt finds on the session's replica is what the session is answered

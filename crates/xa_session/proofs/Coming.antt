@@ -1,20 +1,13 @@
 -- At each stage a session without a call can be answered: the premises of the laws of runs can be met.
-use Rattle.std.proofs.Common.{◌≡◌, ℕ, ◌+◌, ◌<◌, ◌≤◌, Bool, true, false, Some, None, List, [], ◌∷◌, ◌++◌, length}
-use Rattle.std.proofs.Common.{refl, ap, sym, ◌∙◌, subst, arith}
+use Rattle.std.proofs.Common.{◌≡◌, ℕ, ◌+◌, ◌<◌, ◌≤◌, Bool, true, false, Some, None, List, [], ◌∷◌, ◌++◌, length, refl}
+use Rattle.std.proofs.Common.{ap, sym, ◌∙◌, subst, arith}
 use Rattle.xa_words.specs.Entry.{Entry}
 use Rattle.xa_xid.specs.declared.statement.Statement.{Statement}
-use Rattle.xa_server.specs.State.{State}
-use Rattle.xa_server.specs.Replies.{reply_to}
-use Rattle.xa_server.specs.Step.{enters}
-use Rattle.decision_log.specs.Machine.{Seen, Look, Add, Looks, Appends, IsState}
-use Rattle.decision_log.specs.declared.known.Known.{Known}
-use Rattle.xa_session.specs.Replay.{state_after}
-use Rattle.xa_session.specs.declared.answer.Answer.{Answer}
-use Rattle.xa_session.specs.Answer.{entry_of, IsAnswered}
-use Rattle.xa_session.specs.Timed.{Call, Return, Log, Open, Stage, changed, known_at, Passes}
-use Rattle.xa_session.specs.Met.{answer_now}
-use Rattle.xa_session.proofs.Replaying.{state_at-whole}
-use Rattle.xa_session.proofs.Answering.{IsReply, answered_outside, answered_entered}
+use Rattle.xa_server.specs.{State.State, Replies.reply_to, Step.enters}
+use Rattle.decision_log.specs.{Machine.{Seen, Look, Add, Looks, Appends, IsState}, declared.known.Known.Known}
+use Rattle.xa_session.specs.{Replay.state_after, declared.answer.Answer.Answer, Answer.{entry_of, IsAnswered}}
+use Rattle.xa_session.specs.{Timed.{Call, Return, Log, Open, Stage, changed, known_at, Passes}, Met.answer_now}
+use Rattle.xa_session.proofs.{Replaying.state_at-whole, Answering.{IsReply, answered_outside, answered_entered}}
 use Rattle.xa_session.proofs.Moments.{known_by, changed_there, changed_other}
 
 -- an answer is one by other counts of tries too

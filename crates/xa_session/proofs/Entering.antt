@@ -1,16 +1,12 @@
 -- A statement that enters makes an entry and is accepted, DISCONNECT is accepted, and XA RECOVER is answered a list and
 -- doesn't enter.
 use Rattle.std.proofs.Common.{◌≡◌, ℕ, Bool, true, false, ◌&&◌, not, refl}
-use Rattle.xa_xid.specs.declared.statement.Statement.{Statement}
-use Rattle.xa_xid.specs.declared.statement.Statement.TheVariants.{Start, End, Prepare, Commit, Rollback, Recover}
-use Rattle.xa_xid.specs.declared.statement.Statement.TheVariants.{Unsupported, Get, Put, Del, Disconnect}
+use Rattle.xa_xid.specs.declared.statement.Statement.{Statement, TheVariants.{Start, End, Prepare, Commit, Rollback}}
+use Rattle.xa_xid.specs.declared.statement.Statement.TheVariants.{Recover, Unsupported, Get, Put, Del, Disconnect}
 use Rattle.xa_words.specs.Entry.{may_be_entry as makes_entry}
-use Rattle.xa_server.specs.State.{State, association_of, prepared_xids}
-use Rattle.xa_server.specs.Replies.{table, reply_to}
-use Rattle.xa_server.specs.declared.association.Association.{Association}
-use Rattle.xa_server.specs.declared.association.Association.TheVariants.{Free, Active, Idle}
+use Rattle.xa_server.specs.{State.{State, association_of, prepared_xids}, Replies.{table, reply_to}}
+use Rattle.xa_server.specs.{declared.association.Association.Association, Step.{enters, may_enter, is_refused}}
 use Rattle.xa_server.specs.declared.reply.Reply.TheVariants.{Ok as Accepted, Recovered}
-use Rattle.xa_server.specs.Step.{enters, may_enter, is_refused}
 
 -- a test and a false one never hold together
 never_both : (b : Bool) → b && false ≡ true → ⊥
@@ -49,9 +45,9 @@ entering_accepted state session statement is =
 -- DISCONNECT is accepted, whatever the session has open
 disconnect_in : (state : State) (association : Association) → table state association Disconnect ≡ Accepted
 unfolding table
-disconnect_in state Free = refl
-disconnect_in state (Active own) = refl
-disconnect_in state (Idle own) = refl
+disconnect_in state Association.Free = refl
+disconnect_in state (Association.Active own) = refl
+disconnect_in state (Association.Idle own) = refl
 
 -- DISCONNECT is answered Ok in each state
 pub disconnect_accepted : (state : State) (session : ℕ) → reply_to state session Disconnect ≡ Accepted
@@ -74,6 +70,6 @@ unfolding reply_to table
 recover_reply state session convert = by (association_of state session)
   where
     by : (association : Association) → table state association (Recover convert) ≡ Recovered (prepared_xids state)
-    by Free = refl
-    by (Active own) = refl
-    by (Idle own) = refl
+    by Association.Free = refl
+    by (Association.Active own) = refl
+    by (Association.Idle own) = refl

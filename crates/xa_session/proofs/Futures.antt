@@ -5,16 +5,12 @@
 --     Ends     its call ends in no fault, and what it returns has this reply; it appends nothing before that
 use Rattle.std.proofs.Common.{◌≡◌, ◌≢◌, ◌⊎◌, ℕ, Some, None, List, [], ◌∷◌, refl, ap, sym, ◌∙◌, subst, inl, inr}
 use Rattle.std.proofs.lemmas.Option.{none-some, same_Some}
-use native.Mathlib.Decide.{ℕ_discrete}
 use mathlib.Core.Logic.{dite}
-use Rattle.xa_server.specs.State.{State}
-use Rattle.xa_server.specs.declared.reply.Reply.{Reply}
-use Rattle.decision_log.specs.Machine.{Look, Add}
-use Rattle.decision_log.specs.Reached.{session_of}
-use Rattle.xa_session.specs.declared.answer.Answer.{Answer}
-use Rattle.xa_session.specs.Answer.{IsAnswered}
+use Rattle.xa_server.specs.{State.State, declared.reply.Reply.Reply}
+use Rattle.decision_log.specs.{Machine.{Look, Add}, Reached.session_of}
+use Rattle.xa_session.{specs.{declared.answer.Answer.Answer, Answer.IsAnswered}, proofs.Moments.{who, frame}}
 use Rattle.xa_session.specs.Timed.{Moment, Call, Return, Fail, Log, Open, Stage, known_at, Passes}
-use Rattle.xa_session.proofs.Moments.{who, frame}
+use native.Mathlib.Decide.{ℕ_discrete}
 
 -- before anything else of the session its call returns this answer
 abbrev pub Soon : ℕ → Answer → List Moment → Type 0

@@ -1,32 +1,24 @@
 -- Runs of the log machine are linearizable: the instant of a call is its append, or if there is none, its last look.
 --     Waits, Has     an open call whose statement hasn't taken effect;  whose statement has
 --     Stand          a session has no call, or one of these
-use Rattle.std.proofs.Common.{◌≡◌, ◌≢◌, ◌⊎◌, ℕ, Some, None, List, [], ◌∷◌, ◌++◌}
-use Rattle.std.proofs.Common.{refl, ap, sym, ◌∙◌, subst, inl, inr, arith, false}
-use Rattle.std.specs.Prelude.{Option}
-use native.Mathlib.Decide.{ℕ_discrete}
+use Rattle.std.proofs.Common.{◌≡◌, ◌≢◌, ◌⊎◌, ℕ, Some, None, List, [], ◌∷◌, ◌++◌, refl, ap, sym, ◌∙◌, subst, inl, inr}
+use Rattle.std.{proofs.Common.{arith, false}, specs.Prelude.Option}
 use mathlib.Core.Logic.{dite}
 use Rattle.xa_words.specs.Entry.{Entry}
 use Rattle.xa_xid.specs.declared.statement.Statement.{Statement}
-use Rattle.xa_server.specs.State.{State}
-use Rattle.xa_server.specs.declared.reply.Reply.{Reply}
-use Rattle.xa_server.specs.Replies.{reply_to}
-use Rattle.xa_server.specs.Step.{enters}
+use Rattle.xa_server.specs.{State.State, declared.reply.Reply.Reply, Replies.reply_to, Step.enters}
 use Rattle.xa_server.proofs.Entering.{unentered_leaves}
-use Rattle.decision_log.specs.declared.known.Known.{Known}
-use Rattle.decision_log.specs.History.{Begins, entries_of}
-use Rattle.decision_log.specs.Machine.{Look, Add, IsState}
+use Rattle.decision_log.specs.{declared.known.Known.Known, History.{Begins, entries_of}, Machine.{Look, Add, IsState}}
 use Rattle.decision_log.proofs.Histories.{begins_itself}
-use Rattle.xa_session.specs.Replay.{state_after, state_at}
-use Rattle.xa_session.specs.declared.answer.Answer.{Answer}
+use Rattle.xa_session.specs.{Replay.{state_after, state_at}, declared.answer.Answer.Answer}
 use Rattle.xa_session.specs.Answer.{entry_of, IsAnswered}
 use Rattle.xa_session.specs.Timed.{Moment, Call, Return, Fail, Log, Open, Stage, changed, known_at, Comes, Passes}
-use Rattle.xa_session.specs.Linear.{Client, Idle, Called, Answered, Serves, sights, IsLinearized}
-use Rattle.xa_session.specs.Linear.{over, called, taken, returned, failed}
-use Rattle.xa_session.proofs.Replaying.{state_at-whole, state_after-last}
+use Rattle.xa_session.specs.Linear.{Client, Idle, Called, Answered, Serves, sights, IsLinearized, over, called, taken}
+use Rattle.xa_session.{specs.Linear.{returned, failed}, proofs.Replaying.{state_at-whole, state_after-last}}
 use Rattle.xa_session.proofs.Moments.{who, either, changed_there, changed_other, frame, state_comes}
 use Rattle.xa_session.proofs.Futures.{Soon, Late, Ends, soon_or_late, late_after, ends_after, soon_ends, soon_answered}
 use Rattle.xa_session.proofs.Appended.{Appended, appended_ends, grown}
+use native.Mathlib.Decide.{ℕ_discrete}
 
 -- the call's statement hasn't taken effect: nothing was appended, and the call won't return before it looks or appends
 -- again, or it hasn't looked yet

@@ -1,12 +1,9 @@
 -- One moment of a run: what it leaves of the other sessions, and that the machine stays in a state that is allowed.
 use Rattle.std.proofs.Common.{◌≡◌, ◌≢◌, ◌⊎◌, ℕ, ◌+◌, cond, true, false, Bool, Some, None, refl, ap, sym, ◌∙◌, inl, inr}
-use Rattle.std.proofs.Common.{eq-eqb, ne_eqb}
-use Rattle.std.specs.Prelude.{Option}
+use Rattle.std.{proofs.Common.{eq-eqb, ne_eqb}, specs.Prelude.Option}
 use Rattle.xa_server.specs.State.{State}
-use Rattle.decision_log.specs.Machine.{Seen, Event, Look, Add, IsState}
-use Rattle.decision_log.specs.Reached.{session_of}
-use Rattle.decision_log.specs.declared.known.Known.{Known}
-use Rattle.decision_log.proofs.MachineLaw.{state_next}
+use Rattle.decision_log.specs.{Machine.{Seen, Event, Look, Add, IsState}, Reached.session_of}
+use Rattle.decision_log.{specs.declared.known.Known.Known, proofs.MachineLaw.state_next}
 use Rattle.xa_session.specs.Timed.{Moment, Call, Return, Fail, Log, Open, Stage, changed, known_at, Comes}
 
 -- a boolean is true or false

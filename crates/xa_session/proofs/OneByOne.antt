@@ -1,18 +1,13 @@
 -- Calls that come one after another take effect one after another: what `Serves` says of them.
 --     AllIdle, OneCalled, OneAnswered      no session has a call;  one has called;  one has its reply
 use Rattle.std.proofs.Common.{◌≡◌, ◌≢◌, ℕ, List, [], ◌∷◌, refl, ap, sym, ◌∙◌, subst}
-use mathlib.Core.Path.{fun_ext}
-use native.Mathlib.Decide.{ℕ_discrete}
-use mathlib.Core.Logic.{dite}
+use mathlib.Core.{Path.fun_ext, Logic.dite}
 use Rattle.xa_xid.specs.declared.statement.Statement.{Statement}
-use Rattle.xa_server.specs.State.{State}
-use Rattle.xa_server.specs.Step.{after}
-use Rattle.xa_server.specs.Replies.{reply_to}
-use Rattle.xa_server.specs.declared.reply.Reply.{Reply}
-use Rattle.xa_session.specs.Timed.{changed}
-use Rattle.xa_session.specs.Linear.{Sight, Call, Return, Fail, Client, Idle, Called, Answered, Serves, IsLinearized}
-use Rattle.xa_session.specs.Linear.{over, called, taken, returned, failed}
+use Rattle.xa_server.specs.{State.State, Step.after, Replies.reply_to, declared.reply.Reply.Reply}
+use Rattle.xa_session.specs.{Timed.changed, Linear.{Sight, Call, Return, Fail, Client, Idle, Called, Answered, Serves}}
+use Rattle.xa_session.specs.Linear.{IsLinearized, over, called, taken, returned, failed}
 use Rattle.xa_session.proofs.Moments.{changed_there, changed_other}
+use native.Mathlib.Decide.{ℕ_discrete}
 
 -- which of the three a client is
 abbrev Is : Client → Client → Type 0

@@ -1,28 +1,19 @@
 -- What a session has open after a statement of its own that was carried out.
 use Rattle.std.proofs.Common.{◌≡◌, ◌≢◌, ℕ, true, false, refl, ap, sym, ◌∙◌, subst, inl, inr, Option, Some, None, List}
-use Rattle.std.proofs.Common.{cond, eq-eqb}
-use Rattle.std.specs.Prelude.{not, ◌&&◌, ◌==◌}
-use Rattle.std.proofs.lemmas.Bool.{eqb-true}
-use Rattle.std.specs.Option.{option_map, option_map_or, option_and_then}
-use Rattle.std.specs.FinMap as map
-use Rattle.std.specs.FinMap.{get-remove}
+use Rattle.std.{proofs.{Common.{cond, eq-eqb}, lemmas.Bool.eqb-true}, specs.Prelude.{not, ◌&&◌, ◌==◌}}
+use Rattle.std.specs.{Option.{option_map, option_map_or, option_and_then}, FinMap.get-remove}
 use mathlib.Core.Bool.{true≢false}
-use Rattle.xa_xid.specs.declared.xid.Xid.{Xid}
-use Rattle.xa_xid.specs.Xid.{same_xid, Text}
-use Rattle.xa_xid.proofs.Orders.{xids_total, exact_xids}
-use Rattle.xa_xid.specs.declared.statement.Statement.{Statement}
+use Rattle.xa_xid.specs.{declared.{xid.Xid.Xid, statement.Statement.Statement}, Xid.{same_xid, Text}}
 use Rattle.xa_xid.specs.declared.statement.Statement.TheVariants.{Start, End, Get, Put, Del, Disconnect}
-use Rattle.xa_server.specs.declared.association.Association.{Association}
-use Rattle.xa_server.specs.declared.association.Association.TheVariants.{Free, Active, Idle}
-use Rattle.xa_server.specs.State.{Branch, State, owns, phase_at, association_in, association_of}
-use Rattle.xa_server.specs.Locks.{LockLaw}
-use Rattle.xa_server.specs.Replies.{reply_to, table}
-use Rattle.xa_server.specs.Step.{started_by, with_lock, with_own_write, is_refused, after, effect, enters, may_enter}
-use Rattle.xa_server.specs.Step.{without_branch, unless_refused}
+use Rattle.xa_xid.proofs.Orders.{xids_total, exact_xids}
+use Rattle.xa_server.specs.declared.association.Association.{Association, TheVariants.{Free, Active, Idle}}
+use Rattle.xa_server.specs.{State.{Branch, State, owns, phase_at, association_in, association_of}, Locks.LockLaw}
+use Rattle.xa_server.specs.{Replies.{reply_to, table}, Step.{started_by, with_lock, with_own_write, is_refused, after}}
+use Rattle.xa_server.specs.Step.{effect, enters, may_enter, without_branch, unless_refused}
 use Rattle.xa_server.proofs.Maps.{same_or_apart, same_itself}
 use Rattle.xa_server.proofs.Others.{IsOwn, own_association, own_found, none_found, accepted_end_own}
-use Rattle.xa_server.proofs.Changes.{idle, branch_after, effect-branch, accepted_done}
-use Rattle.xa_server.proofs.Keeping.{law_after}
+use Rattle.xa_server.proofs.{Changes.{idle, branch_after, effect-branch, accepted_done}, Keeping.law_after}
+use Rattle.std.specs.FinMap as map
 
 -- the state has a branch of this identifier, and the session owns it
 pub record IsOwned (session : ℕ) (state : State) (xid : Xid) : Type 0 where

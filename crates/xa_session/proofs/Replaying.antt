@@ -1,15 +1,10 @@
 -- Replaying a history: entry by entry, and in longer histories.
 use Rattle.std.proofs.Common.{◌≡◌, ℕ, zero, suc, ◌<◌, ◌≤◌, ◌+◌, List, [], ◌∷◌, ◌++◌, length, take, refl, ap, sym, ◌∙◌}
-use Rattle.std.proofs.Common.{Some, arith, add-one}
-use Rattle.std.specs.Prelude.{slice_get}
-use Rattle.std.proofs.lemmas.List.{take_all, take-append-le}
+use Rattle.std.{proofs.{Common.{Some, arith, add-one}, lemmas.List.{take_all, take-append-le}}, specs.Prelude.slice_get}
 use Rattle.xa_words.specs.Entry.{Entry}
-use Rattle.xa_server.specs.State.{State}
-use Rattle.xa_server.specs.Step.{after}
-use Rattle.decision_log.specs.History.{Begins}
-use Rattle.decision_log.proofs.Histories.{length_begins, behind}
-use Rattle.xa_session.specs.Replay.{state_after, state_at, Stands}
-use Rattle.xa_session.specs.declared.replica.Replica.{Replica}
+use Rattle.xa_server.specs.{State.State, Step.after}
+use Rattle.decision_log.{specs.History.Begins, proofs.Histories.{length_begins, behind}}
+use Rattle.xa_session.specs.{Replay.{state_after, state_at, Stands}, declared.replica.Replica.Replica}
 
 -- a prefix of one element more is the prefix with the next element behind it
 pub take-next : (xs : List Entry) (place : ℕ) (entry : Entry) → slice_get xs place ≡ Some entry

@@ -1,23 +1,17 @@
 -- If all calls are over at the end of a run, each has appended at most its own entry, once.
 --     Finishes     with some more entries of its own a session has none of its call's, or its call's one
-use Rattle.std.proofs.Common.{◌≡◌, ◌≢◌, ◌⊎◌, ℕ, Some, None, List, [], ◌∷◌, ◌++◌, length}
-use Rattle.std.proofs.Common.{refl, ap, sym, ◌∙◌, subst, inl, inr, arith, length-append, append_assoc, append-nil}
-use Rattle.std.proofs.lemmas.Option.{none-some, same_Some}
-use Rattle.std.specs.Prelude.{Option, slice_get}
-use native.Mathlib.Decide.{ℕ_discrete}
+use Rattle.std.proofs.Common.{◌≡◌, ◌≢◌, ◌⊎◌, ℕ, Some, None, List, [], ◌∷◌, ◌++◌, length, refl, ap, sym, ◌∙◌, subst, inl}
+use Rattle.std.proofs.Common.{inr, arith, length-append, append_assoc, append-nil}
+use Rattle.std.{proofs.lemmas.Option.{none-some, same_Some}, specs.Prelude.{Option, slice_get}}
 use mathlib.Core.Logic.{dite}
 use Rattle.xa_words.specs.Entry.{Entry}
-use Rattle.xa_server.specs.State.{State}
-use Rattle.xa_server.specs.Step.{enters}
-use Rattle.decision_log.specs.declared.known.Known.{Known}
-use Rattle.decision_log.specs.Machine.{Seen, Look, Add}
-use Rattle.xa_session.specs.Replay.{state_at}
-use Rattle.xa_session.specs.declared.answer.Answer.{Answer}
-use Rattle.xa_session.specs.Answer.{entry_of, IsAnswered}
+use Rattle.xa_server.specs.{State.State, Step.enters}
+use Rattle.decision_log.specs.{declared.known.Known.Known, Machine.{Seen, Look, Add}}
+use Rattle.xa_session.specs.{Replay.state_at, declared.answer.Answer.Answer, Answer.{entry_of, IsAnswered}}
 use Rattle.xa_session.specs.Timed.{Moment, Call, Return, Fail, Log, Open, Stage, changed, known_at, Comes, Passes}
-use Rattle.xa_session.specs.Loose.{LooselyComes, LooselyPasses}
-use Rattle.xa_session.proofs.Answering.{slice_get-last}
+use Rattle.xa_session.{specs.Loose.{LooselyComes, LooselyPasses}, proofs.Answering.slice_get-last}
 use Rattle.xa_session.proofs.Moments.{who, either, changed_there, frame}
+use native.Mathlib.Decide.{ℕ_discrete}
 
 -- two lists that end after the same entries end with the same entry
 last_same : (xs : List Entry) (a b : Entry) → xs ++ a ∷ [] ≡ xs ++ b ∷ [] → a ≡ b

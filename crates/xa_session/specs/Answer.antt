@@ -16,18 +16,11 @@ use Rattle.std.specs.Prelude.{◌≡◌, ◌<◌, ◌≤◌, ℕ, Bool, true, fa
 use Rattle.std.specs.Prelude.{slice_get, Some}
 use Rattle.xa_words.specs.Entry.{Entry}
 use Rattle.xa_xid.specs.declared.statement.Statement.{Statement}
-use Rattle.xa_server.specs.State.{State}
-use Rattle.xa_server.specs.Replies.{reply_to}
-use Rattle.xa_server.specs.Step.{enters, is_recover, may_take_memory}
+use Rattle.xa_server.specs.{State.State, Replies.reply_to, Step.{enters, is_recover, may_take_memory}}
 use Rattle.xa_server.specs.declared.reply.Reply.{Reply}
-use Rattle.decision_log.specs.History.{Begins}
-use Rattle.decision_log.specs.Calls.{IsOvertaken}
-use Rattle.decision_log.specs.declared.known.Known.{Known}
-use Rattle.xa_session.specs.Replay.{state_after, state_at}
-use Rattle.xa_session.specs.declared.answer.Answer.{Answer}
-use Rattle.xa_session.specs.declared.replica.Replica.{Replica}
-use Rattle.xa_session.specs.declared.fault.Fault.{Fault}
-use Rattle.xa_session.specs.declared.fault.Fault.TheVariants.{Overtaken, Full, NoMemory, Busy}
+use Rattle.decision_log.specs.{History.Begins, Calls.IsOvertaken, declared.known.Known.Known}
+use Rattle.xa_session.specs.{Replay.{state_after, state_at}, declared.{answer.Answer.Answer, replica.Replica.Replica}}
+use Rattle.xa_session.specs.declared.fault.Fault.{Fault, TheVariants.{Overtaken, Full, NoMemory, Busy}}
 
 -- a session's statement as an entry
 abbrev pub entry_of : ℕ → Statement → Entry

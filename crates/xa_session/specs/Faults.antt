@@ -3,10 +3,7 @@
 --     fault_of              the session's fault for a fault of an append
 use Rattle.std.specs.Prelude.{ℕ}
 use Rattle.decision_log.specs.declared.fault.AddFault.{AddFault}
-use Rattle.decision_log.specs.declared.fault.AddFault.TheVariants.{Overtaken as IsOvertaken, Full as IsFull}
-use Rattle.decision_log.specs.declared.fault.AddFault.TheVariants.{Busy as IsBusy}
-use Rattle.xa_session.specs.declared.fault.Fault.{Fault}
-use Rattle.xa_session.specs.declared.fault.Fault.TheVariants.{Overtaken, Full, NoMemory, Busy}
+use Rattle.xa_session.specs.declared.fault.Fault.{Fault, TheVariants.{Overtaken, Full, NoMemory, Busy}}
 
 -- the number of a session's fault, in the order of docs/RATTLE.md#faults-of-a-session
 abbrev pub number_of_fault : Fault → ℕ
@@ -17,6 +14,6 @@ number_of_fault Busy = 4
 
 -- the fault of the same name
 abbrev pub fault_of : AddFault → Fault
-fault_of (IsOvertaken front) = Overtaken front
-fault_of IsFull = Full
-fault_of IsBusy = Busy
+fault_of (AddFault.Overtaken front) = Overtaken front
+fault_of AddFault.Full = Full
+fault_of AddFault.Busy = Busy

@@ -6,12 +6,8 @@
 --     IsLinearized     it serves these sights from a state in which no session has called
 use Rattle.std.specs.Prelude.{◌≡◌, ℕ, List, [], ◌∷◌}
 use Rattle.xa_xid.specs.declared.statement.Statement.{Statement}
-use Rattle.xa_server.specs.State.{State}
-use Rattle.xa_server.specs.Step.{after}
-use Rattle.xa_server.specs.Replies.{reply_to}
-use Rattle.xa_server.specs.declared.reply.Reply.{Reply}
-use Rattle.xa_session.specs.Timed.{Moment, changed}
-use Rattle.xa_session.specs.Timed.{Call as Calls, Return as Returns, Fail as Fails, Log}
+use Rattle.xa_server.specs.{State.State, Step.after, Replies.reply_to, declared.reply.Reply.Reply}
+use Rattle.xa_session.specs.Timed.{Moment, changed, Call as Calls, Return as Returns, Fail as Fails, Log}
 
 -- a session calls for a statement; its call returns a reply, or ends in a fault
 pub data Sight : Type 0 where

@@ -3,10 +3,8 @@
 use Rattle.std.specs.Prelude.{ℕ, List, length}
 use Rattle.xa_words.specs.Entry.{Entry}
 use Rattle.xa_xid.specs.declared.statement.Statement.{Statement}
-use Rattle.xa_server.specs.State.{State}
-use Rattle.xa_server.specs.Replies.{reply_to}
-use Rattle.xa_session.specs.Replay.{state_after}
-use Rattle.xa_session.specs.declared.answer.Answer.{Answer}
+use Rattle.xa_server.specs.{State.State, Replies.reply_to}
+use Rattle.xa_session.specs.{Replay.state_after, declared.answer.Answer.Answer}
 
 -- the answer to a session's statement right after all entries of a history
 abbrev pub answer_now : State → List Entry → ℕ → Statement → Answer

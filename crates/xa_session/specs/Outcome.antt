@@ -4,15 +4,11 @@
 --     Answers          HasAnswered after Ok, HasFailed after Err
 --     Finds            what Answers says, of a replica and of what its pass knew and knows
 use Rattle.std.specs.Prelude.{◌≤◌, ℕ, Bool, Result, Ok, Err}
-use Rattle.decision_log.specs.declared.known.Known.{Known}
-use Rattle.decision_log.specs.declared.log.DecisionLog.{Ghosts as LogOf}
+use Rattle.decision_log.specs.declared.{known.Known.Known, log.DecisionLog.Ghosts as LogOf}
 use Rattle.xa_xid.specs.declared.statement.Statement.{Statement}
 use Rattle.xa_server.specs.State.{State}
-use Rattle.xa_session.specs.Answer.{IsAnswered, Fails, IsKept, FullAfter, WantsMemory}
-use Rattle.xa_session.specs.declared.answer.Answer.{Answer}
-use Rattle.xa_session.specs.declared.fault.Fault.{Fault}
-use Rattle.xa_session.specs.declared.replica.Replica.{Replica}
-use Rattle.xa_session.specs.declared.session.Session.{Session}
+use Rattle.xa_session.specs.{Answer.{IsAnswered, Fails, IsKept, FullAfter, WantsMemory}, declared.answer.Answer.Answer}
+use Rattle.xa_session.specs.declared.{fault.Fault.Fault, replica.Replica.Replica, session.Session.Session}
 
 -- the statement was answered as `IsAnswered` says; the replica has replayed at least the entries before the answer's
 -- place, and all that is seen unless carrying the statement out may take memory

@@ -6,8 +6,7 @@
 use Rattle.std.specs.Prelude.{◌≡◌, ◌≤◌, ℕ, List, length, map, take}
 use Rattle.xa_words.specs.Entry.{Entry}
 use Rattle.xa_xid.specs.declared.statement.Statement.{Statement}
-use Rattle.xa_server.specs.State.{State}
-use Rattle.xa_server.specs.Step.{after_all}
+use Rattle.xa_server.specs.{State.State, Step.after_all}
 use Rattle.xa_session.specs.declared.replica.Replica.{Replica}
 
 -- an entry's session number and its statement

@@ -11,10 +11,8 @@
 use Rattle.std.specs.Prelude.{◌≡◌, ℕ, ◌+◌, ◌==◌, cond, Option, Some, None, List, [], ◌∷◌}
 use Rattle.xa_xid.specs.declared.statement.Statement.{Statement}
 use Rattle.xa_server.specs.State.{State}
-use Rattle.decision_log.specs.Machine.{Machine, Event, Look, Add, Happens}
-use Rattle.decision_log.specs.declared.known.Known.{Known}
-use Rattle.xa_session.specs.Answer.{entry_of, IsAnswered, IsUnanswered}
-use Rattle.xa_session.specs.declared.answer.Answer.{Answer}
+use Rattle.decision_log.specs.{Machine.{Machine, Event, Look, Add, Happens}, declared.known.Known.Known}
+use Rattle.xa_session.specs.{Answer.{entry_of, IsAnswered, IsUnanswered}, declared.answer.Answer.Answer}
 
 -- a session calls for a statement; its call returns an answer, or ends in a fault; or the log machine goes on, by a
 -- look or an append

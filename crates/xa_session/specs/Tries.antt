@@ -5,9 +5,7 @@
 --     Leaves           how much the replica has replayed, or that the look came last, by an attempt's fault
 use Rattle.std.specs.Prelude.{◌≡◌, ◌<◌, ◌≤◌, ◌+◌, length, Result, IfErr}
 use Rattle.decision_log.specs.declared.known.Known.{Known}
-use Rattle.xa_session.specs.declared.answer.Answer.{Answer}
-use Rattle.xa_session.specs.declared.replica.Replica.{Replica}
-use Rattle.xa_session.specs.declared.fault.Fault.{Fault}
+use Rattle.xa_session.specs.declared.{answer.Answer.Answer, replica.Replica.Replica, fault.Fault.Fault}
 use Rattle.xa_session.specs.declared.fault.Fault.TheVariants.{Overtaken, Full, NoMemory, Busy}
 
 -- an attempt without an answer has tried to append once at Overtaken and Busy, and not at Full and NoMemory

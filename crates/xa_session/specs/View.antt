@@ -10,11 +10,8 @@
 --     TakesBy          how many are left after a result
 use Rattle.std.specs.Prelude.{◌≡◌, ◌≤◌, ◌+◌, ◌⊎◌, ℕ, Bool, true, List, Option, Some, None, Result, Ok, Err}
 use Rattle.xa_server.specs.State.{State}
-use Rattle.decision_log.specs.Known.{LogIdentity}
-use Rattle.decision_log.specs.declared.known.Known.{Known}
-use Rattle.xa_session.specs.declared.answer.Answer.{Answer}
-use Rattle.xa_session.specs.declared.fault.Fault.{Fault}
-use Rattle.xa_session.specs.declared.fault.Fault.TheVariants.{NoMemory}
+use Rattle.decision_log.specs.{Known.LogIdentity, declared.known.Known.Known}
+use Rattle.xa_session.specs.declared.{answer.Answer.Answer, fault.Fault.{Fault, TheVariants.NoMemory}}
 
 -- a session, as contracts see it: its log, and whether that has turns; the state in which its history begins; what it
 -- knows, and what other sessions of the same value know; how many more statements it takes, or None if they aren't

@@ -1,8 +1,6 @@
 //! A single attempt to answer a statement.
 ghost use Rattle.std.specs.Prelude.{◌≡◌, IfErr};
-ghost use Rattle.xa_session.specs.Outcome.{Answers};
-ghost use Rattle.xa_session.specs.Stays.{Stays};
-ghost use Rattle.xa_session.specs.Tries.{TriesOnce, Leaves};
+ghost use Rattle.xa_session.specs.{Outcome.Answers, Stays.Stays, Tries.{TriesOnce, Leaves}};
 
 use crate::{Answer, Fault, Session};
 use decision_log::DecisionLog;

@@ -2,9 +2,7 @@
 ghost use Rattle.std.specs.Prelude.{◌≡◌, ◌<◌, ℕ, IfOk, IfErr, OnErr};
 ghost use Rattle.xa_server.specs.declared.reply.Reply.TheVariants.{Ok as Accepted};
 ghost use Rattle.xa_xid.specs.declared.statement.Statement.TheVariants.{Disconnect};
-ghost use Rattle.xa_session.specs.Answer.{IsAnswered, IsFinal};
-ghost use Rattle.xa_session.specs.Outcome.{Answers, HasFailed};
-ghost use Rattle.xa_session.specs.Stays.{Stays};
+ghost use Rattle.xa_session.specs.{Answer.{IsAnswered, IsFinal}, Outcome.{Answers, HasFailed}, Stays.Stays};
 ghost use Rattle.xa_session.specs.Tries.{LooksLast};
 
 use crate::{Answer, Fault, Session};

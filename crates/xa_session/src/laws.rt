@@ -1,17 +1,11 @@
 //! Laws of runs in time: contracts over definitions only.
 ghost use Rattle.std.specs.Prelude.{◌≡◌, ◌<◌, ℕ, List, [], ◌∷◌, None, length, true, false};
 ghost use Rattle.xa_xid.specs.declared.statement.Statement.{Statement};
-ghost use Rattle.xa_server.specs.State.{State};
-ghost use Rattle.xa_server.specs.declared.reply.Reply.{Reply};
-ghost use Rattle.xa_server.specs.Replies.{reply_to};
-ghost use Rattle.xa_server.specs.Step.{after, enters};
+ghost use Rattle.xa_server.specs.{State.State, declared.reply.Reply.Reply, Replies.reply_to, Step.{after, enters}};
 ghost use Rattle.decision_log.specs.Machine.{IsState, Look, Add};
-ghost use Rattle.xa_session.specs.Replay.{state_after};
-ghost use Rattle.xa_session.specs.Answer.{entry_of};
-ghost use Rattle.xa_session.specs.Met.{answer_now};
-ghost use Rattle.xa_session.specs.Timed.{Moment, Call, Return, Log, Stage, Passes};
+ghost use Rattle.xa_session.specs.{Replay.state_after, Answer.entry_of, Met.answer_now};
+ghost use Rattle.xa_session.specs.{Timed.{Moment, Call, Return, Log, Stage, Passes}, Loose.LooselyPasses};
 ghost use Rattle.xa_session.specs.Linear.{Call as Calls, Return as Returns, Fail as Fails, Sight, IsLinearized, sights};
-ghost use Rattle.xa_session.specs.Loose.{LooselyPasses};
 
 /// States that every run of the log machine whose calls end as the session theorem says is linearizable.
 ///

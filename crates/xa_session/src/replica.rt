@@ -1,12 +1,8 @@
 //! A session's own server.
 ghost use Rattle.std.specs.Prelude.{◌≡◌, ◌<◌, ◌+◌, ◌^◌, true, false, List, slice_get, Some, IfOk, OnOk, OnErr};
 ghost use Rattle.xa_words.specs.Entry.{Entry as EntryValue};
-ghost use Rattle.xa_server.specs.State.{State};
-ghost use Rattle.xa_server.specs.Replies.{reply_to};
-ghost use Rattle.xa_server.specs.Step.{is_refused, may_take_memory};
-ghost use Rattle.xa_session.specs.Answer.{entry_of};
-ghost use Rattle.xa_session.specs.Replay.{Stands};
-ghost use Rattle.xa_session.specs.Replays.{ReplaysOne};
+ghost use Rattle.xa_server.specs.{State.State, Replies.reply_to, Step.{is_refused, may_take_memory}};
+ghost use Rattle.xa_session.specs.{Answer.entry_of, Replay.Stands, Replays.ReplaysOne};
 
 use xa_server::Server;
 use xa_words::Entry;

@@ -7,10 +7,7 @@
 ghost use Rattle.std.specs.Prelude.{◌≡◌, ◌⊎◌, ◌<◌, ◌≤◌, ◌^◌, true, length, slice_get, Some, IfOk, IfErr, OnOk, OnErr};
 ghost use Rattle.decision_log.specs.Calls.{Looked, Adds};
 ghost use Rattle.xa_server.specs.Step.{enters, may_take_memory};
-ghost use Rattle.xa_session.specs.Answer.{entry_of};
-ghost use Rattle.xa_session.specs.Outcome.{Finds};
-ghost use Rattle.xa_session.specs.Replay.{Stands};
-ghost use Rattle.xa_session.specs.Replays.{ReplaysOne, CatchesUp};
+ghost use Rattle.xa_session.specs.{Answer.entry_of, Outcome.Finds, Replay.Stands, Replays.{ReplaysOne, CatchesUp}};
 ghost use Rattle.xa_session.specs.Tries.{TriesOnce, Leaves};
 
 use crate::{Answer, Fault, Replica};

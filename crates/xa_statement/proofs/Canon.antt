@@ -1,40 +1,27 @@
 -- The canonical text of a statement spells that statement.
 use Rattle.std.proofs.Common.{◌≡◌, ℕ, ◌^◌, ◌<◌, ◌≤◌, Bool, true, false, ◌||◌, nat_lt, List, [], ◌∷◌, ◌++◌, length}
-use Rattle.std.proofs.Common.{codes, decimal, is_none, Option, Some, None}
-use Rattle.std.proofs.Common.{Ok, refl, sym, ◌∙◌, ap, arith}
-use Rattle.std.proofs.lemmas.Bool.{agree_below_at, ne_eqb, le-ltb, true≢false}
-use Rattle.std.proofs.lemmas.List.{append-nil}
-use Rattle.std.proofs.lemmas.Fmt.{decimal_is_IsNumeral}
-use Rattle.std.specs.Str.Parse.{IsNumeral}
+use Rattle.std.proofs.Common.{codes, decimal, is_none, Option, Some, None, Ok, refl, sym, ◌∙◌, ap, arith}
+use Rattle.std.proofs.lemmas.{Bool.{agree_below_at, ne_eqb, le-ltb, true≢false}, List.append-nil}
+use Rattle.std.{proofs.lemmas.Fmt.decimal_is_IsNumeral, specs.Str.Parse.IsNumeral}
 use Rattle.hex.specs.Hex.{IsBytes, encode_lower}
-use Rattle.xa_xid.specs.Bytes.{belongs, front, behind, run, after_run, unblank, StartsNo}
-use Rattle.xa_xid.specs.Literal.{literal_ahead}
-use Rattle.xa_xid.specs.Number.{number_ahead}
-use Rattle.xa_xid.specs.Xid.{Text}
-use Rattle.xa_xid.specs.XidText.{IsWritable, part_text, xid_text}
-use Rattle.xa_xid.specs.declared.byte_class.ByteClass.TheVariants.{Word as word_byte}
-use Rattle.xa_xid.specs.declared.xid.Xid.{Xid}
+use Rattle.xa_xid.specs.{Bytes.{belongs, front, behind, run, after_run, unblank, StartsNo}, Literal.literal_ahead}
+use Rattle.xa_xid.specs.{Number.number_ahead, Xid.Text, XidText.{IsWritable, part_text, xid_text}}
+use Rattle.xa_xid.specs.declared.{byte_class.ByteClass.TheVariants.Word as word_byte, xid.Xid.Xid}
 use Rattle.xa_xid.specs.declared.statement.Statement.TheVariants.{Start, End, Prepare, Commit, Rollback, Recover, Get}
-use Rattle.xa_xid.specs.declared.statement.Statement.TheVariants.{Put, Del, Disconnect}
-use Rattle.xa_xid.proofs.Written.{Passes, front-append, behind-append, part_back, part_word, number_back, decimal_word}
-use Rattle.xa_xid.proofs.Written.{part_unblank, number_unblank}
-use Rattle.xa_xid.proofs.Written.{xid_text-append, comma_no_word, decimal_byte}
-use Rattle.xa_statement.specs.declared.token.Keyword.{Keyword}
-use Rattle.xa_statement.specs.declared.token.Keyword.TheVariants.{Xa as XA, Start as START, End as END}
+use Rattle.xa_xid.{specs.declared.statement.Statement.TheVariants.{Put, Del, Disconnect}, proofs.Written.Passes}
+use Rattle.xa_xid.proofs.Written.{front-append, behind-append, part_back, part_word, number_back, decimal_word}
+use Rattle.xa_xid.proofs.Written.{part_unblank, number_unblank, xid_text-append, comma_no_word, decimal_byte}
+use Rattle.xa_statement.specs.declared.token.Keyword.{Keyword, TheVariants.{Xa as XA, Start as START, End as END}}
 use Rattle.xa_statement.specs.declared.token.Keyword.TheVariants.{Prepare as PREPARE, Commit as COMMIT}
 use Rattle.xa_statement.specs.declared.token.Keyword.TheVariants.{Rollback as ROLLBACK, Recover as RECOVER, One as ONE}
-use Rattle.xa_statement.specs.declared.token.Keyword.TheVariants.{Phase as PHASE, Convert as CONVERT}
-use Rattle.xa_statement.specs.declared.token.Keyword.TheVariants.{Xid as XID, Get as GET, Put as PUT, Del as DEL}
-use Rattle.xa_statement.specs.declared.token.Keyword.TheVariants.{Disconnect as DISCONNECT}
-use Rattle.xa_statement.specs.declared.token.Token.{Token}
-use Rattle.xa_statement.specs.declared.token.Token.TheVariants.{Word, Comma, Value}
-use Rattle.xa_statement.specs.Canonical.{statement_text, IsKey}
+use Rattle.xa_statement.specs.declared.token.Keyword.TheVariants.{Phase as PHASE, Convert as CONVERT, Xid as XID}
+use Rattle.xa_statement.specs.declared.token.Keyword.TheVariants.{Get as GET, Put as PUT, Del as DEL}
+use Rattle.xa_statement.specs.declared.token.{Keyword.TheVariants.Disconnect as DISCONNECT, Token.Token}
+use Rattle.xa_statement.specs.{declared.token.Token.TheVariants.{Word, Comma, Value}, Canonical.{statement_text, IsKey}}
 use Rattle.xa_statement.specs.Grammar.{XidTokens, gtrid_bqual_format, is_start, start, end, prepare, commit, commit_one}
-use Rattle.xa_statement.specs.Grammar.{rollback, recover, recover_convert}
-use Rattle.xa_statement.specs.Grammar.{get, put, del, disconnect, bare_row, Spells}
+use Rattle.xa_statement.specs.Grammar.{rollback, recover, recover_convert, get, put, del, disconnect, bare_row, Spells}
 use Rattle.xa_statement.specs.Token.{is_word, statement_word, clause_word, keyword_of, part_of, run_token, run_at}
-use Rattle.xa_statement.specs.Token.{quoted_piece, opens_quoted, token_at, pieces}
-use Rattle.xa_statement.specs.Token.{tokens_of, bare}
+use Rattle.xa_statement.specs.Token.{quoted_piece, opens_quoted, token_at, pieces, tokens_of, bare}
 use Rattle.xa_statement.proofs.Pieces.{IsUnblank, first_token, tokens-unblank, pieces-nil}
 
 -- the tokens of a text are its first token and those behind it

@@ -1,26 +1,16 @@
 -- The reading against the grammar, both ways. It knows the grammar by what the machine's states lead to alone.
 use Rattle.std.proofs.Common.{◌≡◌, ℕ, ◌+◌, ◌-◌, ◌≤◌, zero, suc, List, [], ◌∷◌, ◌++◌, length, Option, Some, None, Result}
-use Rattle.std.proofs.Common.{Ok, Err, IfOk, IfErr, ◌⊎◌, inl, inr}
-use Rattle.std.proofs.Common.{refl, sym, ◌∙◌, ap, arith}
-use Rattle.std.proofs.Math.Nat.{le_refl}
+use Rattle.std.proofs.{Common.{Ok, Err, IfOk, IfErr, ◌⊎◌, inl, inr, refl, sym, ◌∙◌, ap, arith}, Math.Nat.le_refl}
 use Rattle.std.proofs.lemmas.List.{append-nil}
-use Rattle.xa_xid.specs.Bytes.{belongs, unblank}
-use Rattle.xa_xid.specs.declared.byte_class.ByteClass.TheVariants.{Blank as blank_byte}
-use Rattle.xa_xid.specs.declared.statement.Statement.{Statement}
-use Rattle.xa_xid.proofs.Shorter.{behind-short}
-use Rattle.xa_statement.specs.declared.state.State.{State}
-use Rattle.xa_statement.specs.declared.state.State.TheVariants.{AtFirst}
-use Rattle.xa_statement.specs.declared.syntax_fault.SyntaxFault.{SyntaxFault}
-use Rattle.xa_statement.specs.declared.token.Token.{Token}
-use Rattle.xa_statement.specs.FaultPlace.{FaultAt, at_token, at_end}
-use Rattle.xa_statement.specs.Grammar.{Spells, MayGoOn}
-use Rattle.xa_statement.specs.Machine.{after_token, finish}
-use Rattle.xa_statement.specs.Reading.{read_from, read_end, placed_in, read_of, seen_of}
+use Rattle.xa_xid.specs.{Bytes.{belongs, unblank}, declared.byte_class.ByteClass.TheVariants.Blank as blank_byte}
+use Rattle.xa_xid.{specs.declared.statement.Statement.Statement, proofs.Shorter.behind-short}
+use Rattle.xa_statement.specs.declared.{state.State.{State, TheVariants.AtFirst}, syntax_fault.SyntaxFault.SyntaxFault}
+use Rattle.xa_statement.specs.{declared.token.Token.Token, FaultPlace.{FaultAt, at_token, at_end}}
+use Rattle.xa_statement.specs.{Grammar.{Spells, MayGoOn}, Machine.{after_token, finish}}
+use Rattle.xa_statement.{specs.Reading.{read_from, read_end, placed_in, read_of, seen_of}, proofs.Fronts.{Front, next}}
 use Rattle.xa_statement.specs.Token.{Piece, pieces, tokens_of, first_piece, token_at, bare}
-use Rattle.xa_statement.proofs.Fronts.{Front, next}
-use Rattle.xa_statement.proofs.Pieces.{token-short, go_on}
+use Rattle.xa_statement.proofs.{Pieces.{token-short, go_on}, Viable.{said, reach, goes_on, viable, stuck, none_is_some}}
 use Rattle.xa_statement.proofs.Run.{from_next, read_from-cons, read_from-nil, read_from-stop}
-use Rattle.xa_statement.proofs.Viable.{said, reach, goes_on, viable, stuck, none_is_some}
 use Rattle.xa_statement.proofs.Walk.{walk, walk_on, walk-nil, walk-cons, answer, said_read}
 
 -- the tokens of two lists of pieces, one behind the other, are the tokens of each

@@ -1,47 +1,34 @@
 -- The tokens that lead to each state, and that one token more leads to a state with that token behind them.
 use Rattle.std.proofs.Common.{◌≡◌, ◌<◌, ℕ, length, arith, List, [], ◌∷◌, ◌++◌, append_assoc, Option, Some, None, refl}
 use Rattle.std.proofs.Common.{◌∙◌, ap}
-use Rattle.xa_xid.specs.Xid.{Text}
-use Rattle.xa_xid.specs.XidText.{xid_of, no_text}
-use Rattle.xa_xid.specs.declared.xid.Xid.{Xid}
-use Rattle.xa_xid.specs.declared.statement.Statement.{Statement}
-use Rattle.xa_xid.specs.declared.statement.Statement.TheVariants.{Put}
-use Rattle.xa_statement.specs.declared.token.Keyword.{Keyword}
-use Rattle.xa_statement.specs.declared.token.Keyword.TheVariants.{Xa as XA, Start as START, Begin as BEGIN, End as END}
-use Rattle.xa_statement.specs.declared.token.Keyword.TheVariants.{Prepare as PREPARE, Commit as COMMIT}
+use Rattle.xa_xid.specs.{Xid.Text, XidText.{xid_of, no_text}, declared.{xid.Xid.Xid, statement.Statement.Statement}}
+use Rattle.xa_statement.specs.declared.token.Keyword.{Keyword, TheVariants.{Xa as XA, Start as START, Begin as BEGIN}}
+use Rattle.xa_statement.specs.declared.token.Keyword.TheVariants.{End as END, Prepare as PREPARE, Commit as COMMIT}
 use Rattle.xa_statement.specs.declared.token.Keyword.TheVariants.{Rollback as ROLLBACK, Recover as RECOVER}
 use Rattle.xa_statement.specs.declared.token.Keyword.TheVariants.{Join as JOIN, Resume as RESUME, Suspend as SUSPEND}
 use Rattle.xa_statement.specs.declared.token.Keyword.TheVariants.{For as FOR, Migrate as MIGRATE, One as ONE}
 use Rattle.xa_statement.specs.declared.token.Keyword.TheVariants.{Phase as PHASE, Convert as CONVERT, Xid as XID}
 use Rattle.xa_statement.specs.declared.token.Keyword.TheVariants.{Get as GET, Put as PUT, Del as DEL}
-use Rattle.xa_statement.specs.declared.token.Keyword.TheVariants.{Disconnect as DISCONNECT}
-use Rattle.xa_statement.specs.declared.token.Token.{Token}
-use Rattle.xa_statement.specs.declared.token.Token.TheVariants.{Word, Comma, Semicolon, Value}
-use Rattle.xa_statement.specs.declared.state.Verb.{Verb}
-use Rattle.xa_statement.specs.declared.state.Verb.TheVariants.{Starts, Ends, Prepares, Commits, RollsBack}
-use Rattle.xa_statement.specs.declared.state.RowVerb.{RowVerb}
-use Rattle.xa_statement.specs.declared.state.RowVerb.TheVariants.{Gets, Puts, Deletes}
-use Rattle.xa_statement.specs.declared.state.State.{State}
+use Rattle.xa_statement.specs.declared.token.{Keyword.TheVariants.Disconnect as DISCONNECT, Token.Token}
+use Rattle.xa_statement.specs.declared.{token.Token.TheVariants.{Word, Comma, Semicolon, Value}, state.Verb.Verb}
+use Rattle.xa_statement.specs.declared.state.{RowVerb.{RowVerb, TheVariants.{Gets, Puts, Deletes}}, State.State}
 use Rattle.xa_statement.specs.declared.state.State.TheVariants.{AtFirst, AfterXa, WantsGtrid, AfterGtrid, WantsBqual}
-use Rattle.xa_statement.specs.declared.state.State.TheVariants.{AfterBqual, WantsFormatId, AfterXid}
-use Rattle.xa_statement.specs.declared.state.State.TheVariants.{AfterSuspend, AfterFor, AfterOne, AfterRecover}
-use Rattle.xa_statement.specs.declared.state.State.TheVariants.{AfterConvert, WantsKey, AfterKey, WantsValue}
-use Rattle.xa_statement.specs.declared.state.State.TheVariants.{Whole, Ended}
+use Rattle.xa_statement.specs.declared.state.State.TheVariants.{AfterBqual, WantsFormatId, AfterXid, AfterSuspend}
+use Rattle.xa_statement.specs.declared.state.State.TheVariants.{AfterFor, AfterOne, AfterRecover, AfterConvert}
+use Rattle.xa_statement.specs.declared.state.State.TheVariants.{WantsKey, AfterKey, WantsValue, Whole, Ended}
 use Rattle.xa_statement.specs.Grammar.{XidTokens, gtrid, gtrid_bqual, gtrid_bqual_format, StartWord, is_start, is_begin}
-use Rattle.xa_statement.specs.Grammar.{is_join, is_resume, Row, start}
-use Rattle.xa_statement.specs.Grammar.{start_clause, end, end_suspend, end_suspend_for, prepare, commit, commit_one}
-use Rattle.xa_statement.specs.Grammar.{rollback, recover, recover_convert, get}
-use Rattle.xa_statement.specs.Grammar.{put, del, disconnect, Says, ended_row}
-use Rattle.xa_statement.specs.Machine.{after_token, unended, ended, statement_of, xid_word, key_state, after_word}
-use Rattle.xa_statement.specs.Machine.{after_comma, after_value}
+use Rattle.xa_statement.specs.Grammar.{is_join, is_resume, Row, start, start_clause, end, end_suspend, end_suspend_for}
+use Rattle.xa_statement.specs.Grammar.{prepare, commit, commit_one, rollback, recover, recover_convert, get, put, del}
+use Rattle.xa_statement.specs.{Grammar.{disconnect, Says, ended_row}, Machine.{after_token, unended, ended}}
+use Rattle.xa_statement.specs.Machine.{statement_of, xid_word, key_state, after_word, after_comma, after_value}
 
 -- the word leads to the verb
 abbrev pub VerbWord : Verb → Keyword → Type 0
-VerbWord Starts word = StartWord word
-VerbWord Ends word = word ≡ END
-VerbWord Prepares word = word ≡ PREPARE
-VerbWord Commits word = word ≡ COMMIT
-VerbWord RollsBack word = word ≡ ROLLBACK
+VerbWord Verb.Starts word = StartWord word
+VerbWord Verb.Ends word = word ≡ END
+VerbWord Verb.Prepares word = word ≡ PREPARE
+VerbWord Verb.Commits word = word ≡ COMMIT
+VerbWord Verb.RollsBack word = word ≡ ROLLBACK
 
 -- the word that leads to a verb of a row
 abbrev pub row_word : RowVerb → Keyword
@@ -139,16 +126,16 @@ key_more key tail tokens token k = record {
 -- a word behind a whole identifier leads, if anywhere, to a state whose tokens are those before, and the word
 xid_next : (verb : Verb) (xid : Xid) (word : Keyword) (tokens : List Token) → XidOf verb xid tokens
     → FrontOf (xid_word verb xid word) (tokens ++ Word word ∷ [])
-xid_next Starts xid JOIN tokens f = rw f.before.same (start_clause f.before.is f.form is_join)
-xid_next Starts xid RESUME tokens f = rw f.before.same (start_clause f.before.is f.form is_resume)
-xid_next Ends xid SUSPEND tokens f = record {
+xid_next Verb.Starts xid JOIN tokens f = rw f.before.same (start_clause f.before.is f.form is_join)
+xid_next Verb.Starts xid RESUME tokens f = rw f.before.same (start_clause f.before.is f.form is_resume)
+xid_next Verb.Ends xid SUSPEND tokens f = record {
   x = f.x;
   xid = xid;
   form = f.form;
   same = ap (λ ts. ts ++ Word SUSPEND ∷ []) f.before.same
       ∙ ap (λ w. Word XA ∷ Word w ∷ (f.x ++ Word SUSPEND ∷ [])) f.before.is;
 }
-xid_next Commits xid ONE tokens f = record {
+xid_next Verb.Commits xid ONE tokens f = record {
   x = f.x;
   form = f.form;
   same = ap (λ ts. ts ++ Word ONE ∷ []) f.before.same ∙ ap (λ w. Word XA ∷ Word w ∷ (f.x ++ Word ONE ∷ [])) f.before.is;
@@ -234,7 +221,7 @@ key_next Deletes text number tokens (byte ∷ bytes) e f =
 -- PUT with a key that isn't empty, a comma and a value is a row of the grammar
 put_row : (key : List ℕ) (text value : Text) (m n : Option ℕ) (tokens : List Token) → 0 < length text.items
     → key ≡ text.items
-    → tokens ≡ Word PUT ∷ Value (Some text) m ∷ Comma ∷ Value (Some value) n ∷ [] → Row tokens (Put key value)
+    → tokens ≡ Word PUT ∷ Value (Some text) m ∷ Comma ∷ Value (Some value) n ∷ [] → Row tokens (Statement.Put key value)
 put_row key text value m n tokens some e same = rw (same, e) (put text value m n some)
 
 -- a value leads, if anywhere, to a state whose tokens are those before, and the value
@@ -262,11 +249,11 @@ RowOf (Some statement) tokens = Row tokens statement
 
 -- a verb with an identifier is a row of the grammar
 xid_row : (verb : Verb) (xid : Xid) (tokens : List Token) → XidOf verb xid tokens → Row tokens (statement_of verb xid)
-xid_row Starts xid tokens f = rw f.before.same (start f.before.is f.form)
-xid_row Ends xid tokens f = rw (f.before.same, f.before.is) (end f.form)
-xid_row Prepares xid tokens f = rw (f.before.same, f.before.is) (prepare f.form)
-xid_row Commits xid tokens f = rw (f.before.same, f.before.is) (commit f.form)
-xid_row RollsBack xid tokens f = rw (f.before.same, f.before.is) (rollback f.form)
+xid_row Verb.Starts xid tokens f = rw f.before.same (start f.before.is f.form)
+xid_row Verb.Ends xid tokens f = rw (f.before.same, f.before.is) (end f.form)
+xid_row Verb.Prepares xid tokens f = rw (f.before.same, f.before.is) (prepare f.form)
+xid_row Verb.Commits xid tokens f = rw (f.before.same, f.before.is) (commit f.form)
+xid_row Verb.RollsBack xid tokens f = rw (f.before.same, f.before.is) (rollback f.form)
 
 -- tokens that lead to a state which is a whole statement are that statement's row
 pub row_of : (state : State) (tokens : List Token) → Front state tokens → RowOf (unended state) tokens

@@ -1,19 +1,13 @@
 -- The tokens of a text, one after another.
 use Rattle.std.proofs.Common.{◌≡◌, ℕ, ◌≤◌, ◌<◌, zero, suc, Bool, true, false, ◌==◌, if◌then◌else◌, List, [], ◌∷◌}
-use Rattle.std.proofs.Common.{length, Option, Some, None, Ok, Err, refl}
-use Rattle.std.proofs.Common.{sym, ◌∙◌, ap, arith}
-use Rattle.std.proofs.Math.Nat.{le_refl}
+use Rattle.std.proofs.{Common.{length, Option, Some, None, Ok, Err, refl, sym, ◌∙◌, ap, arith}, Math.Nat.le_refl}
 use Rattle.std.proofs.lemmas.Bool.{cond_both}
-use Rattle.xa_xid.specs.Bytes.{belongs, behind, unblank}
-use Rattle.xa_xid.specs.Literal.{Reading, literal_ahead}
-use Rattle.xa_xid.specs.Xid.{Text}
+use Rattle.xa_xid.specs.{Bytes.{belongs, behind, unblank}, Literal.{Reading, literal_ahead}, Xid.Text}
 use Rattle.xa_xid.specs.declared.byte_class.ByteClass.TheVariants.{Word as word_byte, Blank as blank_byte}
 use Rattle.xa_xid.proofs.Cuts.{behind-passes, behind-stops, behind-nil}
 use Rattle.xa_xid.proofs.Shorter.{behind-short, ShortReading, literal-short}
-use Rattle.xa_statement.specs.declared.token.Token.{Token}
-use Rattle.xa_statement.specs.declared.token.Token.TheVariants.{Comma, Semicolon, Value}
-use Rattle.xa_statement.specs.Token.{token_at, quoted_piece, run_at, opens_quoted, pieces, tokens_of, first_piece}
-use Rattle.xa_statement.specs.Token.{Piece}
+use Rattle.xa_statement.specs.{declared.token.Token.{Token, TheVariants.{Comma, Semicolon, Value}}, Token.token_at}
+use Rattle.xa_statement.specs.Token.{quoted_piece, run_at, opens_quoted, pieces, tokens_of, first_piece, Piece}
 
 -- what is left behind a token is at most so long
 abbrev Leaves : ℕ → Token × List ℕ → Type 0

@@ -1,15 +1,9 @@
 -- A statement read token by token, while the rest of the text gets shorter.
 use Rattle.std.proofs.Common.{◌≡◌, ℕ, ◌≤◌, ◌<◌, ◌-◌, List, [], ◌∷◌, length, Option, Some, None, Result, Err, ok_or}
-use Rattle.std.proofs.Common.{true, false, ◌==◌, refl, sym, ◌∙◌, ap}
-use Rattle.std.proofs.Common.{arith}
-use Rattle.std.proofs.lemmas.Bool.{eqb-true, eqb-false}
-use Rattle.xa_xid.specs.Bytes.{belongs, unblank}
-use Rattle.xa_xid.specs.declared.byte_class.ByteClass.TheVariants.{Blank as blank_byte}
-use Rattle.xa_xid.specs.declared.statement.Statement.{Statement}
-use Rattle.xa_xid.proofs.Shorter.{behind-short}
-use Rattle.xa_statement.specs.declared.state.State.{State}
-use Rattle.xa_statement.specs.declared.state.State.TheVariants.{AtFirst}
-use Rattle.xa_statement.specs.Machine.{after_token, finish}
+use Rattle.std.proofs.{Common.{true, false, ◌==◌, refl, sym, ◌∙◌, ap, arith}, lemmas.Bool.{eqb-true, eqb-false}}
+use Rattle.xa_xid.specs.{Bytes.{belongs, unblank}, declared.byte_class.ByteClass.TheVariants.Blank as blank_byte}
+use Rattle.xa_xid.{specs.declared.statement.Statement.Statement, proofs.Shorter.behind-short}
+use Rattle.xa_statement.specs.{declared.state.State.{State, TheVariants.AtFirst}, Machine.{after_token, finish}}
 use Rattle.xa_statement.specs.Reading.{read_from, read_end, placed_in, read_of, seen_of}
 use Rattle.xa_statement.specs.Token.{Piece, token_at, tokens_of}
 use Rattle.xa_statement.proofs.Pieces.{IsUnblank, unblank-unblank, first_token, tokens-unblank, token-short, pieces-nil}

@@ -1,28 +1,16 @@
 -- Each state can still become a statement; and where the machine has no state, no statement begins so.
 use Rattle.std.proofs.Common.{◌≡◌, true, false, List, [], ◌∷◌, ◌++◌, append_assoc, Option, Some, None, refl, sym, ◌∙◌}
-use Rattle.std.proofs.Common.{ap}
-use Rattle.std.proofs.lemmas.List.{append-nil}
-use Rattle.xa_xid.specs.Xid.{Text}
-use Rattle.xa_xid.specs.XidText.{xid_of, no_text}
-use Rattle.xa_xid.specs.declared.statement.Statement.{Statement}
-use Rattle.xa_xid.specs.declared.statement.Statement.TheVariants.{Commit, Recover, Unsupported, Get, Put, Del}
-use Rattle.xa_xid.specs.declared.statement.Statement.TheVariants.{Disconnect}
-use Rattle.xa_statement.specs.declared.token.Keyword.TheVariants.{Recover as RECOVER, Migrate as MIGRATE}
-use Rattle.xa_statement.specs.declared.token.Keyword.TheVariants.{Phase as PHASE, Xid as XID, Disconnect as DISCONNECT}
-use Rattle.xa_statement.specs.declared.token.Token.{Token}
-use Rattle.xa_statement.specs.declared.token.Token.TheVariants.{Word, Comma, Value}
-use Rattle.xa_statement.specs.declared.state.RowVerb.TheVariants.{Gets, Puts, Deletes}
-use Rattle.xa_statement.specs.declared.state.State.{State}
+use Rattle.std.proofs.{Common.ap, lemmas.List.append-nil}
+use Rattle.xa_xid.specs.{Xid.Text, XidText.{xid_of, no_text}, declared.statement.Statement.Statement}
+use Rattle.xa_statement.specs.declared.token.{Keyword.Keyword, Token.{Token, TheVariants.{Word, Comma, Value}}}
+use Rattle.xa_statement.specs.declared.state.{RowVerb.TheVariants.{Gets, Puts, Deletes}, State.State}
 use Rattle.xa_statement.specs.declared.state.State.TheVariants.{AtFirst, AfterXa, WantsGtrid, AfterGtrid, WantsBqual}
-use Rattle.xa_statement.specs.declared.state.State.TheVariants.{AfterBqual, WantsFormatId, AfterXid}
-use Rattle.xa_statement.specs.declared.state.State.TheVariants.{AfterSuspend, AfterFor, AfterOne, AfterRecover}
-use Rattle.xa_statement.specs.declared.state.State.TheVariants.{AfterConvert, WantsKey, AfterKey, WantsValue}
-use Rattle.xa_statement.specs.declared.state.State.TheVariants.{Whole, Ended}
-use Rattle.xa_statement.specs.Grammar.{Says, bare_row, MayGoOn}
-use Rattle.xa_statement.specs.Machine.{after_token, finish, unended, statement_of}
+use Rattle.xa_statement.specs.declared.state.State.TheVariants.{AfterBqual, WantsFormatId, AfterXid, AfterSuspend}
+use Rattle.xa_statement.specs.declared.state.State.TheVariants.{AfterFor, AfterOne, AfterRecover, AfterConvert}
+use Rattle.xa_statement.specs.declared.state.State.TheVariants.{WantsKey, AfterKey, WantsValue, Whole, Ended}
+use Rattle.xa_statement.specs.{Grammar.{Says, bare_row, MayGoOn}, Machine.{after_token, finish, unended, statement_of}}
 use Rattle.xa_statement.proofs.Walk.{walk, walk_on, walk-nil, walk-cons, walk_then, walk-append, walk-stop, answer}
-use Rattle.xa_statement.proofs.Walk.{said_read}
-use Rattle.xa_statement.proofs.Fronts.{Front, FrontOf, RowOf, row_of, next}
+use Rattle.xa_statement.proofs.{Walk.said_read, Fronts.{Front, FrontOf, RowOf, row_of, next}}
 
 -- the step of `reach`: if the tokens behind a token lead, from the state that it led to, to a state whose tokens are
 -- all of them, so do the token and those behind it
@@ -94,8 +82,8 @@ any_key = Value (Some one_byte) None
 -- the tokens that lead to a state may go on to a statement, for each state
 pub goes_on : (state : State) (tokens : List Token) → Front state tokens → MayGoOn tokens
 unfolding walk after_token finish
-goes_on AtFirst ts f = way AtFirst ts (Word DISCONNECT ∷ []) Disconnect refl f
-goes_on AfterXa ts f = way AfterXa ts (Word RECOVER ∷ []) (Recover false) refl f
+goes_on AtFirst ts f = way AtFirst ts (Word Keyword.Disconnect ∷ []) Statement.Disconnect refl f
+goes_on AfterXa ts f = way AfterXa ts (Word Keyword.Recover ∷ []) (Statement.Recover false) refl f
 goes_on (WantsGtrid verb) ts f =
     way (WantsGtrid verb) ts (any_literal ∷ []) (statement_of verb (xid_of no_text no_text 1)) refl f
 goes_on (AfterGtrid verb g) ts f = way (AfterGtrid verb g) ts [] (statement_of verb (xid_of g no_text 1)) refl f
@@ -105,16 +93,17 @@ goes_on (AfterBqual verb g b) ts f = way (AfterBqual verb g b) ts [] (statement_
 goes_on (WantsFormatId verb g b) ts f =
     way (WantsFormatId verb g b) ts (Value None (Some 0) ∷ []) (statement_of verb (xid_of g b 0)) refl f
 goes_on (AfterXid verb xid) ts f = way (AfterXid verb xid) ts [] (statement_of verb xid) refl f
-goes_on AfterSuspend ts f = way AfterSuspend ts [] Unsupported refl f
-goes_on AfterFor ts f = way AfterFor ts (Word MIGRATE ∷ []) Unsupported refl f
-goes_on (AfterOne xid) ts f = way (AfterOne xid) ts (Word PHASE ∷ []) (Commit xid true) refl f
-goes_on AfterRecover ts f = way AfterRecover ts [] (Recover false) refl f
-goes_on AfterConvert ts f = way AfterConvert ts (Word XID ∷ []) (Recover true) refl f
-goes_on (WantsKey Gets) ts f = way (WantsKey Gets) ts (any_key ∷ []) (Get (0 ∷ [])) refl f
-goes_on (WantsKey Puts) ts f = way (WantsKey Puts) ts (any_key ∷ Comma ∷ any_literal ∷ []) (Put (0 ∷ []) no_text) refl f
-goes_on (WantsKey Deletes) ts f = way (WantsKey Deletes) ts (any_key ∷ []) (Del (0 ∷ [])) refl f
-goes_on (AfterKey key) ts f = way (AfterKey key) ts (Comma ∷ any_literal ∷ []) (Put key no_text) refl f
-goes_on (WantsValue key) ts f = way (WantsValue key) ts (any_literal ∷ []) (Put key no_text) refl f
+goes_on AfterSuspend ts f = way AfterSuspend ts [] Statement.Unsupported refl f
+goes_on AfterFor ts f = way AfterFor ts (Word Keyword.Migrate ∷ []) Statement.Unsupported refl f
+goes_on (AfterOne xid) ts f = way (AfterOne xid) ts (Word Keyword.Phase ∷ []) (Statement.Commit xid true) refl f
+goes_on AfterRecover ts f = way AfterRecover ts [] (Statement.Recover false) refl f
+goes_on AfterConvert ts f = way AfterConvert ts (Word Keyword.Xid ∷ []) (Statement.Recover true) refl f
+goes_on (WantsKey Gets) ts f = way (WantsKey Gets) ts (any_key ∷ []) (Statement.Get (0 ∷ [])) refl f
+goes_on (WantsKey Puts) ts f = way (WantsKey Puts) ts (any_key ∷ Comma ∷ any_literal ∷ [])
+    (Statement.Put (0 ∷ []) no_text) refl f
+goes_on (WantsKey Deletes) ts f = way (WantsKey Deletes) ts (any_key ∷ []) (Statement.Del (0 ∷ [])) refl f
+goes_on (AfterKey key) ts f = way (AfterKey key) ts (Comma ∷ any_literal ∷ []) (Statement.Put key no_text) refl f
+goes_on (WantsValue key) ts f = way (WantsValue key) ts (any_literal ∷ []) (Statement.Put key no_text) refl f
 goes_on (Whole statement) ts f = way (Whole statement) ts [] statement refl f
 goes_on (Ended statement) ts f = way (Ended statement) ts [] statement refl f
 

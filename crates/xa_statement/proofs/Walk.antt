@@ -1,31 +1,19 @@
 -- The machine led along tokens, and that it answers each row of the grammar.
 use Rattle.std.proofs.Common.{◌≡◌, ◌<◌, ℕ, length, arith, true, List, [], ◌∷◌, ◌++◌, Option, Some, None, refl, sym, ◌∙◌}
 use Rattle.std.proofs.Common.{ap}
-use Rattle.xa_xid.specs.XidText.{xid_of}
-use Rattle.xa_xid.specs.declared.xid.Xid.{Xid}
-use Rattle.xa_xid.specs.declared.statement.Statement.{Statement}
-use Rattle.xa_xid.specs.declared.statement.Statement.TheVariants.{Commit, Recover, Unsupported, Get, Put, Del}
-use Rattle.xa_xid.specs.declared.statement.Statement.TheVariants.{Disconnect}
-use Rattle.xa_statement.specs.declared.token.Keyword.{Keyword}
-use Rattle.xa_statement.specs.declared.token.Keyword.TheVariants.{Xa as XA, Suspend as SUSPEND, For as FOR}
+use Rattle.xa_xid.specs.{XidText.xid_of, declared.{xid.Xid.Xid, statement.Statement.{Statement, TheVariants.Commit}}}
+use Rattle.xa_xid.specs.declared.statement.Statement.TheVariants.{Recover, Unsupported, Get, Put, Del, Disconnect}
+use Rattle.xa_statement.specs.declared.token.Keyword.{Keyword, TheVariants.{Xa as XA, Suspend as SUSPEND, For as FOR}}
 use Rattle.xa_statement.specs.declared.token.Keyword.TheVariants.{Migrate as MIGRATE, One as ONE, Phase as PHASE}
-use Rattle.xa_statement.specs.declared.token.Token.{Token}
-use Rattle.xa_statement.specs.declared.token.Token.TheVariants.{Word, Semicolon}
-use Rattle.xa_statement.specs.declared.state.Verb.{Verb}
-use Rattle.xa_statement.specs.declared.state.Verb.TheVariants.{Starts, Ends, Prepares, Commits, RollsBack}
-use Rattle.xa_statement.specs.declared.state.RowVerb.{RowVerb}
-use Rattle.xa_statement.specs.declared.state.RowVerb.TheVariants.{Gets, Puts, Deletes}
-use Rattle.xa_statement.specs.declared.state.State.{State}
+use Rattle.xa_statement.specs.declared.{token.Token.{Token, TheVariants.{Word, Semicolon}}, state.Verb.Verb}
+use Rattle.xa_statement.specs.declared.state.{RowVerb.{RowVerb, TheVariants.{Gets, Puts, Deletes}}, State.State}
 use Rattle.xa_statement.specs.declared.state.State.TheVariants.{AtFirst, WantsGtrid, AfterGtrid, AfterBqual, AfterXid}
-use Rattle.xa_statement.specs.declared.state.State.TheVariants.{AfterSuspend, AfterOne, AfterRecover}
-use Rattle.xa_statement.specs.declared.state.State.TheVariants.{Whole, Ended}
+use Rattle.xa_statement.specs.declared.state.State.TheVariants.{AfterSuspend, AfterOne, AfterRecover, Whole, Ended}
 use Rattle.xa_statement.specs.Grammar.{XidTokens, gtrid, gtrid_bqual, gtrid_bqual_format, StartWord, is_start, is_begin}
-use Rattle.xa_statement.specs.Grammar.{JoinWord, is_join, is_resume, Row}
-use Rattle.xa_statement.specs.Grammar.{start, start_clause, end, end_suspend, end_suspend_for, prepare, commit}
-use Rattle.xa_statement.specs.Grammar.{commit_one, rollback, recover, recover_convert}
-use Rattle.xa_statement.specs.Grammar.{get, put, del, disconnect, Says, bare_row, ended_row}
-use Rattle.xa_statement.specs.Machine.{after_token, finish, unended, ended, statement_of, xid_word, key_state}
-use Rattle.xa_statement.specs.Machine.{after_key}
+use Rattle.xa_statement.specs.Grammar.{JoinWord, is_join, is_resume, Row, start, start_clause, end, end_suspend}
+use Rattle.xa_statement.specs.Grammar.{end_suspend_for, prepare, commit, commit_one, rollback, recover, recover_convert}
+use Rattle.xa_statement.specs.{Grammar.{get, put, del, disconnect, Says, bare_row, ended_row}, Machine.after_token}
+use Rattle.xa_statement.specs.Machine.{finish, unended, ended, statement_of, xid_word, key_state, after_key}
 
 -- the state after these tokens, if each leads on
 unfoldable pub walk : State → List Token → Option State
@@ -140,13 +128,13 @@ clause_step verb x more xid word next form e =
 
 -- XA START and XA BEGIN lead to the same state
 start_read : (word : Keyword) (x : List Token) → StartWord word
-    → walk AtFirst (Word XA ∷ Word word ∷ x) ≡ walk (WantsGtrid Starts) x
+    → walk AtFirst (Word XA ∷ Word word ∷ x) ≡ walk (WantsGtrid Verb.Starts) x
 unfolding walk after_token
 start_read _ x is_start = refl
 start_read _ x is_begin = refl
 
 -- JOIN or RESUME behind the identifier of XA START makes a statement that isn't supported
-join_next : (word : Keyword) (xid : Xid) → JoinWord word → xid_word Starts xid word ≡ Some (Whole Unsupported)
+join_next : (word : Keyword) (xid : Xid) → JoinWord word → xid_word Verb.Starts xid word ≡ Some (Whole Unsupported)
 join_next _ xid is_join = refl
 join_next _ xid is_resume = refl
 
@@ -169,20 +157,20 @@ key_next (byte ∷ items) some verb = refl
 -- the tokens of each row of the grammar lead to its statement
 pub row_read : (tokens : List Token) (statement : Statement) → Row tokens statement → RowRead tokens statement
 unfolding walk after_token finish
-row_read _ _ (start {word} {parts = x} {xid} is form) = plain_row Starts _ x xid (start_read word x is) form
+row_read _ _ (start {word} {parts = x} {xid} is form) = plain_row Verb.Starts _ x xid (start_read word x is) form
 row_read _ _ (start_clause {word} {clause} {parts = x} {xid} is form join) =
     whole_row _ Unsupported (start_read word (x ++ Word clause ∷ []) is
-    ∙ clause_step Starts x [] xid clause (Whole Unsupported) form (join_next clause xid join))
-row_read _ _ (end {parts = x} {xid} form) = plain_row Ends _ x xid refl form
+    ∙ clause_step Verb.Starts x [] xid clause (Whole Unsupported) form (join_next clause xid join))
+row_read _ _ (end {parts = x} {xid} form) = plain_row Verb.Ends _ x xid refl form
 row_read _ _ (end_suspend {parts = x} {xid} form) =
-    suspend_row _ (clause_step Ends x [] xid SUSPEND AfterSuspend form refl)
+    suspend_row _ (clause_step Verb.Ends x [] xid SUSPEND AfterSuspend form refl)
 row_read _ _ (end_suspend_for {parts = x} {xid} form) =
-    whole_row _ Unsupported (clause_step Ends x (Word FOR ∷ Word MIGRATE ∷ []) xid SUSPEND AfterSuspend form refl)
-row_read _ _ (prepare {parts = x} {xid} form) = plain_row Prepares _ x xid refl form
-row_read _ _ (commit {parts = x} {xid} form) = plain_row Commits _ x xid refl form
+    whole_row _ Unsupported (clause_step Verb.Ends x (Word FOR ∷ Word MIGRATE ∷ []) xid SUSPEND AfterSuspend form refl)
+row_read _ _ (prepare {parts = x} {xid} form) = plain_row Verb.Prepares _ x xid refl form
+row_read _ _ (commit {parts = x} {xid} form) = plain_row Verb.Commits _ x xid refl form
 row_read _ _ (commit_one {parts = x} {xid} form) =
-    whole_row _ (Commit xid true) (clause_step Commits x (Word PHASE ∷ []) xid ONE (AfterOne xid) form refl)
-row_read _ _ (rollback {parts = x} {xid} form) = plain_row RollsBack _ x xid refl form
+    whole_row _ (Commit xid true) (clause_step Verb.Commits x (Word PHASE ∷ []) xid ONE (AfterOne xid) form refl)
+row_read _ _ (rollback {parts = x} {xid} form) = plain_row Verb.RollsBack _ x xid refl form
 row_read _ _ recover = record { state = AfterRecover; reached = refl; open_end = refl; closed_end = refl }
 row_read _ _ recover_convert = whole_row _ (Recover true) refl
 row_read _ _ (get key m some) = whole_row _ (Get key.items) (rw (key_next key.items some Gets, walk) refl)

@@ -1,37 +1,23 @@
 -- What stands first in a text, and where reading goes from there.
 use Rattle.std.proofs.Common.{◌≡◌, ℕ, ◌+◌, ◌≤◌, ◌<◌, Bool, true, false, ◌==◌, not, if◌then◌else◌, List, [], ◌∷◌, ◌++◌}
-use Rattle.std.proofs.Common.{length, Option, Some, None, Ok, refl}
-use Rattle.std.proofs.Common.{sym, ◌∙◌, ap, arith, IsTrue}
-use Rattle.std.proofs.lemmas.Bool.{eq-eqb, eqb-true, eqb-false}
-use Rattle.std.proofs.lemmas.List.{append-nil}
-use Rattle.xa_xid.specs.Bytes.{front, behind, unblank}
-use Rattle.xa_xid.specs.Literal.{literal_ahead, sized, text_literal_of}
-use Rattle.xa_xid.specs.Quoted.{read_in_quotes, onto}
-use Rattle.xa_xid.specs.Xid.{Text}
-use Rattle.xa_xid.specs.declared.quoted.Mode.TheVariants.{Plain, Quote}
-use Rattle.xa_xid.specs.declared.statement.Statement.{Statement}
-use Rattle.xa_xid.specs.declared.statement.Statement.TheVariants.{Get, Put, Del}
-use Rattle.xa_xid.specs.XidText.{xid_of, no_text}
+use Rattle.std.proofs.Common.{length, Option, Some, None, Ok, refl, sym, ◌∙◌, ap, arith, IsTrue}
+use Rattle.std.proofs.lemmas.{Bool.{eq-eqb, eqb-true, eqb-false}, List.append-nil}
+use Rattle.xa_xid.specs.{Bytes.{front, behind, unblank}, Literal.{literal_ahead, sized, text_literal_of}}
+use Rattle.xa_xid.specs.{Quoted.{read_in_quotes, onto}, Xid.Text, declared.quoted.Mode.TheVariants.{Plain, Quote}}
+use Rattle.xa_xid.specs.declared.statement.Statement.{Statement, TheVariants.{Get, Put, Del}}
+use Rattle.xa_xid.{specs.XidText.{xid_of, no_text}, proofs.Texts.kept-fits}
 use Rattle.xa_xid.proofs.Cuts.{front-passes, front-stops, front-nil, behind-passes, behind-stops, behind-nil}
 use Rattle.xa_xid.proofs.Reading.{plain_quote, plain_byte, quote_closes, quoted-nil-plain, quoted-nil-quote}
-use Rattle.xa_xid.proofs.Texts.{kept-fits}
-use Rattle.xa_statement.specs.declared.state.State.{State}
-use Rattle.xa_statement.specs.declared.state.State.TheVariants.{AtFirst, WantsGtrid, AfterGtrid, WantsBqual, AfterBqual}
-use Rattle.xa_statement.specs.declared.state.State.TheVariants.{WantsFormatId, AfterXid, WantsKey}
-use Rattle.xa_statement.specs.declared.state.State.TheVariants.{AfterKey, WantsValue, Whole, Ended}
-use Rattle.xa_statement.specs.declared.state.Verb.{Verb}
-use Rattle.xa_statement.specs.declared.state.RowVerb.{RowVerb}
-use Rattle.xa_statement.specs.declared.state.RowVerb.TheVariants.{Gets, Puts, Deletes}
-use Rattle.xa_statement.specs.declared.token.Keyword.{Keyword}
-use Rattle.xa_statement.specs.declared.token.Token.{Token}
-use Rattle.xa_statement.specs.declared.token.Token.TheVariants.{Word, Comma, Semicolon, Value}
+use Rattle.xa_statement.specs.declared.state.State.{State, TheVariants.{AtFirst, WantsGtrid, AfterGtrid, WantsBqual}}
+use Rattle.xa_statement.specs.declared.state.State.TheVariants.{AfterBqual, WantsFormatId, AfterXid, WantsKey, AfterKey}
+use Rattle.xa_statement.specs.declared.state.{State.TheVariants.{WantsValue, Whole, Ended}, Verb.Verb, RowVerb.RowVerb}
+use Rattle.xa_statement.specs.declared.{state.RowVerb.TheVariants.{Gets, Puts, Deletes}, token.Keyword.Keyword}
+use Rattle.xa_statement.specs.declared.token.Token.{Token, TheVariants.{Word, Comma, Semicolon, Value}}
 use Rattle.xa_statement.specs.Machine.{after_token, unended, ended, finish, statement_of, after_word, after_key}
-use Rattle.xa_statement.specs.Machine.{key_state}
-use Rattle.xa_statement.specs.Reading.{read_from, read_end, read_of, seen_of}
+use Rattle.xa_statement.specs.{Machine.key_state, Reading.{read_from, read_end, read_of, seen_of}}
 use Rattle.xa_statement.specs.Token.{token_at, quoted_piece, tokens_of}
 use Rattle.xa_statement.specs.Ways.{Goes, TakesToken, TakesLiteral, TakesNumber, Leads, Ends, plain_in, heads, Closes}
-use Rattle.xa_statement.proofs.Pieces.{unblank-unblank, tokens-unblank}
-use Rattle.xa_statement.proofs.Run.{from_next, step_of, read_all, seen}
+use Rattle.xa_statement.proofs.{Pieces.{unblank-unblank, tokens-unblank}, Run.{from_next, step_of, read_all, seen}}
 
 -- a token that stands at the front of a text, behind blanks, is taken from it
 pub takes : (token : Token) (text found rest : List ℕ) → found ≡ unblank text → 0 < length found

@@ -1,8 +1,6 @@
 -- A run compared with a word.
-use Rattle.std.proofs.Common.{◌≡◌, ℕ, Bool, List, IsTrue, ◌↔◌, map}
-use Rattle.std.specs.Char.{to_ascii_lowercase}
-use Rattle.std.specs.Cmp.Lexicographic.{bytes_decides}
-use Rattle.std.proofs.lemmas.Bool.Decides.{same_from_decides}
+use Rattle.std.proofs.{Common.{◌≡◌, ℕ, Bool, List, IsTrue, ◌↔◌, map}, lemmas.Bool.Decides.same_from_decides}
+use Rattle.std.specs.{Char.to_ascii_lowercase, Cmp.Lexicographic.bytes_decides}
 use Rattle.xa_statement.specs.Token.{is_word}
 
 -- a comparison that ignores the case of letters decides whether the run is the word

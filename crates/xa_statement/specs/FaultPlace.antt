@@ -2,9 +2,7 @@
 --     FaultAt text place     no statement is spelled, and this is the place of the fault
 use Rattle.std.specs.Prelude.{◌≡◌, ℕ, ◌+◌, List, [], ◌∷◌, ◌++◌, length}
 use Rattle.xa_xid.specs.declared.statement.Statement.{Statement}
-use Rattle.xa_statement.specs.declared.token.Token.{Token}
-use Rattle.xa_statement.specs.Grammar.{Spells, MayGoOn}
-use Rattle.xa_statement.specs.Token.{Piece, tokens_of, bare}
+use Rattle.xa_statement.specs.{declared.token.Token.Token, Grammar.{Spells, MayGoOn}, Token.{Piece, tokens_of, bare}}
 
 -- the first token with which no statement can go on; or the end of a text that ends too soon (own rule)
 pub data FaultAt (text : List ℕ) : ℕ → Type 0 where

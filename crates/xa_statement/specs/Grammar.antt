@@ -7,24 +7,9 @@
 --     StartWord, JoinWord        the words START and BEGIN;  JOIN and RESUME
 --     Literal, Number            a token that can be this literal;  this number
 use Rattle.std.specs.Prelude.{ℕ, true, false, ◌<◌, Option, Some, List, [], ◌∷◌, ◌++◌, length}
-use Rattle.xa_xid.specs.Xid.{Text}
-use Rattle.xa_xid.specs.XidText.{xid_of, no_text}
-use Rattle.xa_xid.specs.declared.xid.Xid.{Xid}
-use Rattle.xa_xid.specs.declared.statement.Statement.{Statement}
-use Rattle.xa_xid.specs.declared.statement.Statement.TheVariants.{Start, End, Prepare, Commit, Rollback, Recover}
-use Rattle.xa_xid.specs.declared.statement.Statement.TheVariants.{Unsupported, Get, Put, Del, Disconnect}
-use Rattle.xa_statement.specs.declared.token.Keyword.{Keyword}
-use Rattle.xa_statement.specs.declared.token.Keyword.TheVariants.{Xa as XA, Start as START, Begin as BEGIN, End as END}
-use Rattle.xa_statement.specs.declared.token.Keyword.TheVariants.{Prepare as PREPARE, Commit as COMMIT}
-use Rattle.xa_statement.specs.declared.token.Keyword.TheVariants.{Rollback as ROLLBACK, Recover as RECOVER}
-use Rattle.xa_statement.specs.declared.token.Keyword.TheVariants.{Join as JOIN, Resume as RESUME, Suspend as SUSPEND}
-use Rattle.xa_statement.specs.declared.token.Keyword.TheVariants.{For as FOR, Migrate as MIGRATE, One as ONE}
-use Rattle.xa_statement.specs.declared.token.Keyword.TheVariants.{Phase as PHASE, Convert as CONVERT, Xid as XID}
-use Rattle.xa_statement.specs.declared.token.Keyword.TheVariants.{Get as GET, Put as PUT, Del as DEL}
-use Rattle.xa_statement.specs.declared.token.Keyword.TheVariants.{Disconnect as DISCONNECT}
-use Rattle.xa_statement.specs.declared.token.Token.{Token}
+use Rattle.xa_xid.specs.{Xid.Text, XidText.{xid_of, no_text}, declared.{xid.Xid.Xid, statement.Statement.Statement}}
+use Rattle.xa_statement.specs.{declared.token.{Keyword.Keyword, Token.Token}, Token.{tokens_of, bare}}
 use Rattle.xa_statement.specs.declared.token.Token.TheVariants.{Word, Comma, Semicolon, Value}
-use Rattle.xa_statement.specs.Token.{tokens_of, bare}
 
 -- a token that can be this literal, and perhaps also a number
 abbrev pub Literal : Text → Option ℕ → Token
@@ -45,43 +30,48 @@ pub data XidTokens : List Token → Xid → Type 0 where
 
 -- the second word of XA START: START or BEGIN, which mean the same
 pub data StartWord : Keyword → Type 0 where
-  is_start : StartWord START
-  is_begin : StartWord BEGIN
+  is_start : StartWord Keyword.Start
+  is_begin : StartWord Keyword.Begin
 
 -- the word of a clause that may stand behind the identifier in XA START, and which the server refuses
 pub data JoinWord : Keyword → Type 0 where
-  is_join : JoinWord JOIN
-  is_resume : JoinWord RESUME
+  is_join : JoinWord Keyword.Join
+  is_resume : JoinWord Keyword.Resume
 
 -- the rows of the table (manual, 'XA Transaction SQL Statements'; the last four are our own): which statement the
 -- tokens are. With JOIN, RESUME or SUSPEND it is unsupported. A key isn't empty
 pub data Row : List Token → Statement → Type 0 where
   start : {word : Keyword} {parts : List Token} {xid : Xid} → StartWord word → XidTokens parts xid
-      → Row (Word XA ∷ Word word ∷ parts) (Start xid)
+      → Row (Word Keyword.Xa ∷ Word word ∷ parts) (Statement.Start xid)
   start_clause : {word clause : Keyword} {parts : List Token} {xid : Xid} → StartWord word → XidTokens parts xid
       → JoinWord clause
-      → Row (Word XA ∷ Word word ∷ parts ++ Word clause ∷ []) Unsupported
-  end : {parts : List Token} {xid : Xid} → XidTokens parts xid → Row (Word XA ∷ Word END ∷ parts) (End xid)
+      → Row (Word Keyword.Xa ∷ Word word ∷ parts ++ Word clause ∷ []) Statement.Unsupported
+  end : {parts : List Token} {xid : Xid} → XidTokens parts xid → Row (Word Keyword.Xa ∷ Word Keyword.End ∷ parts)
+      (Statement.End xid)
   end_suspend : {parts : List Token} {xid : Xid} → XidTokens parts xid
-      → Row (Word XA ∷ Word END ∷ parts ++ Word SUSPEND ∷ []) Unsupported
+      → Row (Word Keyword.Xa ∷ Word Keyword.End ∷ parts ++ Word Keyword.Suspend ∷ []) Statement.Unsupported
   end_suspend_for : {parts : List Token} {xid : Xid} → XidTokens parts xid
-      → Row (Word XA ∷ Word END ∷ parts ++ Word SUSPEND ∷ Word FOR ∷ Word MIGRATE ∷ []) Unsupported
-  prepare : {parts : List Token} {xid : Xid} → XidTokens parts xid → Row (Word XA ∷ Word PREPARE ∷ parts) (Prepare xid)
+      → Row (Word Keyword.Xa ∷ Word Keyword.End ∷ parts ++ Word Keyword.Suspend ∷ Word Keyword.For ∷ Word
+      Keyword.Migrate ∷ []) Statement.Unsupported
+  prepare : {parts : List Token} {xid : Xid} → XidTokens parts xid → Row
+      (Word Keyword.Xa ∷ Word Keyword.Prepare ∷ parts) (Statement.Prepare xid)
   commit : {parts : List Token} {xid : Xid} → XidTokens parts xid
-      → Row (Word XA ∷ Word COMMIT ∷ parts) (Commit xid false)
+      → Row (Word Keyword.Xa ∷ Word Keyword.Commit ∷ parts) (Statement.Commit xid false)
   commit_one : {parts : List Token} {xid : Xid} → XidTokens parts xid
-      → Row (Word XA ∷ Word COMMIT ∷ parts ++ Word ONE ∷ Word PHASE ∷ []) (Commit xid true)
+      → Row (Word Keyword.Xa ∷ Word Keyword.Commit ∷ parts ++ Word Keyword.One ∷ Word Keyword.Phase ∷ [])
+      (Statement.Commit xid true)
   rollback : {parts : List Token} {xid : Xid} → XidTokens parts xid
-      → Row (Word XA ∷ Word ROLLBACK ∷ parts) (Rollback xid)
-  recover : Row (Word XA ∷ Word RECOVER ∷ []) (Recover false)
-  recover_convert : Row (Word XA ∷ Word RECOVER ∷ Word CONVERT ∷ Word XID ∷ []) (Recover true)
+      → Row (Word Keyword.Xa ∷ Word Keyword.Rollback ∷ parts) (Statement.Rollback xid)
+  recover : Row (Word Keyword.Xa ∷ Word Keyword.Recover ∷ []) (Statement.Recover false)
+  recover_convert : Row (Word Keyword.Xa ∷ Word Keyword.Recover ∷ Word Keyword.Convert ∷ Word Keyword.Xid ∷ [])
+      (Statement.Recover true)
   get : (key : Text) (number : Option ℕ) → 0 < length key.items
-      → Row (Word GET ∷ Literal key number ∷ []) (Get key.items)
+      → Row (Word Keyword.Get ∷ Literal key number ∷ []) (Statement.Get key.items)
   put : (key value : Text) (number other : Option ℕ) → 0 < length key.items
-      → Row (Word PUT ∷ Literal key number ∷ Comma ∷ Literal value other ∷ []) (Put key.items value)
+      → Row (Word Keyword.Put ∷ Literal key number ∷ Comma ∷ Literal value other ∷ []) (Statement.Put key.items value)
   del : (key : Text) (number : Option ℕ) → 0 < length key.items
-      → Row (Word DEL ∷ Literal key number ∷ []) (Del key.items)
-  disconnect : Row (Word DISCONNECT ∷ []) Disconnect
+      → Row (Word Keyword.Del ∷ Literal key number ∷ []) (Statement.Del key.items)
+  disconnect : Row (Word Keyword.Disconnect ∷ []) Statement.Disconnect
 
 -- a row, after which one ; may come
 pub data Says : List Token → Statement → Type 0 where

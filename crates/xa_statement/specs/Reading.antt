@@ -4,11 +4,8 @@
 --     seen_of                    the same as a program sees it
 use Rattle.std.specs.Prelude.{ℕ, ◌-◌, Option, Some, None, Result, Ok, Err, List, [], ◌∷◌, length}
 use Rattle.xa_xid.specs.declared.statement.Statement.{Statement}
-use Rattle.xa_statement.specs.declared.state.State.{State}
-use Rattle.xa_statement.specs.declared.state.State.TheVariants.{AtFirst}
-use Rattle.xa_statement.specs.declared.syntax_fault.SyntaxFault.{SyntaxFault}
-use Rattle.xa_statement.specs.Machine.{after_token, finish}
-use Rattle.xa_statement.specs.Token.{Piece, tokens_of}
+use Rattle.xa_statement.specs.declared.{state.State.{State, TheVariants.AtFirst}, syntax_fault.SyntaxFault.SyntaxFault}
+use Rattle.xa_statement.specs.{Machine.{after_token, finish}, Token.{Piece, tokens_of}}
 
 -- at the end of a text: the statement, or a fault with no bytes left
 abbrev pub read_end : Option Statement → Result Statement ℕ

@@ -8,24 +8,10 @@
 --     quoted_piece, run_at            the token of a literal in quotes;  of a run of word bytes
 --     pieces most text                the first tokens of a text, at most so many
 use Rattle.std.specs.Prelude.{ℕ, Bool, ◌==◌, ◌||◌, if◌then◌else◌, List, [], ◌∷◌, length, map, codes, zero, suc, Option}
-use Rattle.std.specs.Prelude.{Some, None, Ok, Err, bytes_eq}
-use Rattle.std.specs.Char.{to_ascii_lowercase}
-use Rattle.xa_xid.specs.Bytes.{belongs, run, after_run, unblank}
-use Rattle.xa_xid.specs.Literal.{Reading, literal_ahead, opens_text, opens_hex}
-use Rattle.xa_xid.specs.Number.{number_ahead}
-use Rattle.xa_xid.specs.Xid.{Text}
-use Rattle.xa_xid.specs.declared.byte_class.ByteClass.TheVariants.{Word as word_byte}
-use Rattle.xa_statement.specs.declared.token.Keyword.{Keyword}
-use Rattle.xa_statement.specs.declared.token.Keyword.TheVariants.{Xa as XA, Start as START, Begin as BEGIN, End as END}
-use Rattle.xa_statement.specs.declared.token.Keyword.TheVariants.{Prepare as PREPARE, Commit as COMMIT}
-use Rattle.xa_statement.specs.declared.token.Keyword.TheVariants.{Rollback as ROLLBACK, Recover as RECOVER}
-use Rattle.xa_statement.specs.declared.token.Keyword.TheVariants.{Join as JOIN, Resume as RESUME, Suspend as SUSPEND}
-use Rattle.xa_statement.specs.declared.token.Keyword.TheVariants.{For as FOR, Migrate as MIGRATE, One as ONE}
-use Rattle.xa_statement.specs.declared.token.Keyword.TheVariants.{Phase as PHASE, Convert as CONVERT, Xid as XID}
-use Rattle.xa_statement.specs.declared.token.Keyword.TheVariants.{Get as GET, Put as PUT, Del as DEL}
-use Rattle.xa_statement.specs.declared.token.Keyword.TheVariants.{Disconnect as DISCONNECT}
-use Rattle.xa_statement.specs.declared.token.Token.{Token}
-use Rattle.xa_statement.specs.declared.token.Token.TheVariants.{Word, Comma, Semicolon, Value}
+use Rattle.std.specs.{Prelude.{Some, None, Ok, Err, bytes_eq}, Char.to_ascii_lowercase}
+use Rattle.xa_xid.specs.{Bytes.{belongs, run, after_run, unblank}, declared.byte_class.ByteClass.ByteClass}
+use Rattle.xa_xid.specs.{Literal.{Reading, literal_ahead, opens_text, opens_hex}, Number.number_ahead, Xid.Text}
+use Rattle.xa_statement.specs.declared.token.{Keyword.Keyword, Token.Token}
 
 -- whether the bytes are this word, without regard to case
 unfoldable pub is_word : List ℕ → List ℕ → Bool
@@ -34,31 +20,31 @@ is_word word run = bytes_eq (map to_ascii_lowercase run) (map to_ascii_lowercase
 -- the word, of those that begin a statement or come after XA, that a run is; none if it is no such word
 unfoldable pub statement_word : List ℕ → Option Keyword
 statement_word run =
-    if is_word (codes "XA") run then Some XA else
-    if is_word (codes "START") run then Some START else
-    if is_word (codes "BEGIN") run then Some BEGIN else
-    if is_word (codes "END") run then Some END else
-    if is_word (codes "PREPARE") run then Some PREPARE else
-    if is_word (codes "COMMIT") run then Some COMMIT else
-    if is_word (codes "ROLLBACK") run then Some ROLLBACK else
-    if is_word (codes "RECOVER") run then Some RECOVER else
-    if is_word (codes "GET") run then Some GET else
-    if is_word (codes "PUT") run then Some PUT else
-    if is_word (codes "DEL") run then Some DEL else
-    if is_word (codes "DISCONNECT") run then Some DISCONNECT else None
+    if is_word (codes "XA") run then Some Keyword.Xa else
+    if is_word (codes "START") run then Some Keyword.Start else
+    if is_word (codes "BEGIN") run then Some Keyword.Begin else
+    if is_word (codes "END") run then Some Keyword.End else
+    if is_word (codes "PREPARE") run then Some Keyword.Prepare else
+    if is_word (codes "COMMIT") run then Some Keyword.Commit else
+    if is_word (codes "ROLLBACK") run then Some Keyword.Rollback else
+    if is_word (codes "RECOVER") run then Some Keyword.Recover else
+    if is_word (codes "GET") run then Some Keyword.Get else
+    if is_word (codes "PUT") run then Some Keyword.Put else
+    if is_word (codes "DEL") run then Some Keyword.Del else
+    if is_word (codes "DISCONNECT") run then Some Keyword.Disconnect else None
 
 -- the word, of those in the clauses after an xid or RECOVER, that a run is; none if it is no such word
 unfoldable pub clause_word : List ℕ → Option Keyword
 clause_word run =
-    if is_word (codes "JOIN") run then Some JOIN else
-    if is_word (codes "RESUME") run then Some RESUME else
-    if is_word (codes "SUSPEND") run then Some SUSPEND else
-    if is_word (codes "FOR") run then Some FOR else
-    if is_word (codes "MIGRATE") run then Some MIGRATE else
-    if is_word (codes "ONE") run then Some ONE else
-    if is_word (codes "PHASE") run then Some PHASE else
-    if is_word (codes "CONVERT") run then Some CONVERT else
-    if is_word (codes "XID") run then Some XID else None
+    if is_word (codes "JOIN") run then Some Keyword.Join else
+    if is_word (codes "RESUME") run then Some Keyword.Resume else
+    if is_word (codes "SUSPEND") run then Some Keyword.Suspend else
+    if is_word (codes "FOR") run then Some Keyword.For else
+    if is_word (codes "MIGRATE") run then Some Keyword.Migrate else
+    if is_word (codes "ONE") run then Some Keyword.One else
+    if is_word (codes "PHASE") run then Some Keyword.Phase else
+    if is_word (codes "CONVERT") run then Some Keyword.Convert else
+    if is_word (codes "XID") run then Some Keyword.Xid else None
 
 -- the first of two answers, or the second if there is no first
 abbrev pub or_else : {Answer : Type 0} → Option Answer → Option Answer → Option Answer
@@ -76,13 +62,13 @@ part_of (Err fault) = None
 
 -- the token of a literal in quotes, and the rest; where a faulty one ends can't be observed: no statement has one
 abbrev pub quoted_piece : Reading Text → Token × List ℕ
-quoted_piece (Ok (text, rest)) = (Value (Some text) None, rest)
-quoted_piece (Err fault) = (Value None None, [])
+quoted_piece (Ok (text, rest)) = (Token.Value (Some text) None, rest)
+quoted_piece (Err fault) = (Token.Value None None, [])
 
 -- the token of a run in front of a text: the word that the run is, or else its values as a literal and as a number
 abbrev pub run_token : Option Keyword → List ℕ → Token
-run_token (Some word) text = Word word
-run_token None text = Value (part_of (literal_ahead text)) (part_of (number_ahead text))
+run_token (Some word) text = Token.Word word
+run_token None text = Token.Value (part_of (literal_ahead text)) (part_of (number_ahead text))
 
 -- the run of word bytes that a text begins with, as a token, and the text after it
 abbrev pub run_at : List ℕ → Token × List ℕ
@@ -94,13 +80,13 @@ opens_quoted text = opens_text text || opens_hex text
 
 -- the token that a text begins with, if it doesn't begin with a blank; a byte that begins no token takes the rest
 unfoldable pub token_at : List ℕ → Token × List ℕ
-token_at [] = (Value None None, [])
+token_at [] = (Token.Value None None, [])
 token_at (byte ∷ text) =
-    if byte == 44 then (Comma, text) else
-    if byte == 59 then (Semicolon, text) else
+    if byte == 44 then (Token.Comma, text) else
+    if byte == 59 then (Token.Semicolon, text) else
     if opens_quoted (byte ∷ text) then quoted_piece (literal_ahead (byte ∷ text)) else
-    if belongs word_byte byte then run_at (byte ∷ text) else
-    (Value None None, [])
+    if belongs ByteClass.Word byte then run_at (byte ∷ text) else
+    (Token.Value None None, [])
 
 -- a token with the number of bytes from it to the end
 abbrev pub Piece : Type 0

@@ -6,14 +6,9 @@
 --     Ends text                      the text can end each whole statement: blanks and at most one ;
 --     plain_in, Closes               a byte between quotes that stands for itself;  the closing quote comes first
 use Rattle.std.specs.Prelude.{◌≡◌, ℕ, Bool, false, ◌==◌, not, if◌then◌else◌, List, [], ◌∷◌, Option, Some, Ok}
-use Rattle.xa_xid.specs.Xid.{Text}
-use Rattle.xa_xid.specs.declared.statement.Statement.{Statement}
-use Rattle.xa_statement.specs.declared.state.State.{State}
-use Rattle.xa_statement.specs.declared.token.Token.{Token}
-use Rattle.xa_statement.specs.declared.token.Token.TheVariants.{Value}
-use Rattle.xa_statement.specs.Machine.{after_token, unended, finish}
-use Rattle.xa_statement.specs.Reading.{read_from}
-use Rattle.xa_statement.specs.Token.{tokens_of}
+use Rattle.xa_xid.specs.{Xid.Text, declared.statement.Statement.Statement}
+use Rattle.xa_statement.specs.declared.{state.State.State, token.Token.{Token, TheVariants.Value}}
+use Rattle.xa_statement.specs.{Machine.{after_token, unended, finish}, Reading.read_from, Token.tokens_of}
 
 -- a byte between quotes that stands for itself
 abbrev pub plain_in : ℕ → ℕ → Bool

@@ -4,9 +4,7 @@
 //! Each returns `None` if another token, a faulty one or none comes first. Their contracts say only what `Some` means.
 //! The functions for other files skip the blanks before the token.
 ghost use Rattle.std.specs.Prelude.{◌≡◌, ◌<◌, ℕ, Option, Some, [], ◌∷◌, None, Ok, length, IfSome, IsTrue};
-ghost use Rattle.xa_xid.specs.Bytes.{front, behind};
-ghost use Rattle.xa_xid.specs.Literal.{literal_ahead, text_literal_of};
-ghost use Rattle.xa_xid.specs.Quoted.{read_in_quotes};
+ghost use Rattle.xa_xid.specs.{Bytes.{front, behind}, Literal.{literal_ahead, text_literal_of}, Quoted.read_in_quotes};
 ghost use Rattle.xa_xid.specs.declared.quoted.Mode.TheVariants.{Plain};
 ghost use Rattle.xa_statement.specs.declared.token.Token.TheVariants.{Word, Comma, Value};
 ghost use Rattle.xa_statement.specs.Token.{token_at, run_at, part_of};

@@ -1,9 +1,7 @@
 //! Laws of the grammar, as contracts over its definitions.
 ghost use Rattle.std.specs.Prelude.{◌≡◌, ◌≢◌, ◌↔◌, ℕ, List};
 ghost use Rattle.xa_xid.specs.declared.statement.Statement.{Statement};
-ghost use Rattle.xa_statement.specs.Canonical.{statement_text, IsKey};
-ghost use Rattle.xa_statement.specs.FaultPlace.{FaultAt};
-ghost use Rattle.xa_statement.specs.Grammar.{Spells};
+ghost use Rattle.xa_statement.specs.{Canonical.{statement_text, IsKey}, FaultPlace.FaultAt, Grammar.Spells};
 ghost use Rattle.xa_statement.specs.Reading.{read_of};
 
 use xa_xid::laws::{are_bytes, is_writable};

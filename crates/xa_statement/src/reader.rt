@@ -1,9 +1,7 @@
 //! Statements, read token by token.
 ghost use Rattle.std.specs.Prelude.{◌≡◌, ℕ, IfOk, IfErr};
 ghost use Rattle.xa_xid.specs.declared.statement.Statement.{Statement};
-ghost use Rattle.xa_statement.specs.FaultPlace.{FaultAt};
-ghost use Rattle.xa_statement.specs.Grammar.{Spells};
-ghost use Rattle.xa_statement.specs.Reading.{read_of, seen_of};
+ghost use Rattle.xa_statement.specs.{FaultPlace.FaultAt, Grammar.Spells, Reading.{read_of, seen_of}};
 
 use crate::SyntaxFault;
 use crate::state::State;

@@ -2,8 +2,7 @@
 ghost use Rattle.std.specs.Prelude.{◌≡◌, ◌<◌, ◌≤◌, length};
 ghost use Rattle.xa_statement.specs.Token.{is_word, statement_word, clause_word, keyword_of, opens_quoted};
 ghost use Rattle.xa_statement.specs.Token.{quoted_piece, run_at, part_of, token_at};
-ghost use Rattle.xa_xid.specs.Literal.{literal_ahead};
-ghost use Rattle.xa_xid.specs.Number.{number_ahead};
+ghost use Rattle.xa_xid.specs.{Literal.literal_ahead, Number.number_ahead};
 
 use xa_xid::{ByteClass, Bytes, literal_of, number_of};
 

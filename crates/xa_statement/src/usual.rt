@@ -3,15 +3,11 @@
 //!
 //! The machine of states reads every other text, so only that returns faults.
 ghost use Rattle.std.specs.Prelude.{◌≡◌, ◌<◌, Some, [], length, IfSome};
-ghost use Rattle.xa_xid.specs.XidText.{xid_of, no_text};
-ghost use Rattle.xa_xid.specs.declared.statement.Statement.TheVariants.{Put};
-ghost use Rattle.xa_statement.specs.declared.state.Verb.{Verb};
-ghost use Rattle.xa_statement.specs.declared.state.RowVerb.TheVariants.{Gets, Puts, Deletes};
+ghost use Rattle.xa_xid.specs.{XidText.{xid_of, no_text}, declared.statement.Statement.TheVariants.Put};
+ghost use Rattle.xa_statement.specs.declared.state.{Verb.Verb, RowVerb.TheVariants.{Gets, Puts, Deletes}};
 ghost use Rattle.xa_statement.specs.declared.state.State.TheVariants.{AtFirst, AfterXa, WantsGtrid, WantsBqual};
-ghost use Rattle.xa_statement.specs.declared.state.State.TheVariants.{WantsFormatId, WantsKey};
-ghost use Rattle.xa_statement.specs.Machine.{after_word, statement_of};
-ghost use Rattle.xa_statement.specs.Reading.{read_of, seen_of};
-ghost use Rattle.xa_statement.specs.Ways.{Goes, Leads};
+ghost use Rattle.xa_statement.specs.{declared.state.State.TheVariants.{WantsFormatId, WantsKey}, Ways.{Goes, Leads}};
+ghost use Rattle.xa_statement.specs.{Machine.{after_word, statement_of}, Reading.{read_of, seen_of}};
 
 use crate::SyntaxFault;
 use crate::first::{behind_comma, ends, first_number, first_word, take_literal};

@@ -1,11 +1,9 @@
 -- A round in which each of some sessions meets a last one.
 use Rattle.std.proofs.Common.{◌≡◌, ℕ, zero, suc, ◌+◌, ◌<◌, ◌≤◌, List, [], ◌∷◌, ◌++◌, length, map, get_or, set, refl, ap}
-use Rattle.std.proofs.Common.{sym, ◌∙◌, subst, arith}
+use Rattle.std.proofs.{Common.{sym, ◌∙◌, subst, arith}, lemmas.List.Elements.{AllWithin-more_set, AllWithin-none}}
+use Rattle.std.proofs.lemmas.List.Elements.{All-get_or, AllZip-get_or, length_all_zip}
 use Rattle.std.specs.List.{All, AllZip, AllWithin}
-use Rattle.std.proofs.lemmas.List.Elements.{AllWithin-more_set, AllWithin-none, All-get_or, AllZip-get_or}
-use Rattle.std.proofs.lemmas.List.Elements.{length_all_zip}
-use Rattle.decision_log.specs.declared.known.Known.{Known}
-use Rattle.decision_log.specs.History.{Begins, entries_of}
+use Rattle.decision_log.specs.{declared.known.Known.Known, History.{Begins, entries_of}}
 use Rattle.decision_log.specs.Calls.{Looked, MeetsFirst, MeetsSecond}
 use Rattle.decision_log.proofs.Histories.{begins_itself, begins_through, length_begins}
 use Rattle.xa_store.specs.Gathered.{AddsNothing, last_known}

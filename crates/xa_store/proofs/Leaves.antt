@@ -1,14 +1,10 @@
 -- Sessions that have met and left.
-use Rattle.std.proofs.Common.{◌≡◌, ◌<◌, List, [], ◌∷◌, length, map, subst}
-use Rattle.std.specs.List.{All, AllZip, AllByRecursion}
-use Rattle.std.proofs.lemmas.List.{length-map}
-use Rattle.std.proofs.lemmas.List.Elements.{recursion_from_All}
+use Rattle.std.proofs.{Common.{◌≡◌, ◌<◌, List, [], ◌∷◌, length, map, subst}, lemmas.List.length-map}
+use Rattle.std.{proofs.lemmas.List.Elements.recursion_from_All, specs.List.{All, AllZip, AllByRecursion}}
 use Rattle.xa_words.specs.Entry.{Entry}
 use Rattle.decision_log.specs.Known.{LogIdentity}
-use Rattle.xa_store.specs.Passes.{Pass, log_of, known_of}
-use Rattle.xa_store.specs.Closed.{HasLeft, HasClosed}
-use Rattle.xa_store.specs.Gathered.{IsTakenIn, AddsNothing, last_known}
-use Rattle.xa_store.specs.Renewal.{AreGathered}
+use Rattle.xa_store.specs.{Passes.{Pass, log_of, known_of}, Closed.{HasLeft, HasClosed}}
+use Rattle.xa_store.specs.{Gathered.{IsTakenIn, AddsNothing, last_known}, Renewal.AreGathered}
 
 module _ {S : Type 0} (pass_of : S → Pass) (history : List Entry) where
   -- if each pass is of its session's log and has added nothing since, and the history has all that each knows, each has

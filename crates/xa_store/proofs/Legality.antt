@@ -1,28 +1,18 @@
 -- Answers in order: one more of them, and in a longer history; a session on its way through its statements, and a
 -- run that stops.
 use Rattle.std.proofs.Common.{◌≡◌, ◌⊎◌, ℕ, Bool, true, false, cond, ◌+◌, ◌<◌, ◌≤◌, List, [], ◌∷◌, ◌++◌, length, take}
-use Rattle.std.proofs.Common.{refl, ap, sym, ◌∙◌, subst, inl, inr}
-use Rattle.std.proofs.Common.{⊎_elim, Some, arith, length-append, append-nil}
-use Rattle.std.specs.Prelude.{slice_get}
-use borrow.Author.Count.{below_more}
-use Rattle.std.proofs.lemmas.List.{length-take-le, append_assoc}
+use Rattle.std.proofs.Common.{refl, ap, sym, ◌∙◌, subst, inl, inr, ⊎_elim, Some, arith, length-append, append-nil}
+use Rattle.std.{proofs.lemmas.List.{length-take-le, append_assoc}, specs.Prelude.slice_get}
 use Rattle.xa_xid.specs.declared.statement.Statement.{Statement}
 use Rattle.xa_words.specs.Entry.{Entry}
-use Rattle.xa_server.specs.State.{State}
-use Rattle.xa_server.specs.Replies.{reply_to}
-use Rattle.xa_server.specs.Step.{enters}
-use Rattle.decision_log.specs.declared.known.Known.{Known}
-use Rattle.decision_log.specs.History.{Begins, entries_of}
+use Rattle.xa_server.specs.{State.State, Replies.reply_to, Step.enters}
+use Rattle.decision_log.specs.{declared.known.Known.Known, History.{Begins, entries_of}}
 use Rattle.decision_log.proofs.Histories.{begins_itself, begins_through, length_begins, get_begins}
-use Rattle.xa_session.specs.Replay.{state_after, state_at}
-use Rattle.xa_session.specs.Answer.{entry_of, AnswersAt, IsAnswered}
-use Rattle.xa_session.specs.declared.answer.Answer.{Answer}
-use Rattle.xa_session.proofs.Replaying.{state_at-begins}
-use Rattle.xa_store.specs.Gathered.{IsTakenIn}
-use Rattle.xa_store.specs.Legal.{next_place, Answered, entered, IsLegal, LetsIn, Halts, IsReachedInRun, GoesNoFurther}
-use Rattle.xa_store.specs.Legal.{Stops}
-use Rattle.xa_store.specs.declared.race_fault.RaceFault.{RaceFault}
-use Rattle.xa_store.specs.declared.race_fault.RaceFault.TheVariants.{GateShut, Full, NoMemory, ThreadRefused}
+use Rattle.xa_session.specs.{Replay.{state_after, state_at}, Answer.{entry_of, AnswersAt, IsAnswered}}
+use Rattle.xa_session.{specs.declared.answer.Answer.Answer, proofs.Replaying.state_at-begins}
+use Rattle.xa_store.specs.{Gathered.IsTakenIn, Legal.{next_place, Answered, entered, IsLegal, LetsIn, Halts}}
+use Rattle.xa_store.specs.{Legal.{IsReachedInRun, GoesNoFurther, Stops}, declared.race_fault.RaceFault.RaceFault}
+use borrow.Author.Count.{below_more}
 
 -- a test holds or fails
 either_way : (b : Bool) → (b ≡ true) ⊎ (b ≡ false)
@@ -296,7 +286,7 @@ module _ (gate : ℕ → ℕ → Bool → Type 0) (base : State) (capacity : ℕ
       → IsOnTheWay base before now (take place statements) answers
       → Halts gate base capacity statement place fault now new
       → GoesNoFurther base before statements fault new
-  no_further (GateShut session line) below part part' way is =
+  no_further (RaceFault.GateShut session line) below part part' way is =
       subst (λ known. IsReachedInRun base known.seen before statements session line) (sym is.2.same)
       (record {
         number = is.0 ∙ way.number;
@@ -304,7 +294,7 @@ module _ (gate : ℕ → ℕ → Bool → Type 0) (base : State) (capacity : ℕ
         answers = answers;
         legal = subst (λ n. IsLegal base now.seen before (take n statements) answers) (sym is.1) way.legal;
       })
-  no_further (Full session line) below part part' way is =
+  no_further (RaceFault.Full session line) below part part' way is =
       let unanswered = is.2.unanswered in
       let taken : IsTakenIn new.seen now = record {
         seen = unanswered.advances.seen;
@@ -318,8 +308,8 @@ module _ (gate : ℕ → ℕ → Bool → Type 0) (base : State) (capacity : ℕ
         answers = answers;
         legal = subst (λ n. IsLegal base new.seen before (take n statements) answers) (sym is.1) legal;
       }
-  no_further NoMemory below part part' way is = tt
-  no_further ThreadRefused below part part' way is = absurd is
+  no_further RaceFault.NoMemory below part part' way is = tt
+  no_further RaceFault.ThreadRefused below part part' way is = absurd is
 
   -- if the statements before this one were answered, and this one isn't, for this fault, the run stops with it
   pub stops : (fault : RaceFault) → place < length statements → slice_get statements place ≡ Some statement
@@ -328,19 +318,19 @@ module _ (gate : ℕ → ℕ → Bool → Type 0) (base : State) (capacity : ℕ
       → IsOnTheWay base before now (take place statements) answers
       → Halts gate base capacity statement place fault now new
       → Stops gate base capacity before statements fault
-  stops (GateShut session line) below given part part' way is =
+  stops (RaceFault.GateShut session line) below given part part' way is =
       record {
         history = new.seen;
-        reached = no_further (GateShut session line) below part part' way is;
+        reached = no_further (RaceFault.GateShut session line) below part part' way is;
         shut = is.2.shut;
       }
-  stops (Full session line) below given part part' way is = record {
+  stops (RaceFault.Full session line) below given part part' way is = record {
     history = new.seen;
-    reached = no_further (Full session line) below part part' way is;
+    reached = no_further (RaceFault.Full session line) below part part' way is;
     statement = statement;
     given = ap (slice_get statements) is.1 ∙ given;
     enters = ap (λ n. enters (state_after base new.seen) n statement) is.0 ∙ is.2.enters;
     full = is.2.full;
   }
-  stops NoMemory below given part part' way is = tt
-  stops ThreadRefused below given part part' way is = absurd is
+  stops RaceFault.NoMemory below given part part' way is = tt
+  stops RaceFault.ThreadRefused below given part part' way is = absurd is

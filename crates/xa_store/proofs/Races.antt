@@ -1,21 +1,13 @@
 -- What a race gives is legal, and a run is to blame for the fault with which it stops.
-use Rattle.std.proofs.Common.{◌≡◌, ℕ, Bool, List, ap, sym, ◌∙◌, Some}
-use Rattle.std.specs.Prelude.{slice_get}
+use Rattle.std.{proofs.Common.{◌≡◌, ℕ, Bool, List, ap, sym, ◌∙◌, Some}, specs.Prelude.slice_get}
 use Rattle.xa_xid.specs.declared.statement.Statement.{Statement}
 use Rattle.xa_words.specs.Entry.{Entry}
 use Rattle.xa_server.specs.State.{State}
-use Rattle.decision_log.specs.declared.known.Known.{Known}
-use Rattle.decision_log.specs.History.{entries_of}
-use Rattle.decision_log.proofs.Histories.{begins_through}
-use Rattle.xa_store.specs.Passes.{log_of, known_of}
-use Rattle.xa_session.specs.declared.answer.Answer.{Answer}
-use Rattle.xa_store.specs.Gathered.{IsTakenIn, AddsNothing}
-use Rattle.xa_store.specs.Legal.{IsLegal, Stops, Blames}
-use Rattle.xa_store.specs.Spread.{HasAnswered}
-use Rattle.xa_store.specs.declared.run.Run.{Run}
-use Rattle.xa_store.specs.declared.race_fault.RaceFault.{RaceFault}
-use Rattle.xa_store.specs.declared.race_fault.RaceFault.TheVariants.{GateShut, Full, NoMemory, ThreadRefused}
+use Rattle.decision_log.{specs.{declared.known.Known.Known, History.entries_of}, proofs.Histories.begins_through}
+use Rattle.xa_store.specs.{Passes.{log_of, known_of}, Gathered.{IsTakenIn, AddsNothing}, Legal.{IsLegal, Stops, Blames}}
+use Rattle.xa_store.specs.{Spread.HasAnswered, declared.{run.Run.Run, race_fault.RaceFault.RaceFault}}
 use Rattle.xa_store.proofs.Legality.{legal_longer}
+use Rattle.xa_session.specs.declared.answer.Answer.{Answer}
 
 -- if a history has all that a pass knows, it has all that the pass knew before, if the pass has added nothing since
 pub taken_before : (history : List Entry) (old new : Known) → AddsNothing old new → IsTakenIn history new
@@ -38,9 +30,9 @@ legal_in gate base history old new last statements answers part answered keeps t
 pub blames : (gate : ℕ → ℕ → Bool → Type 0) (base : State) (runs : List Run) (index : ℕ) (run : Run) (fault : RaceFault)
     → slice_get runs index ≡ Some run
     → Stops gate base (log_of run.pass).capacity (known_of run.pass) run.lines.items fault → Blames gate base runs fault
-blames gate base runs index run (GateShut session line) found is =
+blames gate base runs index run (RaceFault.GateShut session line) found is =
     record { index = index; run = run; found = found; stops = is }
-blames gate base runs index run (Full session line) found is =
+blames gate base runs index run (RaceFault.Full session line) found is =
     record { index = index; run = run; found = found; stops = is }
-blames gate base runs index run NoMemory found is = tt
-blames gate base runs index run ThreadRefused found is = tt
+blames gate base runs index run RaceFault.NoMemory found is = tt
+blames gate base runs index run RaceFault.ThreadRefused found is = tt

@@ -1,11 +1,7 @@
 -- Lists side by side, and a run that is one of more.
 use Rattle.std.proofs.Common.{◌≡◌, ℕ, zero, suc, List, [], ◌∷◌, ◌++◌, length, map, refl, ap, subst, Some, None, Result}
-use Rattle.std.proofs.Common.{Ok, Err}
-use Rattle.std.specs.Prelude.{slice_get}
-use Rattle.std.specs.List.{AllZip, AllByRecursion}
-use Rattle.std.specs.Result.{IfOk, IfErr}
-use Rattle.xa_store.specs.Spread.{HasStopped}
-use Rattle.xa_store.specs.declared.race_fault.RaceFault.{RaceFault}
+use Rattle.std.{proofs.Common.{Ok, Err}, specs.{Prelude.slice_get, List.{AllZip, AllByRecursion}, Result.{IfOk, IfErr}}}
+use Rattle.xa_store.specs.{Spread.HasStopped, declared.race_fault.RaceFault.RaceFault}
 
 -- if P holds of the value of a result that is Ok, and the result is Ok of x, P holds of x
 pub when_ok : {T E : Type 0} (r : Result T E) (P : T → Type 0) (x : T) → IfOk r P → r ≡ Ok x → P x

@@ -1,19 +1,13 @@
 -- The fault that is told once one more task is taken back, and what it says of a race's runs.
 use Rattle.std.proofs.Common.{◌≡◌, ◌⊎◌, ℕ, zero, suc, Bool, ◌<◌, ◌≤◌, List, [], ◌∷◌, ◌++◌, length, refl, ap, sym, ◌∙◌}
-use Rattle.std.proofs.Common.{subst, inl, inr, ⊎_elim, Some, None}
-use Rattle.std.proofs.Common.{Result, Ok, Err, Vec, Global, arith}
-use Rattle.std.specs.Prelude.{slice_get}
-use Rattle.std.specs.List.{AllZip}
-use Rattle.std.specs.Result.{IfOk, IfErr}
+use Rattle.std.proofs.Common.{subst, inl, inr, ⊎_elim, Some, None, Result, Ok, Err, Vec, Global, arith}
+use Rattle.std.specs.{Prelude.slice_get, List.AllZip, Result.{IfOk, IfErr}}
 use Rattle.xa_server.specs.State.{State}
-use Rattle.xa_store.specs.Passes.{log_of, known_of}
-use Rattle.xa_store.specs.Legal.{IsShutAt, IsFullAt, Stops}
-use Rattle.xa_store.specs.Lowest.{IsOwn, IsOutside, IsLower, Joins, IsOfLowest, IsOfNone, IsTold, IsRunThrough}
-use Rattle.xa_store.specs.Lowest.{AreRunThrough, TellsLowest}
-use Rattle.xa_store.specs.declared.first_fault.FirstFault.{FirstFault}
-use Rattle.xa_store.specs.declared.race_fault.RaceFault.{RaceFault}
+use Rattle.xa_store.specs.{Passes.{log_of, known_of}, Legal.{IsShutAt, IsFullAt, Stops}, Lowest.{IsOwn, IsOutside}}
+use Rattle.xa_store.specs.Lowest.{IsLower, Joins, IsOfLowest, IsOfNone, IsTold, IsRunThrough, AreRunThrough}
+use Rattle.xa_store.specs.{Lowest.TellsLowest, declared.first_fault.FirstFault.FirstFault}
+use Rattle.xa_store.specs.declared.{race_fault.RaceFault.RaceFault, run.Run.Run}
 use Rattle.xa_store.specs.declared.race_fault.RaceFault.TheVariants.{GateShut, Full, NoMemory, ThreadRefused}
-use Rattle.xa_store.specs.declared.run.Run.{Run}
 use Rattle.xa_store.proofs.Spreading.{zip_get, get_front, get_end}
 
 -- None is never Some

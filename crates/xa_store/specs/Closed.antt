@@ -1,12 +1,10 @@
 -- What the sessions of a race leave after they have met.
 --     HasLeft         a session's pass, before it met the others and after it left
 --     HasClosed       the history and the passes that all of them leave
-use Rattle.std.specs.Prelude.{◌≡◌, ◌<◌, List, length, map}
-use Rattle.std.specs.List.{AllZip}
+use Rattle.std.specs.{Prelude.{◌≡◌, ◌<◌, List, length, map}, List.AllZip}
 use Rattle.xa_words.specs.Entry.{Entry}
 use Rattle.decision_log.specs.Known.{LogIdentity}
-use Rattle.xa_store.specs.Passes.{Pass, log_of, known_of}
-use Rattle.xa_store.specs.Gathered.{IsTakenIn, AddsNothing, last_known}
+use Rattle.xa_store.specs.{Passes.{Pass, log_of, known_of}, Gathered.{IsTakenIn, AddsNothing, last_known}}
 use Rattle.xa_store.specs.Renewal.{AreGathered}
 
 -- a pass that has met the others: it has added nothing, and the history has all that it knows

@@ -4,9 +4,7 @@
 --     last_known      what the last session of a list knows
 use Rattle.std.specs.Prelude.{◌≡◌, ◌≤◌, List, [], ◌∷◌}
 use Rattle.xa_words.specs.Entry.{Entry}
-use Rattle.decision_log.specs.declared.known.Known.{Known}
-use Rattle.decision_log.specs.Known.{newcomer}
-use Rattle.decision_log.specs.History.{Begins, entries_of}
+use Rattle.decision_log.specs.{declared.known.Known.Known, Known.newcomer, History.{Begins, entries_of}}
 
 -- the history begins with all that the session has seen, and its entries of the session's number are just those that
 -- the session knows as its own

@@ -20,24 +20,15 @@
 --     IsBlamed        some run stops with a fault
 --     Blames          why a race fails
 use Rattle.std.specs.Prelude.{◌≡◌, ◌<◌, ◌≤◌, ◌+◌, ℕ, Bool, true, false, cond, List, [], ◌∷◌, ◌++◌, length, map, take}
-use Rattle.std.specs.Prelude.{slice_get, Some, Result, Ok, Err}
-use Rattle.std.specs.List.{AllZip}
+use Rattle.std.specs.{Prelude.{slice_get, Some, Result, Ok, Err}, List.AllZip}
 use Rattle.xa_xid.specs.declared.statement.Statement.{Statement}
 use Rattle.xa_words.specs.Entry.{Entry}
-use Rattle.xa_server.specs.State.{State}
-use Rattle.xa_server.specs.Step.{enters}
-use Rattle.decision_log.specs.declared.known.Known.{Known}
-use Rattle.decision_log.specs.History.{Begins, entries_of}
-use Rattle.xa_session.specs.Replay.{state_after, state_at}
-use Rattle.xa_session.specs.Answer.{entry_of, AnswersAt, IsAnswered, IsFull}
-use Rattle.xa_session.specs.declared.answer.Answer.{Answer}
-use Rattle.xa_session.specs.declared.fault.Fault.{Fault}
-use Rattle.xa_session.specs.declared.fault.Fault.TheVariants.{Overtaken, Full as NoRoom, NoMemory as NoMoreMemory, Busy}
-use Rattle.xa_store.specs.Passes.{Pass, log_of, known_of}
-use Rattle.xa_store.specs.Gathered.{IsTakenIn, last_known}
-use Rattle.xa_store.specs.declared.run.Run.{Run}
-use Rattle.xa_store.specs.declared.outcome.Outcome.{Outcome}
-use Rattle.xa_store.specs.declared.race_fault.RaceFault.{RaceFault}
+use Rattle.xa_server.specs.{State.State, Step.enters}
+use Rattle.decision_log.specs.{declared.known.Known.Known, History.{Begins, entries_of}}
+use Rattle.xa_session.specs.{Replay.{state_after, state_at}, Answer.{entry_of, AnswersAt, IsAnswered, IsFull}}
+use Rattle.xa_session.specs.declared.{answer.Answer.Answer, fault.Fault.Fault}
+use Rattle.xa_store.specs.{Passes.{Pass, log_of, known_of}, Gathered.{IsTakenIn, last_known}, declared.run.Run.Run}
+use Rattle.xa_store.specs.declared.{outcome.Outcome.Outcome, race_fault.RaceFault.RaceFault}
 use Rattle.xa_store.specs.declared.race_fault.RaceFault.TheVariants.{GateShut, Full, NoMemory, ThreadRefused}
 
 module _ (base : State) (history : List Entry) (session : ℕ) where
@@ -114,10 +105,10 @@ Halts gate base capacity statement place ThreadRefused old new = ⊥
 -- Full is returned with the session and the statement that has no room, every other fault as NoMemory (`execute` of a
 -- session returns only these two)
 abbrev pub fault_at : ℕ → ℕ → Fault → RaceFault
-fault_at session line (Overtaken front) = NoMemory
-fault_at session line NoRoom = Full session line
-fault_at session line NoMoreMemory = NoMemory
-fault_at session line Busy = NoMemory
+fault_at session line (Fault.Overtaken front) = NoMemory
+fault_at session line Fault.Full = Full session line
+fault_at session line Fault.NoMemory = NoMemory
+fault_at session line Fault.Busy = NoMemory
 
 -- the gate can have let the session go on, and the statement was answered
 pub record IsLetIn (gate : ℕ → ℕ → Bool → Type 0) (base : State) (statement : Statement) (place : ℕ) (answer : Answer)

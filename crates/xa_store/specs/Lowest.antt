@@ -15,12 +15,8 @@ use Rattle.std.specs.Prelude.{vec_len}
 use Rattle.xa_server.specs.State.{State}
 use Rattle.decision_log.specs.declared.known.Known.{Known}
 use Rattle.xa_session.specs.declared.answer.Answer.{Answer}
-use Rattle.xa_store.specs.Passes.{known_of}
-use Rattle.xa_store.specs.Spread.{HasAnswered}
-use Rattle.xa_store.specs.declared.first_fault.FirstFault.{FirstFault}
-use Rattle.xa_store.specs.declared.race_fault.RaceFault.{RaceFault}
-use Rattle.xa_store.specs.declared.race_fault.RaceFault.TheVariants.{GateShut, Full, NoMemory, ThreadRefused}
-use Rattle.xa_store.specs.declared.run.Run.{Run}
+use Rattle.xa_store.specs.{Passes.known_of, Spread.HasAnswered, declared.first_fault.FirstFault.FirstFault}
+use Rattle.xa_store.specs.declared.{race_fault.RaceFault.RaceFault, run.Run.Run}
 
 -- whether the run has a statement
 abbrev pub speaks : Run → Bool
@@ -34,7 +30,7 @@ pub record IsOwn (number : ℕ) (fault : RaceFault) (told : FirstFault) : Type 0
 -- memory ran out outside the tasks; the number is above those of all sessions
 pub record IsOutside (told : FirstFault) : Type 0 where
   pub above : 16 < told.session
-  pub memory : told.fault ≡ NoMemory
+  pub memory : told.fault ≡ RaceFault.NoMemory
 
 -- of two faults that of the lower session is returned
 pub record IsLower (other : FirstFault) (number : ℕ) (fault : RaceFault) (told : FirstFault) : Type 0 where
@@ -59,7 +55,7 @@ pub record IsOfLowest {Task Gain : Type 0} (number : Task → ℕ) (gains : Task
   pub task : Task
   pub found : slice_get tasks index ≡ Some task
   pub number_is : told.session ≡ number task
-  pub cause : (told.fault ≡ ThreadRefused) ⊎ stops task told.fault
+  pub cause : (told.fault ≡ RaceFault.ThreadRefused) ⊎ stops task told.fault
   pub lower : (place : ℕ) (other : Task) → slice_get tasks place ≡ Some other → number other < told.session
       → (gain : Gain) × gains other gain
 
@@ -90,7 +86,7 @@ AreRunThrough gate base runs session =
 -- GateShut and Full name the lowest session that has a fault: the runs of all lower ones were answered to their ends;
 -- NoMemory says nothing; ThreadRefused comes only if there is a run
 abbrev pub TellsLowest : (ℕ → ℕ → Bool → Type 0) → State → List Run → RaceFault → Type 0
-TellsLowest gate base runs (GateShut session line) = AreRunThrough gate base runs session
-TellsLowest gate base runs (Full session line) = AreRunThrough gate base runs session
-TellsLowest gate base runs NoMemory = Unit {0}
-TellsLowest gate base runs ThreadRefused = 0 < length runs
+TellsLowest gate base runs (RaceFault.GateShut session line) = AreRunThrough gate base runs session
+TellsLowest gate base runs (RaceFault.Full session line) = AreRunThrough gate base runs session
+TellsLowest gate base runs RaceFault.NoMemory = Unit {0}
+TellsLowest gate base runs RaceFault.ThreadRefused = 0 < length runs

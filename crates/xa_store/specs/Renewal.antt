@@ -2,16 +2,13 @@
 --     disconnected    the state after sessions 1 to the last have disconnected, in order
 --     renewed         the state that a renewed store's history begins in
 --     AreGathered     passes that a renewal takes
-use Rattle.std.specs.Prelude.{◌≡◌, ◌<◌, ℕ, zero, suc, List, length, map}
-use Rattle.std.specs.List.{All}
+use Rattle.std.specs.{Prelude.{◌≡◌, ◌<◌, ℕ, zero, suc, List, length, map}, List.All}
 use Rattle.xa_words.specs.Entry.{Entry}
 use Rattle.xa_xid.specs.declared.statement.Statement.TheVariants.{Disconnect}
-use Rattle.xa_server.specs.State.{State}
-use Rattle.xa_server.specs.Step.{after}
+use Rattle.xa_server.specs.{State.State, Step.after}
 use Rattle.xa_session.specs.Replay.{state_after}
 use Rattle.decision_log.specs.Known.{LogIdentity}
-use Rattle.xa_store.specs.Passes.{Pass, log_of, known_of}
-use Rattle.xa_store.specs.Gathered.{IsTakenIn, last_known}
+use Rattle.xa_store.specs.{Passes.{Pass, log_of, known_of}, Gathered.{IsTakenIn, last_known}}
 
 -- the state after sessions 1 to this number have disconnected, in order
 abbrev pub disconnected : ℕ → State → State

@@ -6,11 +6,9 @@
 use Rattle.std.specs.Prelude.{◌≡◌, ◌⊎◌, ℕ, Bool, List, length, slice_get, Some}
 use Rattle.xa_xid.specs.declared.statement.Statement.{Statement}
 use Rattle.xa_server.specs.State.{State}
-use Rattle.decision_log.specs.Known.{LogIdentity}
-use Rattle.decision_log.specs.declared.known.Known.{Known}
+use Rattle.decision_log.specs.{Known.LogIdentity, declared.known.Known.Known}
 use Rattle.xa_session.specs.declared.answer.Answer.{Answer}
-use Rattle.xa_store.specs.Legal.{IsLegal, LetsIn}
-use Rattle.xa_store.specs.declared.race_fault.RaceFault.{RaceFault}
+use Rattle.xa_store.specs.{Legal.{IsLegal, LetsIn}, declared.race_fault.RaceFault.RaceFault}
 use Rattle.xa_store.specs.declared.race_fault.RaceFault.TheVariants.{NoMemory, ThreadRefused}
 
 -- a session's answers are legal in what it has seen in the end, and the gate can have let it in at each statement

@@ -1,8 +1,7 @@
 //! One session executes its statements, one after another.
 ghost use Rattle.std.specs.Prelude.{◌≡◌, IfOk, IfErr};
 ghost use Rattle.xa_session.specs.Stays.{Stays};
-ghost use Rattle.xa_store.specs.Legal.{fault_at, EndsOne, GoesNoFurther, Stops};
-ghost use Rattle.xa_store.specs.Spread.{HasRun};
+ghost use Rattle.xa_store.specs.{Legal.{fault_at, EndsOne, GoesNoFurther, Stops}, Spread.HasRun};
 
 use crate::{Gate, RaceFault};
 use decision_log::DecisionLog;

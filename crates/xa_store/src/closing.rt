@@ -1,8 +1,6 @@
 //! How the sessions of a race end: they meet the last one, and return their passes.
-ghost use Rattle.std.specs.Prelude.{◌≡◌, map, IfOk};
-ghost use Rattle.std.specs.List.{All};
-ghost use Rattle.xa_store.specs.Closed.{HasClosed};
-ghost use Rattle.xa_store.specs.Passes.{identity_of, log_of};
+ghost use Rattle.std.specs.{Prelude.{◌≡◌, map, IfOk}, List.All};
+ghost use Rattle.xa_store.specs.{Closed.HasClosed, Passes.{identity_of, log_of}};
 
 use crate::growing::and_both;
 use crate::task::Returned;

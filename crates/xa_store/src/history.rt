@@ -1,8 +1,6 @@
 //! The history that all of a store's sessions have seen.
-ghost use Rattle.std.specs.Prelude.{◌≡◌, ◌<◌, IfOk, length, map};
-ghost use Rattle.std.specs.List.{All, AllZip};
-ghost use Rattle.xa_store.specs.Passes.{identity_of, log_of, known_of};
-ghost use Rattle.xa_store.specs.Gathered.{IsTakenIn, AddsNothing, last_known};
+ghost use Rattle.std.specs.{Prelude.{◌≡◌, ◌<◌, IfOk, length, map}, List.{All, AllZip}};
+ghost use Rattle.xa_store.specs.{Passes.{identity_of, log_of, known_of}, Gathered.{IsTakenIn, AddsNothing, last_known}};
 
 use crate::meeting::{copy_seen, meet_all};
 use crate::{Log, Store};

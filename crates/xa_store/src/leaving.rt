@@ -1,8 +1,6 @@
 //! Closing the sessions of a store together.
-ghost use Rattle.std.specs.Prelude.{◌≡◌, ◌<◌, IfOk, IfErr, length, map};
-ghost use Rattle.std.specs.List.{All, AllZip};
-ghost use Rattle.xa_store.specs.Passes.{identity_of, log_of, known_of};
-ghost use Rattle.xa_store.specs.Gathered.{IsTakenIn, AddsNothing, last_known};
+ghost use Rattle.std.specs.{Prelude.{◌≡◌, ◌<◌, IfOk, IfErr, length, map}, List.{All, AllZip}};
+ghost use Rattle.xa_store.specs.{Passes.{identity_of, log_of, known_of}, Gathered.{IsTakenIn, AddsNothing, last_known}};
 ghost use Rattle.xa_store.specs.Renewal.{AreGathered};
 
 use crate::{Log, Pass, Store};

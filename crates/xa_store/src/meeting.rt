@@ -1,8 +1,6 @@
 //! Sessions of one log meet one of them, which has then seen all that any of them has.
-ghost use Rattle.std.specs.Prelude.{◌≡◌, ◌<◌, IfOk, vec_capacity};
-ghost use Rattle.std.specs.List.{All, AllZip};
-ghost use Rattle.decision_log.specs.History.{Begins, entries_of};
-ghost use Rattle.decision_log.specs.Calls.{MeetsFirst};
+ghost use Rattle.std.specs.{Prelude.{◌≡◌, ◌<◌, IfOk, vec_capacity}, List.{All, AllZip}};
+ghost use Rattle.decision_log.specs.{History.{Begins, entries_of}, Calls.MeetsFirst};
 ghost use Rattle.xa_store.specs.Gathered.{IsTakenIn, AddsNothing};
 
 use decision_log::DecisionLog;

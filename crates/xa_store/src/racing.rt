@@ -1,8 +1,6 @@
 //! Runs of sessions on threads.
-ghost use Rattle.std.specs.Prelude.{◌≡◌, length, count_by, IfOk, IfErr, OnOk};
-ghost use Rattle.std.specs.List.{All, AllZip};
-ghost use Rattle.xa_store.specs.Passes.{identity_of, log_of, known_of};
-ghost use Rattle.xa_store.specs.Legal.{IsOutcome, LetsIn, Blames};
+ghost use Rattle.std.specs.{Prelude.{◌≡◌, length, count_by, IfOk, IfErr, OnOk}, List.{All, AllZip}};
+ghost use Rattle.xa_store.specs.{Passes.{identity_of, log_of, known_of}, Legal.{IsOutcome, LetsIn, Blames}};
 ghost use Rattle.xa_store.specs.Lowest.{speaks, TellsLowest};
 
 use crate::closing::{Closed, close_all};

@@ -1,9 +1,7 @@
 //! Replaces a store's full history by an empty one, with every session disconnected.
-ghost use Rattle.std.specs.Prelude.{◌≡◌, ◌≤◌, IfOk, IfErr, map};
-ghost use Rattle.std.specs.List.{AllZip};
+ghost use Rattle.std.specs.{Prelude.{◌≡◌, ◌≤◌, IfOk, IfErr, map}, List.AllZip};
 ghost use Rattle.decision_log.specs.Opens.{Opens};
-ghost use Rattle.xa_store.specs.Passes.{identity_of, log_of, known_of};
-ghost use Rattle.xa_store.specs.Gathered.{last_known};
+ghost use Rattle.xa_store.specs.{Passes.{identity_of, log_of, known_of}, Gathered.last_known};
 ghost use Rattle.xa_store.specs.Renewal.{AreGathered, disconnected, renewed};
 
 use crate::store::{Log, Pass, Store};

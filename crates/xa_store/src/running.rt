@@ -26,8 +26,7 @@ impl<'a, L: DecisionLog, G: Gate> Task for Started<'a, L, G>
 where
     L::Pass: Drop,
 {
-    ghost use Rattle.xa_store.specs.Legal.{Stops};
-    ghost use Rattle.xa_store.specs.Spread.{HasRun};
+    ghost use Rattle.xa_store.specs.{Legal.Stops, Spread.HasRun};
 
     type Gain = Returned<'a, L, Vec<Answer>>;
 

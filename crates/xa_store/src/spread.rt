@@ -1,8 +1,6 @@
 //! Tasks on threads of their own.
-ghost use Rattle.std.specs.Prelude.{◌≡◌, ◌≤◌, ◌⊎◌, ◌++◌, [], ◌∷◌, Ok, Err, IfOk, IfErr};
-ghost use Rattle.std.specs.List.{AllZip};
-ghost use Rattle.xa_store.specs.Spread.{StopsSome};
-ghost use Rattle.xa_store.specs.Lowest.{Joins, IsTold};
+ghost use Rattle.std.specs.{Prelude.{◌≡◌, ◌≤◌, ◌⊎◌, ◌++◌, [], ◌∷◌, Ok, Err, IfOk, IfErr}, List.AllZip};
+ghost use Rattle.xa_store.specs.{Spread.StopsSome, Lowest.{Joins, IsTold}};
 
 use crate::RaceFault;
 use crate::first_fault::FirstFault;

@@ -1,7 +1,6 @@
 -- What is true of each element of a list.
 use Rattle.std.proofs.Common.{◌≡◌, ◌<◌, List, length, get_or, arith}
-use Rattle.std.specs.List.{All, AllZip}
-use Rattle.std.proofs.lemmas.List.Elements.{All-get_or, AllZip-get_or, length_all_zip}
+use Rattle.std.{proofs.lemmas.List.Elements.{All-get_or, AllZip-get_or, length_all_zip}, specs.List.{All, AllZip}}
 
 -- if `P` holds of each element, and each changes by `R`, which keeps `P`, it holds of each afterwards
 pub all_kept : {S : Type 0} (R : S → S → Type 0) (P : S → Type 0) → ((a b : S) → R a b → P a → P b)

@@ -1,7 +1,6 @@
 //! Coordinators that no manager has: of two names over the same stores, and over stores that are renewed
 //! between the votes and the second phase.
-ghost use Rattle.std.specs.Prelude.{◌≡◌, ◌<◌, vec_len};
-ghost use Rattle.std.specs.List.{All};
+ghost use Rattle.std.specs.{Prelude.{◌≡◌, ◌<◌, vec_len}, List.All};
 ghost use Rattle.xa_store.specs.Passes.{identity_of, log_of};
 
 use crate::meddled::name;

@@ -1,6 +1,5 @@
 //! A coordinator of two stores, in which one growth may be refused, and a second one that recovers after it.
-ghost use Rattle.std.specs.Prelude.{◌≡◌};
-ghost use Rattle.std.specs.List.{All};
+ghost use Rattle.std.specs.{Prelude.◌≡◌, List.All};
 ghost use Rattle.xa_store.specs.Passes.{identity_of, log_of};
 
 use crate::calls::{calls, is_told, told};

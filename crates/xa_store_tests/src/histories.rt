@@ -1,7 +1,6 @@
 //! The history of a store, asked for; and what a session that is dropped leaves. A step that is refused
 //! memory is repeated once.
-ghost use Rattle.std.specs.Prelude.{◌≡◌};
-ghost use Rattle.std.specs.List.{All};
+ghost use Rattle.std.specs.{Prelude.◌≡◌, List.All};
 ghost use Rattle.xa_store.specs.Passes.{identity_of, log_of};
 
 use crate::has_history;

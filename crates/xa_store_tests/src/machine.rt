@@ -1,8 +1,7 @@
 //! A coordinator that is stopped, fails or is met by another client at each of its calls, recovers, and is
 //! held to an account that the test keeps: a store has the row if, and only if, the transaction was decided,
 //! unless another client has committed or rolled back the branch there. A recovery may fail only in a full log.
-ghost use Rattle.std.specs.Prelude.{◌≡◌};
-ghost use Rattle.std.specs.List.{All};
+ghost use Rattle.std.specs.{Prelude.◌≡◌, List.All};
 ghost use Rattle.xa_store.specs.Passes.{identity_of, log_of};
 
 use crate::calls::{calls, is_told, told};

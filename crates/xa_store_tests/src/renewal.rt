@@ -1,9 +1,7 @@
 //! Stores that go on once their history is full, or once a session was dropped, and what becomes of open
 //! branches. A step that is refused memory is repeated once.
-ghost use Rattle.std.specs.Prelude.{◌≡◌, ◌<◌, length, IfOk, IfErr};
-ghost use Rattle.std.specs.List.{All};
-ghost use Rattle.xa_store.specs.Passes.{identity_of, log_of};
-ghost use Rattle.xa_store.specs.Renewal.{AreGathered};
+ghost use Rattle.std.specs.{Prelude.{◌≡◌, ◌<◌, length, IfOk, IfErr}, List.All};
+ghost use Rattle.xa_store.specs.{Passes.{identity_of, log_of}, Renewal.AreGathered};
 
 use crate::first_difference;
 use crate::stores::{both, opened, pushed};

@@ -1,6 +1,5 @@
 //! Races of runs whose statements a script says.
-ghost use Rattle.std.specs.Prelude.{◌≡◌, map};
-ghost use Rattle.std.specs.List.{All};
+ghost use Rattle.std.specs.{Prelude.{◌≡◌, map}, List.All};
 ghost use Rattle.xa_store.specs.Passes.{identity_of, log_of};
 
 use crate::given_in;

@@ -1,6 +1,5 @@
 //! Stores and their sessions. A step that is refused memory is repeated once.
-ghost use Rattle.std.specs.Prelude.{◌≡◌, ◌++◌, ◌∷◌, [], IfSome};
-ghost use Rattle.std.specs.List.{All};
+ghost use Rattle.std.specs.{Prelude.{◌≡◌, ◌++◌, ◌∷◌, [], IfSome}, List.All};
 ghost use Rattle.xa_store.specs.Passes.{identity_of, log_of};
 
 use decision_log::OpenFault;

@@ -1,11 +1,8 @@
 -- The words of an entry behind the end of its texts.
 use Rattle.std.proofs.Common.{◌≡◌, ℕ, ◌+◌, ◌-◌, ◌*◌, ◌<◌, ◌≤◌, List, length, get_or, take, drop, refl, ap, sym, ◌∙◌}
-use Rattle.std.proofs.Common.{arith}
-use Rattle.std.proofs.lemmas.List.{get_or-drop, get_or-take}
-use Rattle.xa_words.specs.Entry.{Entry}
-use Rattle.xa_words.specs.Words.{parts_of, text_word, text_words, words_of}
-use Rattle.xa_words.proofs.Texts.{word_at, past_the_end}
-use Rattle.xa_words.proofs.Spelling.{Pieces, pieces}
+use Rattle.std.proofs.{Common.arith, lemmas.List.{get_or-drop, get_or-take}}
+use Rattle.xa_words.specs.{Entry.Entry, Words.{parts_of, text_word, text_words, words_of}}
+use Rattle.xa_words.proofs.{Texts.{word_at, past_the_end}, Spelling.{Pieces, pieces}}
 
 -- the words of an entry are made of its session and the parts of its statement
 own_pieces : (entry : Entry) → Pieces (words_of entry) entry.session (parts_of entry.statement)

@@ -1,10 +1,7 @@
 -- A statement and its parts: the parts give the statement back, and keep its limits.
 use Rattle.std.proofs.Common.{◌≡◌, ℕ, ◌<◌, ◌≤◌, ◌^◌, true, false, cond, nat_eq, IsTrue, List, [], refl, ap, sym, ◌∙◌}
 use Rattle.std.proofs.Common.{arith, lit<, lit≤}
-use Rattle.xa_xid.specs.declared.xid.Xid.{Xid}
-use Rattle.xa_xid.specs.declared.statement.Statement.{Statement}
-use Rattle.xa_xid.specs.declared.statement.Statement.TheVariants.{Start, End, Prepare, Commit, Rollback, Recover}
-use Rattle.xa_xid.specs.declared.statement.Statement.TheVariants.{Unsupported, Get, Put, Del, Disconnect}
+use Rattle.xa_xid.specs.declared.{xid.Xid.Xid, statement.Statement.Statement}
 use Rattle.xa_words.specs.Entry.{IsText, IsXid, may_be_entry, KeepsLimits}
 use Rattle.xa_words.specs.Words.{Parts, of_xid, of_texts, parts_of, RowParts}
 
@@ -15,31 +12,31 @@ xid_of p = record { format_id = p.format_id; gtrid = record { items = p.first };
 -- the statement of a kind, a formatID and two texts
 statement_of : Parts → Statement
 statement_of p =
-    cond (nat_eq p.kind 1) (Start (xid_of p))
-    (cond (nat_eq p.kind 2) (End (xid_of p))
-    (cond (nat_eq p.kind 3) (Prepare (xid_of p))
-    (cond (nat_eq p.kind 4) (Commit (xid_of p) false)
-    (cond (nat_eq p.kind 5) (Commit (xid_of p) true)
-    (cond (nat_eq p.kind 6) (Rollback (xid_of p))
-    (cond (nat_eq p.kind 7) (Get p.first)
-    (cond (nat_eq p.kind 8) (Put p.first (record { items = p.second }))
-    (cond (nat_eq p.kind 9) (Del p.first) Disconnect))))))))
+    cond (nat_eq p.kind 1) (Statement.Start (xid_of p))
+    (cond (nat_eq p.kind 2) (Statement.End (xid_of p))
+    (cond (nat_eq p.kind 3) (Statement.Prepare (xid_of p))
+    (cond (nat_eq p.kind 4) (Statement.Commit (xid_of p) false)
+    (cond (nat_eq p.kind 5) (Statement.Commit (xid_of p) true)
+    (cond (nat_eq p.kind 6) (Statement.Rollback (xid_of p))
+    (cond (nat_eq p.kind 7) (Statement.Get p.first)
+    (cond (nat_eq p.kind 8) (Statement.Put p.first (record { items = p.second }))
+    (cond (nat_eq p.kind 9) (Statement.Del p.first) Statement.Disconnect))))))))
 
 -- a statement that may be an entry is that of its parts
 again : (st : Statement) → IsTrue (may_be_entry st) → statement_of (parts_of st) ≡ st
 unfolding statement_of xid_of
-again (Start xid) may = refl
-again (End xid) may = refl
-again (Prepare xid) may = refl
-again (Commit xid false) may = refl
-again (Commit xid true) may = refl
-again (Rollback xid) may = refl
-again (Recover convert) may = cc
-again Unsupported may = cc
-again (Get key) may = refl
-again (Put key value) may = refl
-again (Del key) may = refl
-again Disconnect may = refl
+again (Statement.Start xid) may = refl
+again (Statement.End xid) may = refl
+again (Statement.Prepare xid) may = refl
+again (Statement.Commit xid false) may = refl
+again (Statement.Commit xid true) may = refl
+again (Statement.Rollback xid) may = refl
+again (Statement.Recover convert) may = cc
+again Statement.Unsupported may = cc
+again (Statement.Get key) may = refl
+again (Statement.Put key value) may = refl
+again (Statement.Del key) may = refl
+again Statement.Disconnect may = refl
 
 -- statements of the same parts are one
 pub one_statement : (left right : Statement) → IsTrue (may_be_entry left) → IsTrue (may_be_entry right)
@@ -89,15 +86,15 @@ texts_within kind first second one two row =
 
 -- the parts of a statement within the limits are within them
 pub within : (st : Statement) → IsTrue (may_be_entry st) → KeepsLimits st → Within (parts_of st)
-within (Start xid) may k = xid_within 1 xid (omega arith) (omega arith) k
-within (End xid) may k = xid_within 2 xid (omega arith) (omega arith) k
-within (Prepare xid) may k = xid_within 3 xid (omega arith) (omega arith) k
-within (Commit xid false) may k = xid_within 4 xid (omega arith) (omega arith) k
-within (Commit xid true) may k = xid_within 5 xid (omega arith) (omega arith) k
-within (Rollback xid) may k = xid_within 6 xid (omega arith) (omega arith) k
-within (Recover convert) may k = cc
-within Unsupported may k = cc
-within (Get key) may k =
+within (Statement.Start xid) may k = xid_within 1 xid (omega arith) (omega arith) k
+within (Statement.End xid) may k = xid_within 2 xid (omega arith) (omega arith) k
+within (Statement.Prepare xid) may k = xid_within 3 xid (omega arith) (omega arith) k
+within (Statement.Commit xid false) may k = xid_within 4 xid (omega arith) (omega arith) k
+within (Statement.Commit xid true) may k = xid_within 5 xid (omega arith) (omega arith) k
+within (Statement.Rollback xid) may k = xid_within 6 xid (omega arith) (omega arith) k
+within (Statement.Recover convert) may k = cc
+within Statement.Unsupported may k = cc
+within (Statement.Get key) may k =
     texts_within 7 key [] k.text empty
     (record {
       low = omega arith;
@@ -107,7 +104,7 @@ within (Get key) may k =
           (omega arith);
       no_value = λ n. refl;
     })
-within (Put key value) may k =
+within (Statement.Put key value) may k =
     texts_within 8 key value.items k.0.text k.1
     (record {
       low = omega arith;
@@ -117,7 +114,7 @@ within (Put key value) may k =
           (omega arith);
       no_value = λ n. absurd (n refl);
     })
-within (Del key) may k =
+within (Statement.Del key) may k =
     texts_within 9 key [] k.text empty
     (record {
       low = omega arith;
@@ -127,7 +124,7 @@ within (Del key) may k =
           (omega arith);
       no_value = λ n. refl;
     })
-within Disconnect may k =
+within Statement.Disconnect may k =
     texts_within 10 [] [] empty empty
     (record {
       low = omega arith;

@@ -1,13 +1,9 @@
 -- An entry and its 21 words: each gives the other back.
 use Rattle.std.proofs.Common.{◌≡◌, ℕ, ◌<◌, ◌^◌, List, [], ◌∷◌, ◌++◌, length, get_or, take, drop, refl, ap, sym, ◌∙◌}
-use Rattle.std.proofs.Common.{arith}
+use Rattle.std.proofs.{Common.arith, lemmas.List.{take-append-drop, length-drop, take_all, Elements.All-from_recursion}}
 use Rattle.std.specs.List.{All}
-use Rattle.std.proofs.lemmas.List.{take-append-drop, length-drop, take_all}
-use Rattle.std.proofs.lemmas.List.Elements.{All-from_recursion}
-use Rattle.xa_words.specs.Entry.{Entry, IsEntry, IsText}
-use Rattle.xa_words.specs.Words.{Parts, parts_of, text_words, lay_out, words_of}
-use Rattle.xa_words.proofs.Texts.{one_text, text_word-fits}
-use Rattle.xa_words.proofs.KindTable.{within, one_statement}
+use Rattle.xa_words.specs.{Entry.{Entry, IsEntry, IsText}, Words.{Parts, parts_of, text_words, lay_out, words_of}}
+use Rattle.xa_words.proofs.{Texts.{one_text, text_word-fits}, KindTable.{within, one_statement}}
 
 -- the words have the session, the kind, two lengths, the formatID and the two texts at their places
 pub record Pieces (words : List ℕ) (of : ℕ) (parts : Parts) : Type 0 where

@@ -1,14 +1,12 @@
 -- A text and its eight words: each gives the other back.
 use Rattle.std.proofs.Common.{◌≡◌, ℕ, zero, suc, ◌+◌, ◌*◌, ◌/◌, ◌%◌, ◌^◌, ◌<◌, ◌≤◌, ◌-◌, List, [], ◌∷◌, ◌++◌, length}
 use Rattle.std.proofs.Common.{get_or, take, refl, ap, sym, ◌∙◌, arith, lit<}
-use Rattle.std.specs.Int.{w64, from_be_bytes, to_be_bytes}
 use Rattle.std.proofs.lemmas.List.{ext_get_or, get_or_past, get_or_append_left, get_or-append_right, get_or-take}
-use Rattle.std.proofs.Math.Seq.{take-append-add}
-use Rattle.std.proofs.lemmas.Nat.{from_be_bytes-to_be_bytes_8, be_bytes_8}
+use Rattle.std.proofs.{lemmas.Nat.{from_be_bytes-to_be_bytes_8, be_bytes_8}, Math.Seq.take-append-add}
+use Rattle.std.specs.Int.{w64, from_be_bytes, to_be_bytes}
 use mathlib.Core.Logic.{dite}
+use Rattle.xa_words.specs.{Entry.IsText, Words.{eight_bytes, text_word, text_words, byte_of}}
 use native.Mathlib.Decide.{dec_lt}
-use Rattle.xa_words.specs.Entry.{IsText}
-use Rattle.xa_words.specs.Words.{eight_bytes, text_word, text_words, byte_of}
 
 -- what holds of 0 to 7 holds of each number below 8
 below_eight : (P : ℕ → Type 0) → P 0 → P 1 → P 2 → P 3 → P 4 → P 5 → P 6 → P 7 → (n : ℕ) → n < 8 → P n

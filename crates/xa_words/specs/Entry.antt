@@ -7,11 +7,7 @@
 --     KeepsLimits     the texts and the formatID of a statement are within their limits
 --     IsEntry         the session's number and the statement are those of an entry
 use Rattle.std.specs.Prelude.{ℕ, ◌<◌, ◌≤◌, ◌^◌, Bool, true, false, IsTrue, List, length, slice_index}
-use Rattle.xa_xid.specs.Limits.{text_bytes}
-use Rattle.xa_xid.specs.declared.xid.Xid.{Xid}
-use Rattle.xa_xid.specs.declared.statement.Statement.{Statement}
-use Rattle.xa_xid.specs.declared.statement.Statement.TheVariants.{Start, End, Prepare, Commit, Rollback, Recover}
-use Rattle.xa_xid.specs.declared.statement.Statement.TheVariants.{Unsupported, Get, Put, Del, Disconnect}
+use Rattle.xa_xid.specs.{Limits.text_bytes, declared.{xid.Xid.Xid, statement.Statement.Statement}}
 
 -- a session's number and the statement that it gave
 pub record Entry : Type 0 where
@@ -36,23 +32,23 @@ pub record IsNonEmptyText (key : List ℕ) : Type 0 where
 
 -- every kind except XA RECOVER and an unsupported statement (own rule)
 abbrev pub may_be_entry : Statement → Bool
-may_be_entry (Recover convert) = false
-may_be_entry Unsupported = false
+may_be_entry (Statement.Recover convert) = false
+may_be_entry Statement.Unsupported = false
 may_be_entry statement = true
 
 -- the identifier, the key and the value of a statement, if it has them, are within their limits
 abbrev pub KeepsLimits : Statement → Type 0
-KeepsLimits (Start xid) = IsXid xid
-KeepsLimits (End xid) = IsXid xid
-KeepsLimits (Prepare xid) = IsXid xid
-KeepsLimits (Commit xid one_phase) = IsXid xid
-KeepsLimits (Rollback xid) = IsXid xid
-KeepsLimits (Recover convert) = Unit {0}
-KeepsLimits Unsupported = Unit {0}
-KeepsLimits (Get key) = IsNonEmptyText key
-KeepsLimits (Put key value) = IsNonEmptyText key × IsText value.items
-KeepsLimits (Del key) = IsNonEmptyText key
-KeepsLimits Disconnect = Unit {0}
+KeepsLimits (Statement.Start xid) = IsXid xid
+KeepsLimits (Statement.End xid) = IsXid xid
+KeepsLimits (Statement.Prepare xid) = IsXid xid
+KeepsLimits (Statement.Commit xid one_phase) = IsXid xid
+KeepsLimits (Statement.Rollback xid) = IsXid xid
+KeepsLimits (Statement.Recover convert) = Unit {0}
+KeepsLimits Statement.Unsupported = Unit {0}
+KeepsLimits (Statement.Get key) = IsNonEmptyText key
+KeepsLimits (Statement.Put key value) = IsNonEmptyText key × IsText value.items
+KeepsLimits (Statement.Del key) = IsNonEmptyText key
+KeepsLimits Statement.Disconnect = Unit {0}
 
 -- a session from 1 to 16, and a statement that can be logged (own rule)
 pub record IsEntry (entry : Entry) : Type 0 where

@@ -9,12 +9,8 @@
 --     of_xid, of_texts    the parts of a statement about a branch;  of another one
 --     lay_out         the numbers of a session and parts
 use Rattle.std.specs.Prelude.{◌≡◌, ◌≢◌, ◌<◌, ◌≤◌, ℕ, ◌+◌, ◌/◌, ◌%◌, List, [], ◌∷◌, ◌++◌, length, slice_index, true}
-use Rattle.std.specs.Prelude.{false}
-use Rattle.std.specs.Int.{w64, from_be_bytes, to_be_bytes}
-use Rattle.xa_xid.specs.declared.xid.Xid.{Xid}
-use Rattle.xa_xid.specs.declared.statement.Statement.{Statement}
-use Rattle.xa_xid.specs.declared.statement.Statement.TheVariants.{Start, End, Prepare, Commit, Rollback, Recover}
-use Rattle.xa_xid.specs.declared.statement.Statement.TheVariants.{Unsupported, Get, Put, Del, Disconnect}
+use Rattle.std.specs.{Prelude.false, Int.{w64, from_be_bytes, to_be_bytes}}
+use Rattle.xa_xid.specs.declared.{xid.Xid.Xid, statement.Statement.Statement}
 use Rattle.xa_words.specs.Entry.{Entry}
 
 -- a kind, a formatID (0 if the kind has none), and two texts (empty if the kind has none)
@@ -34,18 +30,18 @@ of_texts kind first second = record { kind = kind; format_id = 0; first = first;
 
 -- the table of kinds; no entry has kind 0 (own rule)
 abbrev pub parts_of : Statement → Parts
-parts_of (Start xid) = of_xid 1 xid
-parts_of (End xid) = of_xid 2 xid
-parts_of (Prepare xid) = of_xid 3 xid
-parts_of (Commit xid false) = of_xid 4 xid
-parts_of (Commit xid true) = of_xid 5 xid
-parts_of (Rollback xid) = of_xid 6 xid
-parts_of (Get key) = of_texts 7 key []
-parts_of (Put key value) = of_texts 8 key value.items
-parts_of (Del key) = of_texts 9 key []
-parts_of Disconnect = of_texts 10 [] []
-parts_of (Recover convert) = of_texts 0 [] []
-parts_of Unsupported = of_texts 0 [] []
+parts_of (Statement.Start xid) = of_xid 1 xid
+parts_of (Statement.End xid) = of_xid 2 xid
+parts_of (Statement.Prepare xid) = of_xid 3 xid
+parts_of (Statement.Commit xid false) = of_xid 4 xid
+parts_of (Statement.Commit xid true) = of_xid 5 xid
+parts_of (Statement.Rollback xid) = of_xid 6 xid
+parts_of (Statement.Get key) = of_texts 7 key []
+parts_of (Statement.Put key value) = of_texts 8 key value.items
+parts_of (Statement.Del key) = of_texts 9 key []
+parts_of Statement.Disconnect = of_texts 10 [] []
+parts_of (Statement.Recover convert) = of_texts 0 [] []
+parts_of Statement.Unsupported = of_texts 0 [] []
 
 -- the eight bytes of a text from a place on, zeros past its end
 abbrev pub eight_bytes : List ℕ → ℕ → List ℕ

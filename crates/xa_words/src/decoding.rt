@@ -1,7 +1,6 @@
 //! From any words to an entry, if they are one.
 ghost use Rattle.std.specs.Prelude.{◌≡◌, Some, IfSome};
-ghost use Rattle.xa_words.specs.Entry.{Entry, IsEntry};
-ghost use Rattle.xa_words.specs.Words.{words_of};
+ghost use Rattle.xa_words.specs.{Entry.{Entry, IsEntry}, Words.words_of};
 
 use crate::layout::WORDS;
 use crate::{Entry, encode, read_back};

@@ -1,7 +1,6 @@
 //! From an entry to its words.
 ghost use Rattle.std.specs.Prelude.{◌≡◌};
-ghost use Rattle.xa_words.specs.Entry.{IsEntry};
-ghost use Rattle.xa_words.specs.Words.{words_of};
+ghost use Rattle.xa_words.specs.{Entry.IsEntry, Words.words_of};
 
 use crate::Entry;
 use crate::layout::{Parts, WORDS, text_words};

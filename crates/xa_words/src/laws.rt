@@ -1,7 +1,6 @@
 //! Laws of the words of every entry, as contracts over definitions only.
 ghost use Rattle.std.specs.Prelude.{◌≡◌, ◌↔◌, ◌^◌, ◌<◌, length, All, IsTrue};
-ghost use Rattle.xa_words.specs.Entry.{Entry as EntryValue, IsEntry};
-ghost use Rattle.xa_words.specs.Words.{words_of};
+ghost use Rattle.xa_words.specs.{Entry.{Entry as EntryValue, IsEntry}, Words.words_of};
 
 use crate::Entry;
 

@@ -1,7 +1,6 @@
 //! The layout of an entry's words.
 ghost use Rattle.std.specs.Prelude.{◌≡◌, ◌<◌, ℕ, length, slice_index, IsTrue};
-ghost use Rattle.xa_words.specs.Entry.{Entry};
-ghost use Rattle.xa_words.specs.Words.{parts_of, text_word, text_words, words_of};
+ghost use Rattle.xa_words.specs.{Entry.Entry, Words.{parts_of, text_word, text_words, words_of}};
 
 use xa_xid::{Key, Statement, Xid};
 

@@ -1,11 +1,9 @@
 //! From the words of an entry back to it.
 ghost use Rattle.std.specs.Prelude.{◌≡◌, ◌<◌, ◌≤◌, ◌+◌, ◌*◌, ◌++◌, ℕ, List, length, slice_index, take, Some, IfSome};
-ghost use Rattle.std.specs.Prelude.{IfNone, IsTrue};
-ghost use Rattle.xa_xid.specs.Limits.{text_bytes};
+ghost use Rattle.std.specs.{Prelude.{IfNone, IsTrue}, Int.{w64, to_be_bytes}};
+ghost use Rattle.xa_xid.specs.{Limits.text_bytes, declared.statement.Statement.Statement};
 ghost use Rattle.xa_words.specs.Entry.{Entry, IsText, IsEntry, KeepsLimits, may_be_entry};
 ghost use Rattle.xa_words.specs.Words.{parts_of, of_xid, of_texts, text_words, words_of, byte_of, RowParts};
-ghost use Rattle.xa_xid.specs.declared.statement.Statement.{Statement};
-ghost use Rattle.std.specs.Int.{w64, to_be_bytes};
 
 use crate::Entry;
 use crate::layout::{MOST_BYTES, WORDS};

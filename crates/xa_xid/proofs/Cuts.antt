@@ -1,9 +1,6 @@
 -- How a text is cut where a kind of byte ends, place by place.
 use Rattle.std.proofs.Common.{◌≡◌, ℕ, ◌+◌, ◌<◌, ◌≤◌, Bool, true, false, List, [], ◌∷◌, ◌++◌, length, take, drop, get_or}
-use Rattle.std.proofs.Common.{refl, sym, ◌∙◌, add-one, append_assoc}
-use Rattle.std.proofs.Common.{drop-cons, suc}
-use Rattle.std.proofs.Math.Nat.{le_refl}
-use Rattle.std.proofs.Math.Seq.{take-suc}
+use Rattle.std.proofs.{Common.{refl, sym, ◌∙◌, add-one, append_assoc, drop-cons, suc}, Math.{Nat.le_refl, Seq.take-suc}}
 use Rattle.std.proofs.lemmas.List.{drop_all, take_all, append-nil}
 use Rattle.xa_xid.specs.Bytes.{front, behind}
 

@@ -1,22 +1,14 @@
 -- What is read as an identifier is spelled as one, and the other way round.
 use Rattle.std.proofs.Common.{◌≡◌, ℕ, true, false, ◌==◌, if◌then◌else◌, List, [], ◌∷◌, Option, Some, None, Ok, Err}
-use Rattle.std.proofs.Common.{refl, ◌∙◌, ap}
-use Rattle.std.proofs.lemmas.Bool.{eqb-true}
-use Rattle.xa_xid.specs.Bytes.{unblank}
-use Rattle.xa_xid.specs.Literal.{Reading, TextAt, literal_ahead, sized}
+use Rattle.std.proofs.{Common.{refl, ◌∙◌, ap}, lemmas.Bool.eqb-true}
+use Rattle.xa_xid.specs.{Bytes.unblank, Literal.{Reading, TextAt, literal_ahead, sized}}
 use Rattle.xa_xid.specs.Faults.{FaultyLiteral, FaultyXid, faulty_gtrid, faulty_bqual, faulty_format_id}
-use Rattle.xa_xid.specs.Number.{NumberAt, number_ahead}
-use Rattle.xa_xid.specs.Xid.{Text}
-use Rattle.xa_xid.specs.XidText.{XidAt, gtrid_alone, gtrid_bqual, gtrid_bqual_format, CommaAt, NoCommaAt, Parse}
-use Rattle.xa_xid.specs.XidText.{xid_ahead, xid_of, comma_next, after_gtrid}
-use Rattle.xa_xid.specs.XidText.{after_bqual}
-use Rattle.xa_xid.specs.declared.literal_fault.LiteralFault.{LiteralFault}
-use Rattle.xa_xid.specs.declared.xid.Xid.{Xid}
+use Rattle.xa_xid.specs.{Number.{NumberAt, number_ahead}, Xid.Text, XidText.{XidAt, gtrid_alone, gtrid_bqual}}
+use Rattle.xa_xid.specs.XidText.{gtrid_bqual_format, CommaAt, NoCommaAt, Parse, xid_ahead, xid_of, comma_next}
+use Rattle.xa_xid.specs.{XidText.{after_gtrid, after_bqual}, declared.literal_fault.LiteralFault.LiteralFault}
+use Rattle.xa_xid.{specs.declared.xid.Xid.Xid, proofs.Spelled.{read_spelled, read_faulty, faulty_read}}
 use Rattle.xa_xid.proofs.Numerals.{read_number_spelled, spelled_number_read, read_faulty_number, faulty_number_read}
-use Rattle.xa_xid.proofs.Spelled.{read_spelled, read_faulty, faulty_read}
-use Rattle.xa_xid.proofs.Spelling.{spelled_read}
-use Rattle.xa_xid.proofs.Texts.{kept-fits}
-use Rattle.xa_xid.proofs.Written.{format_found, bqual_found, gtrid_found}
+use Rattle.xa_xid.proofs.{Spelling.spelled_read, Texts.kept-fits, Written.{format_found, bqual_found, gtrid_found}}
 
 -- a literal that is read and has at most 64 bytes is spelled as a text
 pub read_text_spelled : (text : List ℕ) (found : Text) (rest : List ℕ) → literal_ahead text ≡ Ok (found, rest)

@@ -1,13 +1,9 @@
 -- The value of digits, read one after another.
 use Rattle.std.proofs.Common.{◌≡◌, ℕ, ◌+◌, ◌*◌, ◌<◌, ◌≤◌, List, [], ◌∷◌, length, drop, get_or, refl, sym, ◌∙◌, ◌^◌, Ok}
-use Rattle.std.proofs.Common.{Err, arith, add-one, drop-cons}
-use Rattle.std.proofs.Math.Nat.{le_refl, mul-le-mul_left}
-use Rattle.std.proofs.lemmas.List.{drop_all}
-use Rattle.std.specs.Char.{digit_value}
-use Rattle.std.proofs.lemmas.Bool.{lt-ltb, le-ltb}
+use Rattle.std.proofs.{Common.{Err, arith, add-one, drop-cons}, Math.Nat.{le_refl, mul-le-mul_left}}
+use Rattle.std.{proofs.lemmas.{List.drop_all, Bool.{lt-ltb, le-ltb}}, specs.Char.digit_value}
 use Rattle.std.specs.Str.Parse.{digits_value, digits_value_after}
-use Rattle.xa_xid.specs.Number.{fitting}
-use Rattle.xa_xid.specs.declared.literal_fault.LiteralFault.TheVariants.{NumberTooLarge}
+use Rattle.xa_xid.specs.{Number.fitting, declared.literal_fault.LiteralFault.TheVariants.NumberTooLarge}
 
 -- reading has come to this place with this value: going on from it over the digits left gives the value of all digits
 pub record Reached (base : ℕ) (digits : List ℕ) (place value : ℕ) : Type 0 where

@@ -1,14 +1,9 @@
 -- The laws of the orders: they are total, and only equal values tie.
-use Rattle.std.proofs.Common.{◌≡◌, ℕ, List, ap, sym, ◌∙◌}
-use Rattle.std.specs.Cmp.{IsTotalOrder, nat_cmp_total}
-use Rattle.std.specs.Cmp.Lexicographic.{nat_list_cmp_total}
-use Rattle.std.specs.Ordering.{nat_cmp, ordering_then}
-use Rattle.std.proofs.lemmas.Cmp.{on_total, then_total, tied_itself}
-use Rattle.std.specs.declared.cmp.Ordering.{Ordering}
-use Rattle.std.specs.declared.cmp.Ordering.TheVariants.{Equal}
+use Rattle.std.proofs.{Common.{◌≡◌, ℕ, List, ap, sym, ◌∙◌}, lemmas.Cmp.{on_total, then_total, tied_itself}}
 use Rattle.std.proofs.lemmas.Map.Lookups.{CmpEqualImpliesEq, exact_unsigned, exact_bytes, exact_pairs}
-use Rattle.xa_xid.specs.declared.xid.Xid.{Xid}
-use Rattle.xa_xid.specs.Xid.{bytes_cmp, xid_cmp}
+use Rattle.std.specs.Cmp.{IsTotalOrder, nat_cmp_total, Lexicographic.nat_list_cmp_total}
+use Rattle.std.specs.{Ordering.{nat_cmp, ordering_then}, declared.cmp.Ordering.{Ordering, TheVariants.Equal}}
+use Rattle.xa_xid.specs.{declared.xid.Xid.Xid, Xid.{bytes_cmp, xid_cmp}}
 
 -- texts are ordered byte by byte: any two compare, one way
 pub bytes_total : IsTotalOrder bytes_cmp

@@ -1,24 +1,17 @@
 -- What a token leaves of a text is an end of it, so a place says it too.
 use Rattle.std.proofs.Common.{◌≡◌, ℕ, ◌-◌, ◌+◌, ◌≤◌, ◌↔◌, List, [], ◌∷◌, ◌++◌, length, take, drop, Result, Ok, Err}
-use Rattle.std.proofs.Common.{refl, sym, ◌∙◌, ap, arith, append_assoc}
-use Rattle.std.proofs.Common.{length-append}
-use Rattle.std.proofs.Math.Seq.{drop-append_seam}
+use Rattle.std.proofs.{Common.{refl, sym, ◌∙◌, ap, arith, append_assoc, length-append}, Math.Seq.drop-append_seam}
 use Rattle.std.proofs.lemmas.List.{take-append-drop, length-drop}
-use Rattle.xa_xid.specs.Bytes.{belongs, front, unblank}
-use Rattle.xa_xid.specs.Literal.{Reading, LiteralAt, text_literal, hex_in_quotes, hex_run, TextAt, Between}
-use Rattle.xa_xid.specs.Literal.{literal_ahead, placed}
+use Rattle.xa_xid.specs.{Bytes.{belongs, front, unblank}, Literal.{Reading, LiteralAt, text_literal, hex_in_quotes}}
+use Rattle.xa_xid.specs.Literal.{hex_run, TextAt, Between, literal_ahead, placed}
 use Rattle.xa_xid.specs.Faults.{FaultyLiteral, FaultyNumber, FaultyXid, faulty_gtrid, faulty_bqual, faulty_format_id}
-use Rattle.xa_xid.specs.Number.{NumberAt, decimal_digits, hexadecimal_digits, number_ahead}
-use Rattle.xa_xid.specs.Xid.{Text}
-use Rattle.xa_xid.specs.XidText.{XidAt, gtrid_alone, gtrid_bqual, gtrid_bqual_format, CommaAt, Parse, xid_ahead}
-use Rattle.xa_xid.specs.XidText.{gtrid_next, places}
-use Rattle.xa_xid.specs.declared.byte_class.ByteClass.TheVariants.{Blank}
-use Rattle.xa_xid.specs.declared.literal_fault.LiteralFault.{LiteralFault}
-use Rattle.xa_xid.specs.declared.xid.Xid.{Xid}
+use Rattle.xa_xid.specs.{Number.{NumberAt, decimal_digits, hexadecimal_digits, number_ahead}, Xid.Text, XidText.XidAt}
+use Rattle.xa_xid.specs.XidText.{gtrid_alone, gtrid_bqual, gtrid_bqual_format, CommaAt, Parse, xid_ahead, gtrid_next}
+use Rattle.xa_xid.specs.{XidText.places, declared.byte_class.ByteClass.TheVariants.Blank}
+use Rattle.xa_xid.specs.declared.{literal_fault.LiteralFault.LiteralFault, xid.Xid.Xid}
 use Rattle.xa_xid.proofs.Identifiers.{read_text_spelled, spelled_text_read, read_xid_spelled, spelled_xid_read}
-use Rattle.xa_xid.proofs.Identifiers.{read_faulty_xid, faulty_xid_read}
+use Rattle.xa_xid.proofs.{Identifiers.{read_faulty_xid, faulty_xid_read}, Spelled.{read_faulty, faulty_read}}
 use Rattle.xa_xid.proofs.Numerals.{read_number_spelled, spelled_number_read, read_faulty_number, faulty_number_read}
-use Rattle.xa_xid.proofs.Spelled.{read_faulty, faulty_read}
 use Rattle.xa_xid.proofs.Spelling.{front-behind}
 
 -- rest is the end of a text: something before it makes it the whole

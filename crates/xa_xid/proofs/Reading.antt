@@ -1,14 +1,9 @@
 -- A text literal, read byte by byte.
 use Rattle.std.proofs.Common.{◌≡◌, ℕ, ◌+◌, ◌<◌, ◌≤◌, List, [], ◌∷◌, ◌++◌, length, drop, get_or, Option, Some, None}
-use Rattle.std.proofs.Common.{refl, sym, ◌∙◌, ap, add-one, drop-cons}
-use Rattle.std.proofs.Common.{append_assoc}
-use Rattle.std.proofs.lemmas.Bool.{eq-eqb, ne_eqb}
+use Rattle.std.proofs.{Common.{refl, sym, ◌∙◌, ap, add-one, drop-cons, append_assoc}, lemmas.Bool.{eq-eqb, ne_eqb}}
 use Rattle.std.proofs.lemmas.List.{drop_all, append-nil}
-use Rattle.xa_xid.specs.Literal.{kept, sized, text_literal_of}
-use Rattle.xa_xid.specs.Quoted.{read_in_quotes, escaped, onto}
-use Rattle.xa_xid.specs.Xid.{Text}
-use Rattle.xa_xid.specs.declared.quoted.Mode.{Mode}
-use Rattle.xa_xid.specs.declared.quoted.Mode.TheVariants.{Plain, Escape, Quote}
+use Rattle.xa_xid.specs.{Literal.{kept, sized, text_literal_of}, Quoted.{read_in_quotes, escaped, onto}, Xid.Text}
+use Rattle.xa_xid.specs.declared.quoted.Mode.{Mode, TheVariants.{Plain, Escape, Quote}}
 
 -- putting no byte in front of what was read changes nothing
 onto-nil : (found : Option (List ℕ × List ℕ)) → found ≡ onto [] found

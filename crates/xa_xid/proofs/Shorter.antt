@@ -1,19 +1,12 @@
 -- What stands behind a token is shorter than the text.
 use Rattle.std.proofs.Common.{◌≡◌, ℕ, ◌≤◌, suc, Bool, true, false, not, nat_lt, ◌%◌, if◌then◌else◌, ◌||◌, ◌==◌, List}
-use Rattle.std.proofs.Common.{[], ◌∷◌, length, drop, Option, Some, None}
-use Rattle.std.proofs.Common.{Ok, Err, sym, ◌∙◌, arith}
-use Rattle.std.proofs.Math.Nat.{le_refl}
+use Rattle.std.proofs.{Common.{[], ◌∷◌, length, drop, Option, Some, None, Ok, Err, sym, ◌∙◌, arith}, Math.Nat.le_refl}
 use Rattle.std.proofs.lemmas.Bool.{cond_both, or_from, true≢false}
 use Rattle.hex.specs.Hex.{decode_of}
-use Rattle.xa_xid.specs.Bytes.{belongs, front, behind}
-use Rattle.xa_xid.specs.Literal.{Reading, literal_ahead, opens_text, opens_hex, text_literal_of, sized, kept}
-use Rattle.xa_xid.specs.Literal.{hex_in_quotes_of, decoded}
-use Rattle.xa_xid.specs.Quoted.{read_in_quotes, onto, escaped}
-use Rattle.xa_xid.specs.Xid.{Text}
-use Rattle.xa_xid.specs.declared.byte_class.ByteClass.TheVariants.{Hexadecimal}
-use Rattle.xa_xid.specs.declared.literal_fault.LiteralFault.{LiteralFault}
-use Rattle.xa_xid.specs.declared.literal_fault.LiteralFault.TheVariants.{NotALiteral, OddHex, TooLong}
-use Rattle.xa_xid.specs.declared.quoted.Mode.{Mode}
+use Rattle.xa_xid.specs.{Bytes.{belongs, front, behind}, Literal.{Reading, literal_ahead, opens_text, opens_hex}}
+use Rattle.xa_xid.specs.{Literal.{text_literal_of, sized, kept, hex_in_quotes_of, decoded}, declared.quoted.Mode.Mode}
+use Rattle.xa_xid.specs.{Quoted.{read_in_quotes, onto, escaped}, Xid.Text, declared.byte_class.ByteClass.ByteClass}
+use Rattle.xa_xid.specs.declared.literal_fault.LiteralFault.{LiteralFault, TheVariants.{NotALiteral, OddHex, TooLong}}
 use Rattle.xa_xid.specs.declared.quoted.Mode.TheVariants.{Plain, Escape, Quote}
 
 -- skipping bytes makes no text longer
@@ -114,7 +107,7 @@ pub literal-short : (byte : ℕ) (text : List ℕ) → (opens_text (byte ∷ tex
     → ShortReading (length text) (literal_ahead (byte ∷ text))
 unfolding literal_ahead
 literal-short byte text opens =
-    let hex = belongs Hexadecimal in
+    let hex = belongs ByteClass.Hexadecimal in
     cond_both (opens_text (byte ∷ text)) _ _ (ShortReading (length text))
     (λ _. short-text (length text) (read_in_quotes byte Plain text) (quoted-short byte Plain text))
     (λ no. cond_both (opens_hex (byte ∷ text)) _ _ (ShortReading (length text))

@@ -1,37 +1,24 @@
 -- What is read as a literal is spelled as one, and each fault is a row of the table.
 use Rattle.std.proofs.Common.{◌≡◌, ℕ, ◌+◌, ◌*◌, ◌%◌, ◌<◌, ◌≤◌, Bool, true, false, ◌==◌, ◌&&◌, not, nat_lt}
-use Rattle.std.proofs.Common.{if◌then◌else◌, IsTrue, List, [], ◌∷◌, ◌++◌, length}
-use Rattle.std.proofs.Common.{drop, slice_index, Option, Some, None, Result, Ok, Err, refl, sym, ◌∙◌, subst, arith, inl}
-use Rattle.std.proofs.Common.{inr}
-use Rattle.std.proofs.lemmas.Bool.{cond_both, eqb-true, eqb-false, ne_eqb, and_parts, cases_lt, lt-ltb, ltb-true}
-use Rattle.std.proofs.lemmas.Bool.{ltb-false, not-false, true≢false}
-use Rattle.std.proofs.lemmas.Bool.Decides.{nat_tests}
-use Rattle.std.proofs.lemmas.List.{append-nil}
-use Rattle.std.proofs.lemmas.List.Elements.{All-nil, All-cons}
-use Rattle.std.specs.List.{AllPass}
-use Rattle.hex.specs.Hex.{decode_of, is_hex_digit}
+use Rattle.std.proofs.Common.{if◌then◌else◌, IsTrue, List, [], ◌∷◌, ◌++◌, length, drop, slice_index, Option, Some, None}
+use Rattle.std.proofs.{Common.{Result, Ok, Err, refl, sym, ◌∙◌, subst, arith, inl, inr}, lemmas.Bool.cond_both}
+use Rattle.std.proofs.lemmas.Bool.{eqb-true, eqb-false, ne_eqb, and_parts, cases_lt, lt-ltb, ltb-true, ltb-false}
+use Rattle.std.proofs.lemmas.{Bool.{not-false, true≢false, Decides.nat_tests}, List.append-nil}
+use Rattle.std.{proofs.lemmas.List.Elements.{All-nil, All-cons}, specs.List.AllPass}
+use Rattle.hex.specs.{Hex.{decode_of, is_hex_digit}, declared.error.FromHexError.FromHexError}
 use Rattle.hex.proofs.HexLemmas.{decode_of-digits}
-use Rattle.hex.specs.declared.error.FromHexError.{FromHexError}
-use Rattle.xa_xid.specs.Bytes.{belongs, front, behind, only, run, after_run, StartsNo}
-use Rattle.xa_xid.specs.Literal.{Reading, LiteralAt, text_literal, hex_in_quotes, hex_run, literal_ahead, opens_text}
-use Rattle.xa_xid.specs.Literal.{opens_hex, is_quote, is_x}
-use Rattle.xa_xid.specs.Literal.{text_literal_of}
-use Rattle.xa_xid.specs.Literal.{sized, kept, decoded, evened, hex_in_quotes_of, hex_run_of, hex_digits_of}
-use Rattle.xa_xid.specs.Faults.{AreHex, HexRunAt, hex_run_at, FaultyLiteral, no_closing_quote, too_many_bytes}
-use Rattle.xa_xid.specs.Faults.{digits_without_end, digits_and_another_byte}
-use Rattle.xa_xid.specs.Faults.{odd_digits, too_many_digits, too_long_run, no_form}
-use Rattle.xa_xid.specs.Quoted.{QuotedAt, read_in_quotes}
-use Rattle.xa_xid.specs.Xid.{Text}
+use Rattle.xa_xid.specs.{Bytes.{belongs, front, behind, only, run, after_run, StartsNo}, Literal.{Reading, LiteralAt}}
+use Rattle.xa_xid.specs.Literal.{text_literal, hex_in_quotes, hex_run, literal_ahead, opens_text, opens_hex, is_quote}
+use Rattle.xa_xid.specs.Literal.{is_x, text_literal_of, sized, kept, decoded, evened, hex_in_quotes_of, hex_run_of}
+use Rattle.xa_xid.specs.{Literal.hex_digits_of, Faults.{AreHex, HexRunAt, hex_run_at, FaultyLiteral, no_closing_quote}}
+use Rattle.xa_xid.specs.Faults.{too_many_bytes, digits_without_end, digits_and_another_byte, odd_digits}
+use Rattle.xa_xid.specs.{Faults.{too_many_digits, too_long_run, no_form}, Quoted.{QuotedAt, read_in_quotes}, Xid.Text}
 use Rattle.xa_xid.specs.declared.byte_class.ByteClass.TheVariants.{Word, Hexadecimal}
-use Rattle.xa_xid.specs.declared.literal_fault.LiteralFault.{LiteralFault}
-use Rattle.xa_xid.specs.declared.literal_fault.LiteralFault.TheVariants.{NotALiteral, Unclosed, OddHex, TooLong}
-use Rattle.xa_xid.specs.declared.quoted.Mode.TheVariants.{Plain}
-use Rattle.xa_xid.proofs.Texts.{kept-fits, kept-past}
-use Rattle.xa_xid.proofs.Written.{Passes, decoded_found}
-use Rattle.xa_xid.proofs.Spelling.{Spelled, read_quoted, quoted_found, opened_at, text_read, hex_quoted_at}
-use Rattle.xa_xid.proofs.Spelling.{quote_no_hex, hex_run_cut, literal_at-run}
-use Rattle.xa_xid.proofs.Spelling.{front_passes, front-behind, passes_only, only_passes, behind_starts, long_digits}
-use Rattle.xa_xid.proofs.Spelling.{evened_length}
+use Rattle.xa_xid.specs.declared.{literal_fault.LiteralFault.LiteralFault, quoted.Mode.TheVariants.Plain}
+use Rattle.xa_xid.proofs.{Texts.{kept-fits, kept-past}, Written.{Passes, decoded_found}, Spelling.Spelled}
+use Rattle.xa_xid.proofs.Spelling.{read_quoted, quoted_found, opened_at, text_read, hex_quoted_at, quote_no_hex}
+use Rattle.xa_xid.proofs.Spelling.{hex_run_cut, literal_at-run, front_passes, front-behind, passes_only, only_passes}
+use Rattle.xa_xid.proofs.Spelling.{behind_starts, long_digits, evened_length}
 
 -- the text begins with the literal that was read, of at most 64 bytes; or the fault is a row of the table
 abbrev SpelledAs : List ℕ → Reading Text → Type 0
@@ -125,16 +112,16 @@ hex_quoted_spelled letter digits (byte ∷ rest) is all stops =
     let hex : AreHex digits = passes_only (belongs Hexadecimal) digits all in
     let text = letter ∷ 39 ∷ digits ++ byte ∷ rest in
     let read : Reading Text = decoded digits rest in
-    let long : Reading Text = if nat_lt 128 (length digits) then Err TooLong else read in
-    let odd : Reading Text = if length digits % 2 == 1 then Err OddHex else long in
-    unless_fault text (not (byte == 39)) NotALiteral odd
+    let long : Reading Text = if nat_lt 128 (length digits) then Err LiteralFault.TooLong else read in
+    let odd : Reading Text = if length digits % 2 == 1 then Err LiteralFault.OddHex else long in
+    unless_fault text (not (byte == 39)) LiteralFault.NotALiteral odd
     (λ other. digits_and_another_byte letter byte digits rest is hex stops
     (eqb-false byte 39 (not_true (byte == 39) other)))
     (λ closes. let same : byte ≡ 39 = eqb-true byte 39 (not-false (byte == 39) closes) in
-    unless_fault text (length digits % 2 == 1) OddHex long
+    unless_fault text (length digits % 2 == 1) LiteralFault.OddHex long
     (λ is_odd. rw same (odd_digits letter digits rest is hex (eqb-true (length digits % 2) 1 is_odd)))
     (λ is_even. let even : length digits % 2 ≡ 0 = omega (arith, eqb-false (length digits % 2) 1 is_even) in
-    unless_fault text (nat_lt 128 (length digits)) TooLong read
+    unless_fault text (nat_lt 128 (length digits)) LiteralFault.TooLong read
     (λ past. rw same (too_many_digits letter digits rest is hex even (ltb-true 128 (length digits) past)))
     (λ short. decoded_spelled text digits rest (decode_of digits) refl (digits_decode digits even all)
     (λ bytes e.
@@ -162,7 +149,7 @@ hex_opened_spelled (letter ∷ second ∷ text) e =
 
 -- what is read as `0x` and digits is spelled so, for a run that stands in front
 run_spelled : (written rest : List ℕ) → StartsNo (belongs Word) rest
-    → (hex_digits_of written ≡ None → FaultyLiteral (written ++ rest) NotALiteral)
+    → (hex_digits_of written ≡ None → FaultyLiteral (written ++ rest) LiteralFault.NotALiteral)
     → SpelledAs (written ++ rest) (hex_run_of (hex_digits_of written) rest)
 run_spelled [] rest s none = none refl
 run_spelled (a ∷ []) rest s none = none refl
@@ -178,7 +165,7 @@ run_spelled (a ∷ b ∷ digit ∷ digits) rest s none =
           let inner = and_parts (a == 48) (b == 120) outer.0 in
           let at : HexRunAt text all rest = rw (eqb-true a 48 inner.0, eqb-true b 120 inner.1)
           (hex_run_at digit digits rest outer.1 s) in
-          unless_fault text (nat_lt 128 (length all)) TooLong (decoded (evened all) rest)
+          unless_fault text (nat_lt 128 (length all)) LiteralFault.TooLong (decoded (evened all) rest)
           (λ past. too_long_run text all rest at (ltb-true 128 (length all) past))
           (λ short. decoded_spelled text (evened all) rest (decode_of (evened all)) refl
           (evened_decode all (length all % 2 == 1) refl (only_passes hex all outer.1))
@@ -201,7 +188,7 @@ run_found _ _ _ (hex_run_at digit digits rest hex s) =
 
 -- a text that opens no quotes, and whose run of word bytes in front isn't `0x` with digits, begins with no literal
 no_run : (text : List ℕ) → opens_text text ≡ false → opens_hex text ≡ false → hex_digits_of (run text) ≡ None
-    → FaultyLiteral text NotALiteral
+    → FaultyLiteral text LiteralFault.NotALiteral
 no_run text no_text no_hex e =
     no_form text no_text no_hex (λ digits rest form. none_is_some digits (sym e ∙ run_found text digits rest form))
 
@@ -210,7 +197,7 @@ run_read_spelled : (text : List ℕ) → opens_text text ≡ false → opens_hex
     → SpelledAs text (hex_run_of (hex_digits_of (run text)) (after_run text))
 run_read_spelled text no_text no_hex =
     let whole : run text ++ after_run text ≡ text = front-behind (belongs Word) text in
-    let none : hex_digits_of (run text) ≡ None → FaultyLiteral (run text ++ after_run text) NotALiteral =
+    let none : hex_digits_of (run text) ≡ None → FaultyLiteral (run text ++ after_run text) LiteralFault.NotALiteral =
     λ e. rw whole (no_run text no_text no_hex e) in
     let read : Reading Text = hex_run_of (hex_digits_of (run text)) (after_run text) in
     subst (λ t. SpelledAs t read) whole (run_spelled (run text) (after_run text)
@@ -266,20 +253,20 @@ run_none (a ∷ b ∷ digit ∷ digits) rest s refused =
 
 -- a text that opens no quotes, and whose run of word bytes in front isn't `0x` with digits, is told as no literal
 no_run_read : (text : List ℕ) → opens_text text ≡ false → opens_hex text ≡ false → hex_digits_of (run text) ≡ None
-    → literal_ahead text ≡ Err NotALiteral
+    → literal_ahead text ≡ Err LiteralFault.NotALiteral
 unfolding literal_ahead
 no_run_read text no_text no_hex e = rw (no_text, no_hex, e) refl
 
 -- quotes that aren't closed are told as that fault
 unclosed_read : (quote : ℕ) (text : List ℕ) (found : Option (List ℕ × List ℕ))
     → ((bytes rest : List ℕ) → QuotedAt quote text bytes rest → ⊥)
-    → Spelled quote text found → text_literal_of found ≡ Err Unclosed
+    → Spelled quote text found → text_literal_of found ≡ Err LiteralFault.Unclosed
 unclosed_read quote text None refused s = refl
 unclosed_read quote text (Some (bytes, rest)) refused s = absurd (refused bytes rest s)
 
 -- `0x` and more than 128 digits, which are more than 64 bytes, are told as too long
 long_run_read : (text digits rest : List ℕ) → HexRunAt text digits rest → 128 < length digits
-    → literal_ahead text ≡ Err TooLong
+    → literal_ahead text ≡ Err LiteralFault.TooLong
 long_run_read _ _ _ (hex_run_at digit digits rest hex s) long =
     literal_at-run digit digits rest (only_passes (belongs Hexadecimal) (digit ∷ digits) hex) s
     ∙ rw (lt-ltb 128 (length (digit ∷ digits)) long) refl

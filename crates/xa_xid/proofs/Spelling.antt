@@ -1,24 +1,19 @@
 -- What is spelled as a literal is read as one; and what is read between quotes is spelled there.
 use Rattle.std.proofs.Common.{◌≡◌, ℕ, ◌+◌, ◌*◌, ◌%◌, ◌<◌, ◌≤◌, Bool, true, false, ◌==◌, nat_lt, if◌then◌else◌, IsTrue}
-use Rattle.std.proofs.Common.{List, [], ◌∷◌, ◌++◌, length, Option}
-use Rattle.std.proofs.Common.{Some, None, Ok, Err, refl, sym, ◌∙◌, ap, arith, ◌⊎◌, inl, inr}
-use Rattle.std.proofs.lemmas.Bool.{cond_both, eqb-true, eqb-false, or_cases, ltb-true, ltb-false}
+use Rattle.std.proofs.Common.{List, [], ◌∷◌, ◌++◌, length, Option, Some, None, Ok, Err, refl, sym, ◌∙◌, ap, arith, ◌⊎◌}
+use Rattle.std.proofs.{Common.{inl, inr}, lemmas.Bool.{cond_both, eqb-true, eqb-false, or_cases, ltb-true, ltb-false}}
 use Rattle.std.proofs.lemmas.Bool.Decides.{nat_tests}
-use Rattle.hex.specs.Hex.{decode_of}
-use Rattle.hex.proofs.HexLemmas.{decode_of-ok}
-use Rattle.xa_xid.specs.Bytes.{belongs, front, behind, only, run, after_run, StartsNo}
-use Rattle.xa_xid.specs.Literal.{LiteralAt, text_literal, hex_in_quotes, hex_run, literal_ahead, is_quote, is_x}
-use Rattle.xa_xid.specs.Literal.{text_literal_of, sized, kept, decoded, evened}
-use Rattle.xa_xid.specs.Literal.{hex_in_quotes_of, hex_run_of, hex_digits_of}
+use Rattle.hex.{specs.Hex.decode_of, proofs.HexLemmas.decode_of-ok}
+use Rattle.xa_xid.specs.{Bytes.{belongs, front, behind, only, run, after_run, StartsNo}, Literal.LiteralAt}
+use Rattle.xa_xid.specs.Literal.{text_literal, hex_in_quotes, hex_run, literal_ahead, is_quote, is_x, text_literal_of}
+use Rattle.xa_xid.specs.Literal.{sized, kept, decoded, evened, hex_in_quotes_of, hex_run_of, hex_digits_of}
 use Rattle.xa_xid.specs.Quoted.{Quoted, close, doubled, escape, plain, QuotedAt, read_in_quotes, onto, escaped}
 use Rattle.xa_xid.specs.declared.byte_class.ByteClass.TheVariants.{Word, Hexadecimal}
-use Rattle.xa_xid.specs.declared.literal_fault.LiteralFault.TheVariants.{TooLong}
-use Rattle.xa_xid.specs.declared.quoted.Mode.{Mode}
+use Rattle.xa_xid.specs.declared.{literal_fault.LiteralFault.TheVariants.TooLong, quoted.Mode.Mode}
 use Rattle.xa_xid.specs.declared.quoted.Mode.TheVariants.{Plain, Escape, Quote}
 use Rattle.xa_xid.proofs.Cuts.{front-passes, front-stops, front-nil, behind-passes, behind-stops, behind-nil}
 use Rattle.xa_xid.proofs.Reading.{plain_quote, plain_backslash, plain_byte, escape_letter, quote_again, quote_closes}
-use Rattle.xa_xid.proofs.Reading.{quoted-nil-quote}
-use Rattle.xa_xid.proofs.Texts.{kept-fits, kept-past}
+use Rattle.xa_xid.proofs.{Reading.quoted-nil-quote, Texts.{kept-fits, kept-past}}
 use Rattle.xa_xid.proofs.Written.{Passes, front-append, behind-append, decoded_found}
 
 -- a quote that no other quote follows ends the text

@@ -1,9 +1,7 @@
 -- Bytes that are kept while they are few enough.
 use Rattle.std.proofs.Common.{◌≡◌, ℕ, ◌<◌, ◌≤◌, List, [], ◌∷◌, ◌++◌, length, Some, None, refl, sym, ◌∙◌, ap, arith}
-use Rattle.std.proofs.Common.{length-append, inl, inr}
-use Rattle.std.proofs.lemmas.Bool.{le-leb, lt-leb, cases_lt}
-use Rattle.xa_xid.specs.Literal.{kept}
-use Rattle.xa_xid.specs.Xid.{Text}
+use Rattle.std.proofs.{Common.{length-append, inl, inr}, lemmas.Bool.{le-leb, lt-leb, cases_lt}}
+use Rattle.xa_xid.specs.{Literal.kept, Xid.Text}
 
 -- a literal of up to 64 bytes is kept
 pub kept-fits : (bytes : List ℕ) → length bytes ≤ 64 → kept bytes ≡ Some (record { items = bytes })

@@ -1,27 +1,18 @@
 -- What is written in canonical form is read back.
 use Rattle.std.proofs.Common.{◌≡◌, ℕ, ◌*◌, ◌/◌, ◌%◌, ◌^◌, ◌<◌, ◌≤◌, suc, Bool, true, false, ◌==◌, List, [], ◌∷◌, ◌++◌}
-use Rattle.std.proofs.Common.{length, Some, Result, Ok, Err, get_or}
-use Rattle.std.proofs.Common.{refl, sym, ◌∙◌, ap, arith, append_assoc, decimal}
-use Rattle.std.proofs.lemmas.Bool.{agree_below_at, lt-ltb, le-ltb, ne_eqb}
-use Rattle.std.proofs.lemmas.Bool.Decides.{nat_tests}
-use Rattle.std.proofs.lemmas.Fmt.{decimal_is_IsNumeral}
-use Rattle.std.proofs.lemmas.Str.Parse.{digit_from_value}
-use Rattle.std.specs.Char.{digit_value}
+use Rattle.std.proofs.Common.{length, Some, Result, Ok, Err, get_or, refl, sym, ◌∙◌, ap, arith, append_assoc, decimal}
+use Rattle.std.proofs.lemmas.Bool.{agree_below_at, lt-ltb, le-ltb, ne_eqb, Decides.nat_tests}
+use Rattle.std.{proofs.lemmas.{Fmt.decimal_is_IsNumeral, Str.Parse.digit_from_value}, specs.Char.digit_value}
 use Rattle.std.specs.Str.Parse.{digits_value, AllDigits, IsNumeral}
 use Rattle.hex.specs.Hex.{IsBytes, encode_lower, encode_with, lower_digits, decode_pairs}
+use Rattle.hex.specs.declared.error.FromHexError.{FromHexError}
 use Rattle.hex.proofs.HexLemmas.{decode_of-encode_lower, length-encode_with}
 use Rattle.xa_xid.specs.Bytes.{belongs, front, behind, run, after_run, unblank, StartsNo}
 use Rattle.xa_xid.specs.Literal.{Reading, literal_ahead, hex_run_of, hex_digits_of, evened, decoded}
-use Rattle.xa_xid.specs.Number.{number_ahead, number_in}
-use Rattle.xa_xid.specs.Xid.{Text}
-use Rattle.xa_xid.specs.XidText.{Parse, xid_ahead, part_text, xid_text, xid_of, gtrid_next, bqual_next, format_id_next}
-use Rattle.xa_xid.specs.XidText.{after_gtrid, after_bqual, comma_next}
-use Rattle.xa_xid.specs.XidText.{IsWritable}
-use Rattle.xa_xid.specs.declared.byte_class.ByteClass.TheVariants.{Blank, Word, Decimal, Hexadecimal}
-use Rattle.xa_xid.specs.declared.literal_fault.LiteralFault.{LiteralFault}
-use Rattle.xa_xid.specs.declared.literal_fault.LiteralFault.TheVariants.{NotALiteral}
-use Rattle.hex.specs.declared.error.FromHexError.{FromHexError}
-use Rattle.xa_xid.specs.declared.xid.Xid.{Xid}
+use Rattle.xa_xid.specs.{Number.{number_ahead, number_in}, Xid.Text, XidText.{Parse, xid_ahead, part_text, xid_text}}
+use Rattle.xa_xid.specs.XidText.{xid_of, gtrid_next, bqual_next, format_id_next, after_gtrid, after_bqual, comma_next}
+use Rattle.xa_xid.specs.{XidText.IsWritable, declared.literal_fault.LiteralFault.LiteralFault}
+use Rattle.xa_xid.specs.declared.{byte_class.ByteClass.TheVariants.{Blank, Word, Decimal, Hexadecimal}, xid.Xid.Xid}
 use Rattle.xa_xid.proofs.Cuts.{front-passes, front-stops, front-nil, behind-passes, behind-stops, behind-nil}
 use Rattle.xa_xid.proofs.Numbers.{fitting_small}
 
@@ -95,7 +86,7 @@ even_digits bytes = let twice : length (encode_lower bytes) ≡ 2 * length bytes
 -- what reading makes of decoded digits: the bytes, or a fault
 abbrev pub decoded_found : List ℕ → Result (List ℕ) FromHexError → Reading Text
 decoded_found rest (Ok bytes) = Ok (record { items = bytes }, rest)
-decoded_found rest (Err fault) = Err NotALiteral
+decoded_found rest (Err fault) = Err LiteralFault.NotALiteral
 
 -- the digits of up to 64 bytes are read as these bytes
 hex_run_back : (bytes rest : List ℕ) → IsBytes bytes → length bytes ≤ 64

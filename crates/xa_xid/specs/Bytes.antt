@@ -8,8 +8,7 @@
 --     StartsNo p text        the text is empty, or its first byte doesn't pass
 use Rattle.std.specs.Prelude.{◌≡◌, ℕ, Bool, false, ◌==◌, ◌||◌, ◌&&◌, nat_le, if◌then◌else◌, List, [], ◌∷◌, length}
 use Rattle.std.specs.Char.{is_digit}
-use Rattle.xa_xid.specs.declared.byte_class.ByteClass.{ByteClass}
-use Rattle.xa_xid.specs.declared.byte_class.ByteClass.TheVariants.{Blank, Word, Decimal, Hexadecimal}
+use Rattle.xa_xid.specs.declared.byte_class.ByteClass.{ByteClass, TheVariants.{Blank, Word, Decimal, Hexadecimal}}
 
 -- space, tab, line feed, carriage return (own rule)
 abbrev pub is_blank : ℕ → Bool

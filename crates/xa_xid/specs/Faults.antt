@@ -11,16 +11,11 @@
 --                                   faulty token on
 use Rattle.std.specs.Prelude.{◌≡◌, ◌≢◌, ℕ, ◌<◌, ◌≤◌, ◌%◌, ◌^◌, false, IsTrue, List, ◌∷◌, ◌++◌, length}
 use Rattle.std.specs.Str.Parse.{digits_value}
-use Rattle.xa_xid.specs.Bytes.{belongs, only, unblank, StartsNo}
-use Rattle.xa_xid.specs.Limits.{text_bytes, text_digits}
-use Rattle.xa_xid.specs.Literal.{TextAt, is_quote, is_x, opens_text, opens_hex}
-use Rattle.xa_xid.specs.Quoted.{QuotedAt}
-use Rattle.xa_xid.specs.Xid.{Text}
-use Rattle.xa_xid.specs.XidText.{CommaAt}
+use Rattle.xa_xid.specs.{Bytes.{belongs, only, unblank, StartsNo}, Limits.{text_bytes, text_digits}, XidText.CommaAt}
+use Rattle.xa_xid.specs.{Literal.{TextAt, is_quote, is_x, opens_text, opens_hex}, Quoted.QuotedAt, Xid.Text}
 use Rattle.xa_xid.specs.declared.byte_class.ByteClass.TheVariants.{Word, Decimal, Hexadecimal}
-use Rattle.xa_xid.specs.declared.literal_fault.LiteralFault.{LiteralFault}
-use Rattle.xa_xid.specs.declared.literal_fault.LiteralFault.TheVariants.{NotALiteral, Unclosed, OddHex, TooLong}
-use Rattle.xa_xid.specs.declared.literal_fault.LiteralFault.TheVariants.{NumberTooLarge}
+use Rattle.xa_xid.specs.declared.literal_fault.LiteralFault.{LiteralFault, TheVariants.{NotALiteral, Unclosed, OddHex}}
+use Rattle.xa_xid.specs.declared.literal_fault.LiteralFault.TheVariants.{TooLong, NumberTooLarge}
 
 -- the numbers by which faults are reported (own rule)
 abbrev pub number_of_literal_fault : LiteralFault → ℕ

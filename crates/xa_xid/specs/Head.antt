@@ -1,7 +1,6 @@
 -- The head of a text, by which most texts are told apart.
 --     head_of text      its first eight bytes as one number
-use Rattle.std.specs.Prelude.{ℕ, List, [], ◌∷◌, slice_index}
-use Rattle.std.specs.Int.{w64, from_be_bytes}
+use Rattle.std.specs.{Prelude.{ℕ, List, [], ◌∷◌, slice_index}, Int.{w64, from_be_bytes}}
 
 -- the first eight bytes as one number, the first byte highest, zeros past the text's end
 unfoldable pub head_of : List ℕ → ℕ

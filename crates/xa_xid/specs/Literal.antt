@@ -9,15 +9,12 @@
 --     kept bytes, sized              the bytes, if they aren't too many;  that as a reading
 --     placed                         a reading with a place instead of the rest of the text
 use Rattle.std.specs.Prelude.{◌≡◌, ℕ, ◌-◌, ◌≤◌, ◌%◌, Bool, false, ◌==◌, ◌||◌, ◌&&◌, not, nat_le, nat_lt, if◌then◌else◌}
-use Rattle.std.specs.Prelude.{IsTrue, List, [], ◌∷◌, ◌++◌, length}
-use Rattle.std.specs.Prelude.{drop, slice_index, Option, Some, None, Result, Ok, Err}
+use Rattle.std.specs.Prelude.{IsTrue, List, [], ◌∷◌, ◌++◌, length, drop, slice_index, Option, Some, None, Result, Ok}
+use Rattle.std.specs.Prelude.{Err}
 use Rattle.hex.specs.Hex.{decode_of}
 use Rattle.xa_xid.specs.Bytes.{belongs, front, behind, only, run, after_run, StartsNo}
-use Rattle.xa_xid.specs.Limits.{text_bytes, text_digits}
-use Rattle.xa_xid.specs.Quoted.{QuotedAt, read_in_quotes}
-use Rattle.xa_xid.specs.Xid.{Text}
-use Rattle.xa_xid.specs.declared.byte_class.ByteClass.TheVariants.{Word, Hexadecimal}
-use Rattle.xa_xid.specs.declared.quoted.Mode.TheVariants.{Plain}
+use Rattle.xa_xid.specs.{Limits.{text_bytes, text_digits}, Quoted.{QuotedAt, read_in_quotes}, Xid.Text}
+use Rattle.xa_xid.specs.declared.{byte_class.ByteClass.TheVariants.{Word, Hexadecimal}, quoted.Mode.TheVariants.Plain}
 use Rattle.xa_xid.specs.declared.literal_fault.LiteralFault.{LiteralFault}
 use Rattle.xa_xid.specs.declared.literal_fault.LiteralFault.TheVariants.{NotALiteral, Unclosed, OddHex, TooLong}
 

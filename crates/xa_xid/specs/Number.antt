@@ -4,14 +4,10 @@
 --     number_ahead text    the number that a text begins with, and the text after it, or its fault
 --     number_from text at  the same at a place, and the place after it
 use Rattle.std.specs.Prelude.{◌≡◌, ℕ, ◌^◌, ◌<◌, ◌==◌, ◌&&◌, nat_lt, not, if◌then◌else◌, IsTrue, List, ◌∷◌, ◌++◌, length}
-use Rattle.std.specs.Prelude.{drop, Option, Some, None, Result, Ok}
-use Rattle.std.specs.Prelude.{Err}
-use Rattle.std.specs.Str.Parse.{digits_value}
-use Rattle.xa_xid.specs.Bytes.{belongs, only, run, after_run, StartsNo}
-use Rattle.xa_xid.specs.Literal.{Reading, placed, hex_digits_of}
+use Rattle.std.specs.{Prelude.{drop, Option, Some, None, Result, Ok, Err}, Str.Parse.digits_value}
+use Rattle.xa_xid.specs.{Bytes.{belongs, only, run, after_run, StartsNo}, Literal.{Reading, placed, hex_digits_of}}
 use Rattle.xa_xid.specs.declared.byte_class.ByteClass.TheVariants.{Word, Decimal, Hexadecimal}
-use Rattle.xa_xid.specs.declared.literal_fault.LiteralFault.{LiteralFault}
-use Rattle.xa_xid.specs.declared.literal_fault.LiteralFault.TheVariants.{NotALiteral, NumberTooLarge}
+use Rattle.xa_xid.specs.declared.literal_fault.LiteralFault.{LiteralFault, TheVariants.{NotALiteral, NumberTooLarge}}
 
 -- which number a text begins with: digits of a value below 2^64, no word byte after them (own rule)
 pub data NumberAt : List ℕ → ℕ → List ℕ → Type 0 where

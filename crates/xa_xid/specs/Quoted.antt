@@ -4,9 +4,7 @@
 --     QuotedAt quote text bytes rest     the same of the beginning of a text, and `rest` comes after it
 --     read_in_quotes quote mode text  how it is read, byte by byte
 use Rattle.std.specs.Prelude.{◌≡◌, ◌≢◌, ℕ, ◌==◌, if◌then◌else◌, List, [], ◌∷◌, ◌++◌, Option, Some, None}
-use Rattle.xa_xid.specs.Bytes.{StartsNo}
-use Rattle.xa_xid.specs.declared.quoted.Mode.{Mode}
-use Rattle.xa_xid.specs.declared.quoted.Mode.TheVariants.{Plain, Escape, Quote}
+use Rattle.xa_xid.specs.{Bytes.StartsNo, declared.quoted.Mode.{Mode, TheVariants.{Plain, Escape, Quote}}}
 
 -- what a backslash and a letter stand for; upper and lower case differ (manual, 'String Literals')
 unfoldable pub escaped : ℕ → List ℕ

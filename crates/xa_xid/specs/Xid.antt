@@ -4,10 +4,8 @@
 --     xid_cmp         the order of two identifiers
 --     same_xid        whether two identifiers are one
 --     coded_text, coded_xid      how they are encoded in finite maps
-use Rattle.std.specs.Prelude.{ℕ, Bool, List, refl}
-use Rattle.std.specs.declared.cmp.Ordering.{Ordering}
-use Rattle.std.specs.Ordering.{nat_cmp, ordering_then, eq_by_cmp}
-use Rattle.std.specs.Cmp.Lexicographic.{slice_cmp}
+use Rattle.std.specs.{Prelude.{ℕ, Bool, List, refl}, declared.cmp.Ordering.Ordering}
+use Rattle.std.specs.{Ordering.{nat_cmp, ordering_then, eq_by_cmp}, Cmp.Lexicographic.slice_cmp}
 use Rattle.std.specs.Coded.{Coded, code_by, coded×, coded_ℕ}
 use Rattle.arrayvec.specs.ArrayVec.{ArrayVec, array_vec_code}
 use Rattle.xa_xid.specs.declared.xid.Xid.{Xid}

@@ -8,15 +8,10 @@
 --     no_text, xid_of        the empty text;  the identifier of three parts
 --     IsWritable             what the types of an identifier's parts allow
 use Rattle.std.specs.Prelude.{◌≡◌, ℕ, ◌-◌, ◌≤◌, ◌<◌, ◌^◌, ◌==◌, if◌then◌else◌, List, [], ◌∷◌, ◌++◌, length, drop, codes}
-use Rattle.std.specs.Prelude.{decimal, Option, Some, None, Result}
-use Rattle.std.specs.Prelude.{Ok, Err}
+use Rattle.std.specs.Prelude.{decimal, Option, Some, None, Result, Ok, Err}
 use Rattle.hex.specs.Hex.{encode_lower, IsBytes}
-use Rattle.xa_xid.specs.Limits.{text_bytes}
-use Rattle.xa_xid.specs.Bytes.{unblank, StartsNo}
-use Rattle.xa_xid.specs.Literal.{TextAt, literal_ahead}
-use Rattle.xa_xid.specs.Number.{NumberAt, number_ahead}
-use Rattle.xa_xid.specs.Xid.{Text}
-use Rattle.xa_xid.specs.declared.xid.Xid.{Xid}
+use Rattle.xa_xid.specs.{Limits.text_bytes, Bytes.{unblank, StartsNo}, Literal.{TextAt, literal_ahead}}
+use Rattle.xa_xid.specs.{Number.{NumberAt, number_ahead}, Xid.Text, declared.xid.Xid.Xid}
 use Rattle.xa_xid.specs.declared.literal_fault.LiteralFault.{LiteralFault}
 
 -- the empty text

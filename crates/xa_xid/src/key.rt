@@ -2,9 +2,7 @@
 ghost use Rattle.std.specs.Prelude.{◌≡◌, ◌<◌, ◌≤◌, ◌↔◌, length, slice_index, Some, IsSome, IfSome, nat_eq, refl, ⊤};
 ghost use Rattle.std.specs.Cmp.{partial_equiv_from_equiv};
 ghost use Rattle.std.specs.Cmp.Lexicographic.{pointwise, nat_list_eq_equiv, nat_list_cmp_total, texts_po, texts_ties};
-ghost use Rattle.xa_xid.specs.Head.{head_of};
-ghost use Rattle.xa_xid.specs.Limits.{text_bytes};
-ghost use Rattle.xa_xid.specs.Xid.{bytes_cmp};
+ghost use Rattle.xa_xid.specs.{Head.head_of, Limits.text_bytes, Xid.bytes_cmp};
 
 use crate::laws::are_bytes;
 use crate::{Bytes, NoMemory, copy_of};

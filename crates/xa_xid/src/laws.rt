@@ -1,15 +1,11 @@
 //! What `==` and `cmp` of the types decide, and how reading and writing agree: contracts over definitions.
 ghost use Rattle.std.specs.Prelude.{◌≡◌, ◌↔◌, ◌<◌, ◌≤◌, ◌^◌, ◌++◌, List, ℕ, length, IsTrue};
-ghost use Rattle.hex.specs.Hex.{IsBytes};
 ghost use Rattle.std.specs.declared.cmp.Ordering.TheVariants.{Equal};
-ghost use Rattle.xa_xid.specs.Xid.{Text, bytes_cmp, xid_cmp};
-ghost use Rattle.xa_xid.specs.Bytes.{belongs, StartsNo};
-ghost use Rattle.xa_xid.specs.Faults.{FaultyLiteral, FaultyNumber, FaultyXid};
-ghost use Rattle.xa_xid.specs.declared.literal_fault.LiteralFault.{LiteralFault};
-ghost use Rattle.xa_xid.specs.Limits.{text_bytes};
+ghost use Rattle.hex.specs.Hex.{IsBytes};
+ghost use Rattle.xa_xid.specs.{Xid.{Text, bytes_cmp, xid_cmp}, Bytes.{belongs, StartsNo}};
+ghost use Rattle.xa_xid.specs.{Faults.{FaultyLiteral, FaultyNumber, FaultyXid}, Number.{NumberAt, number_ahead}};
+ghost use Rattle.xa_xid.specs.{declared.{literal_fault.LiteralFault.LiteralFault, xid.Xid.Xid}, Limits.text_bytes};
 ghost use Rattle.xa_xid.specs.Literal.{LiteralAt, TextAt, kept, literal_ahead, sized};
-ghost use Rattle.xa_xid.specs.Number.{NumberAt, number_ahead};
-ghost use Rattle.xa_xid.specs.declared.xid.Xid.{Xid};
 ghost use Rattle.xa_xid.specs.XidText.{XidAt, xid_ahead, xid_text, IsWritable};
 
 use crate::{ByteClass, Key, Xid};

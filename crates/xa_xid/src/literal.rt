@@ -1,11 +1,8 @@
 //! Literals of every form, read at a place in a text.
 ghost use Rattle.std.specs.Prelude.{◌≡◌, ◌↔◌, ℕ, ◌≤◌, ◌<◌, length, drop, MatchResult, IfOk, IsTrue, option_copied};
-ghost use Rattle.xa_xid.specs.Bytes.{belongs, front, behind, run, after_run};
-ghost use Rattle.xa_xid.specs.Xid.{Text};
-ghost use Rattle.xa_xid.specs.Faults.{FaultyLiteral};
-ghost use Rattle.xa_xid.specs.Limits.{text_digits};
-ghost use Rattle.xa_xid.specs.Literal.{TextAt, Between, decoded, evened, hex_digits_of, hex_in_quotes_of, hex_run_of};
-ghost use Rattle.xa_xid.specs.Literal.{literal_ahead, literal_from, opens_text};
+ghost use Rattle.xa_xid.specs.{Bytes.{belongs, front, behind, run, after_run}, Xid.Text, Faults.FaultyLiteral};
+ghost use Rattle.xa_xid.specs.{Limits.text_digits, Literal.{TextAt, Between, decoded, evened, hex_digits_of}};
+ghost use Rattle.xa_xid.specs.Literal.{hex_in_quotes_of, hex_run_of, literal_ahead, literal_from, opens_text};
 ghost use Rattle.xa_xid.specs.Literal.{opens_hex};
 
 use crate::byte_class::text_from;

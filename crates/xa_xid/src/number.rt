@@ -1,9 +1,7 @@
 //! Numbers, as in a formatID.
 ghost use Rattle.std.specs.Prelude.{◌≡◌, ◌↔◌, ℕ, ◌≤◌, ◌<◌, ◌^◌, length, drop, MatchResult, MatchOption, IfOk};
-ghost use Rattle.std.specs.Char.{digit_value};
-ghost use Rattle.std.specs.Str.Parse.{digits_value};
-ghost use Rattle.xa_xid.specs.Faults.{FaultyNumber};
-ghost use Rattle.xa_xid.specs.Literal.{Between};
+ghost use Rattle.std.specs.{Char.digit_value, Str.Parse.digits_value};
+ghost use Rattle.xa_xid.specs.{Faults.FaultyNumber, Literal.Between};
 ghost use Rattle.xa_xid.specs.Number.{NumberAt, number_ahead, number_from, number_in, fitting};
 
 use crate::byte_class::text_from;

@@ -1,7 +1,6 @@
 //! Text literals, read byte by byte after the opening quote.
 ghost use Rattle.std.specs.Prelude.{◌≡◌, ◌++◌, ◌∷◌, ◌≤◌, List, [], length, ℕ, MatchResult, IfOk};
-ghost use Rattle.xa_xid.specs.Literal.{text_literal_of, kept, sized};
-ghost use Rattle.xa_xid.specs.Quoted.{read_in_quotes, escaped};
+ghost use Rattle.xa_xid.specs.{Literal.{text_literal_of, kept, sized}, Quoted.{read_in_quotes, escaped}};
 
 use crate::byte_class::text_from;
 use crate::{Bytes, LiteralFault};

@@ -1,13 +1,9 @@
 //! Identifiers: reading one at a place in a text, and writing its canonical text.
 ghost use Rattle.std.specs.Prelude.{◌≡◌, ℕ, ◌≤◌, ◌++◌, length, MatchResult, IfOk, IfErr, IfSome, option_copied};
 ghost use Rattle.hex.specs.Hex.{encode_lower};
-ghost use Rattle.xa_xid.specs.Bytes.{unblank};
-ghost use Rattle.xa_xid.specs.Faults.{FaultyXid};
-ghost use Rattle.xa_xid.specs.Limits.{text_bytes};
-ghost use Rattle.xa_xid.specs.Literal.{Between};
-ghost use Rattle.xa_xid.specs.declared.xid.Xid.{Xid};
-ghost use Rattle.xa_xid.specs.XidText.{XidAt, xid_ahead, xid_from, gtrid_next, bqual_next, format_id_next, comma_next};
-ghost use Rattle.xa_xid.specs.XidText.{part_text, xid_text};
+ghost use Rattle.xa_xid.specs.{Bytes.unblank, Faults.FaultyXid, Limits.text_bytes, Literal.Between};
+ghost use Rattle.xa_xid.specs.{declared.xid.Xid.Xid, XidText.{XidAt, xid_ahead, xid_from, gtrid_next, bqual_next}};
+ghost use Rattle.xa_xid.specs.XidText.{format_id_next, comma_next, part_text, xid_text};
 
 use crate::byte_class::text_from;
 use crate::literal::literal_of;

@@ -2,8 +2,7 @@
 ghost use Rattle.std.specs.Prelude.{◌≡◌, ◌<◌, ◌≤◌, List, length};
 ghost use Rattle.xa_words.specs.Entry.{Entry};
 ghost use Rattle.decision_log.specs.AtTable.{KeepsSeats, KnowsNone, KnowsOne, KnowsTwo, KnowsRest};
-ghost use Rattle.decision_log.specs.Observed.{met, MetAt};
-ghost use Rattle.decision_log.specs.Seats.{following, pass_view, second};
+ghost use Rattle.decision_log.specs.{Observed.{met, MetAt}, Seats.{following, pass_view, second}};
 
 use super::LogTable;
 use super::transitions::Met;

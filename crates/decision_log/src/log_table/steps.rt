@@ -1,10 +1,9 @@
 //! The steps of one pass: a load, a store and exchanges. The transition `M` says what the pass learns by the step.
-ghost use Rattle.std.specs.Prelude.{◌≡◌, ◌<◌, ◌==◌};
 ghost use mathlib.Core.Option.{none, some};
 ghost use prog.Atomic.{either};
+ghost use Rattle.std.specs.Prelude.{◌≡◌, ◌<◌, ◌==◌};
 ghost use Rattle.atomic_table.specs.Table.{Allows};
-ghost use Rattle.decision_log.specs.Atomic.{Load, Store, Exchange, Tells, Counts};
-ghost use Rattle.decision_log.specs.Seats.{pass_view, seated};
+ghost use Rattle.decision_log.specs.{Atomic.{Load, Store, Exchange, Tells, Counts}, Seats.{pass_view, seated}};
 
 use super::LogTable;
 use super::transitions::{Exchanged, Loaded, Stored};

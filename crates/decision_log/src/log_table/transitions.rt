@@ -1,6 +1,5 @@
 //! The transitions of a log, in the form that the table needs. Each names the kind of its step.
-ghost use Rattle.decision_log.specs.Atomic.{Load, Store, Exchange, Tells, Meets};
-ghost use Rattle.decision_log.specs.Seats.{pass_view_of, second_of};
+ghost use Rattle.decision_log.specs.{Atomic.{Load, Store, Exchange, Tells, Meets}, Seats.{pass_view_of, second_of}};
 
 use crate::{LogTransition, LogWords, SeatView};
 use atomic_table::Play;

@@ -1,7 +1,6 @@
 //! Opening a log with a turn.
 ghost use Rattle.std.specs.Prelude.{IfOk, IfErr};
-ghost use Rattle.decision_log.specs.Opens.{Opens, Refuses};
-ghost use Rattle.decision_log.specs.TurnPass.{identity_of, log_of, known_of};
+ghost use Rattle.decision_log.specs.{Opens.{Opens, Refuses}, TurnPass.{identity_of, log_of, known_of}};
 
 use super::layout::ROWS;
 use super::{TurnLog, TurnPass};

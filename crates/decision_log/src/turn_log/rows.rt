@@ -1,10 +1,7 @@
 //! The row of an entry: reading and writing it word by word.
 ghost use Rattle.std.specs.Prelude.{◌≡◌, ◌<◌, ◌≤◌, [], length, slice_get, Some};
-ghost use Rattle.xa_words.specs.Entry.{Entry, IsEntry};
-ghost use Rattle.xa_words.specs.Words.{words_of};
-ghost use Rattle.decision_log.specs.Draft.{with_draft};
-ghost use Rattle.decision_log.specs.Seats.{pass_view};
-ghost use Rattle.decision_log.specs.TurnSeat.{IsSeat};
+ghost use Rattle.xa_words.specs.{Entry.{Entry, IsEntry}, Words.words_of};
+ghost use Rattle.decision_log.specs.{Draft.with_draft, Seats.pass_view, TurnSeat.IsSeat};
 ghost use Rattle.decision_log.specs.declared.view.Turn.TheVariants.{Fresh};
 
 use super::TurnLog;

@@ -12,8 +12,7 @@ pub struct Turns;
 //   `specs/TurnRule.antt` (`rows`), or in `chain_log` `specs/ChainRule.antt` (`cells`), and `specs/LogRule.antt`
 //   (`seats`). Premises: atomic steps are sequentially consistent, and a pass came from this log's `open`.
 impl TableRule<Entry, SeatView, Sizes> for Turns {
-    ghost use Rattle.decision_log.specs.Seats.{all_passes};
-    ghost use Rattle.decision_log.specs.TurnRule.{TurnRule};
+    ghost use Rattle.decision_log.specs.{Seats.all_passes, TurnRule.TurnRule};
 
     ghost holds = { λ sizes state. TurnRule sizes state.words state.views };
 

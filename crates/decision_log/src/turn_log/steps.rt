@@ -15,14 +15,9 @@
 //! 5. To open, the seat that knows the passes not yet issued is split once for each session
 //!    (`LogTable::issue`).
 ghost use Rattle.std.specs.Prelude.{◌≡◌, ◌≢◌, ◌<◌, ◌≤◌, ◌+◌, ℕ, List, length, slice_get, slice_index, Some};
-ghost use Rattle.xa_words.specs.Entry.{Entry, IsEntry};
-ghost use Rattle.xa_words.specs.Words.{words_of};
-ghost use Rattle.decision_log.specs.TurnRule.{row_at};
-ghost use Rattle.decision_log.specs.Draft.{drafted};
-ghost use Rattle.decision_log.specs.Observed.{HistoryIs};
-ghost use Rattle.decision_log.specs.TurnTransitions.{with_look, tried, published, released};
-ghost use Rattle.decision_log.specs.Seats.{pass_view};
-ghost use Rattle.decision_log.specs.TurnSeat.{IsSeat};
+ghost use Rattle.xa_words.specs.{Entry.{Entry, IsEntry}, Words.words_of};
+ghost use Rattle.decision_log.specs.{TurnRule.row_at, Draft.drafted, Observed.HistoryIs, TurnSeat.IsSeat};
+ghost use Rattle.decision_log.specs.{TurnTransitions.{with_look, tried, published, released}, Seats.pass_view};
 ghost use Rattle.decision_log.specs.declared.view.Turn.TheVariants.{Without, Won, Fresh};
 
 use super::TurnLog;

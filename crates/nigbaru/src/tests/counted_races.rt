@@ -2,8 +2,7 @@
 //!
 //! If all races come to the same outcome, the counts don't show whether each race was counted for its own. So a gate
 //! here has the races come to two outcomes in turn.
-ghost use Rattle.std.specs.Prelude.{◌≡◌, IfSome};
-ghost use Rattle.std.specs.List.{All};
+ghost use Rattle.std.specs.{Prelude.{◌≡◌, IfSome}, List.All};
 ghost use Rattle.decision_log.specs.Opens.{IsCapacity};
 ghost use Rattle.xa_races.specs.Came.{IsRunCount};
 

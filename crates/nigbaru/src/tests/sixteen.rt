@@ -1,6 +1,5 @@
 //! Sixteen sessions on threads of their own, until the log is full.
-ghost use Rattle.std.specs.Prelude.{◌≡◌, ◌++◌, ◌∷◌, [], length, map, IfSome};
-ghost use Rattle.std.specs.List.{All};
+ghost use Rattle.std.specs.{Prelude.{◌≡◌, ◌++◌, ◌∷◌, [], length, map, IfSome}, List.All};
 ghost use Rattle.xa_store.specs.Passes.{identity_of, log_of};
 
 use super::replay::{Account, Told, explains};

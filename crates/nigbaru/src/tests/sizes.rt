@@ -1,9 +1,7 @@
 //! The greatest store, which the last of its sixteen sessions fills by a branch of the longest name and
 //! texts, and then it is renewed. Memory is there: no call may say that it isn't.
-ghost use Rattle.std.specs.Prelude.{◌≡◌};
-ghost use Rattle.std.specs.List.{All};
-ghost use Rattle.xa_store.specs.Passes.{identity_of, log_of};
-ghost use Rattle.xa_store.specs.Renewal.{AreGathered};
+ghost use Rattle.std.specs.{Prelude.◌≡◌, List.All};
+ghost use Rattle.xa_store.specs.{Passes.{identity_of, log_of}, Renewal.AreGathered};
 
 use std::alloc::Global;
 use std::process::Abort;

@@ -1,6 +1,5 @@
 use Rattle.std.proofs.Common.{ap, sym, ◌∙◌}
-use Rattle.chain_log.specs.Cells.{newest_of}
-use Rattle.chain_log.proofs.ChainStores.{all_seen}
+use Rattle.chain_log.{specs.Cells.newest_of, proofs.ChainStores.all_seen}
 use Rattle.chain_log.proofs.laws.one_history_of_its_newest_cell.Goals as goal
 
 pub returns : goal.returns

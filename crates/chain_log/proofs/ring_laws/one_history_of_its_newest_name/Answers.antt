@@ -1,6 +1,5 @@
 use Rattle.std.proofs.Common.{ap, sym, ◌∙◌}
-use Rattle.chain_log.specs.Cells.{newest_of}
-use Rattle.chain_log.proofs.RingStores.{all_seen}
+use Rattle.chain_log.{specs.Cells.newest_of, proofs.RingStores.all_seen}
 use Rattle.chain_log.proofs.ring_laws.one_history_of_its_newest_name.Goals as goal
 
 pub returns : goal.returns

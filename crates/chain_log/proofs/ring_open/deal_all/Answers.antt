@@ -1,10 +1,7 @@
-use Rattle.std.proofs.Common.{◌≡◌, ◌≤◌, ◌+◌, ap, subst, sym, rules, arith}
+use Rattle.std.proofs.{Common.{◌≡◌, ◌≤◌, ◌+◌, ap, subst, sym, rules, arith}, lemmas.List.Elements.All-push}
 use Rattle.std.specs.List.{All}
-use Rattle.std.proofs.lemmas.List.Elements.{All-push}
-use Rattle.decision_log.specs.declared.known.Known.{Known}
-use Rattle.decision_log.specs.Known.{newcomer}
-use Rattle.chain_log.specs.RingPass.{identity_of, log_of, known_of}
-use Rattle.chain_log.proofs.Dealt.{numbered_more}
+use Rattle.decision_log.specs.{declared.known.Known.Known, Known.newcomer}
+use Rattle.chain_log.{specs.RingPass.{identity_of, log_of, known_of}, proofs.Dealt.numbered_more}
 use Rattle.chain_log.proofs.RingSeats.{keeps_seats}
 use Rattle.chain_log.proofs.ring_open.deal_all.Goals as goal
 

@@ -1,10 +1,6 @@
-use Rattle.std.proofs.Common.{◌≡◌, ◌+◌, subst, sym, rules}
-use Rattle.std.specs.List.{All}
-use Rattle.std.proofs.lemmas.List.Elements.{All-push}
-use Rattle.chain_log.specs.RingPass.{identity_of}
-use Rattle.chain_log.specs.RingSpare.{spare_log_of, spare_known_of}
-use Rattle.chain_log.proofs.Dealt.{numbered_more}
-use Rattle.chain_log.proofs.RingSeats.{keeps_seats}
+use Rattle.std.{proofs.{Common.{◌≡◌, ◌+◌, subst, sym, rules}, lemmas.List.Elements.All-push}, specs.List.All}
+use Rattle.chain_log.specs.{RingPass.identity_of, RingSpare.{spare_log_of, spare_known_of}}
+use Rattle.chain_log.proofs.{Dealt.numbered_more, RingSeats.keeps_seats}
 use Rattle.chain_log.proofs.ring_open.deal_spares.Goals as goal
 
 pub issue-seat-requires-clause-rule : goal.issue-seat-requires-clause-rule

@@ -1,11 +1,6 @@
-use Rattle.std.proofs.Common.{◌≡◌, ◌+◌, ℕ, Some, length}
-use Rattle.std.specs.Prelude.{slice_get}
-use Rattle.std.specs.List.{All}
-use Rattle.decision_log.specs.AtTable.{KnowsRest}
-use Rattle.decision_log.specs.Known.{newcomer}
-use Rattle.decision_log.specs.Seats.{pass_view, newcomer_view}
-use Rattle.chain_log.specs.declared.spare.RingSpare.{RingSpare}
-use Rattle.chain_log.specs.RingPass.{identity_of}
+use Rattle.std.{proofs.Common.{◌≡◌, ◌+◌, ℕ, Some, length}, specs.{Prelude.slice_get, List.All}}
+use Rattle.decision_log.specs.{AtTable.KnowsRest, Known.newcomer, Seats.{pass_view, newcomer_view}}
+use Rattle.chain_log.specs.{declared.spare.RingSpare.RingSpare, RingPass.identity_of}
 use Rattle.chain_log.specs.RingSpare.{spare_log_of, spare_known_of}
 use Rattle.chain_log.proofs.ring_open.deal_spares.Given as goal
 

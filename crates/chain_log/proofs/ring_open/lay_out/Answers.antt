@@ -1,9 +1,6 @@
-use Rattle.std.proofs.Common.{◌≡◌, ◌+◌, ℕ, get_or, ap, sym, ◌∙◌, refl, arith, rules}
-use Rattle.std.proofs.lemmas.List.{get_or-replicate}
+use Rattle.std.proofs.{Common.{◌≡◌, ◌+◌, ℕ, get_or, ap, sym, ◌∙◌, refl, arith, rules}, lemmas.List.get_or-replicate}
 use Rattle.decision_log.specs.declared.sizes.Sizes.{Sizes}
-use Rattle.chain_log.specs.Places.{most, rows_of, word_count}
-use Rattle.chain_log.proofs.Turns.{rows_most}
-use Rattle.chain_log.proofs.RingSeats.{opens}
+use Rattle.chain_log.{specs.Places.{most, rows_of, word_count}, proofs.{Turns.rows_most, RingSeats.opens}}
 use Rattle.chain_log.proofs.ring_open.lay_out.Goals as goal
 
 pub of_words-requires-clause-rule : goal.of_words-requires-clause-rule

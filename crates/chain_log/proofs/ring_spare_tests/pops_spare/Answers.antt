@@ -1,7 +1,5 @@
-use Rattle.std.proofs.Common.{◌≡◌}
-use Rattle.std.proofs.lemmas.List.Elements.{All-pop}
-use Rattle.chain_log.specs.RingPass.{identity_of}
-use Rattle.chain_log.specs.RingSpare.{spare_log_of}
+use Rattle.std.proofs.{Common.◌≡◌, lemmas.List.Elements.All-pop}
+use Rattle.chain_log.specs.{RingPass.identity_of, RingSpare.spare_log_of}
 use Rattle.chain_log.proofs.ring_spare_tests.pops_spare.Goals as goal
 
 pub returns-clause-rest : goal.returns-clause-rest

@@ -1,6 +1,5 @@
 use Rattle.decision_log.specs.Seats.{pass_view}
-use Rattle.chain_log.specs.RingTransitions.{with_look}
-use Rattle.chain_log.proofs.Passes.{own_count, kept_before}
+use Rattle.chain_log.{specs.RingTransitions.with_look, proofs.Passes.{own_count, kept_before}}
 use Rattle.chain_log.proofs.ring_tests.looks_slowly.Goals as goal
 
 pub count_from-count-requires-clause-counted : goal.count_from-count-requires-clause-counted

@@ -1,5 +1,4 @@
-use Rattle.std.proofs.Common.{◌≡◌}
-use Rattle.std.proofs.lemmas.List.Elements.{All-pop}
+use Rattle.std.proofs.{Common.◌≡◌, lemmas.List.Elements.All-pop}
 use Rattle.chain_log.specs.RingPass.{identity_of, log_of}
 use Rattle.chain_log.proofs.ring_tests.pops_pass.Goals as goal
 

@@ -1,9 +1,5 @@
-use Rattle.std.proofs.Common.{◌≡◌, ◌+◌, ℕ, Some, length}
-use Rattle.std.specs.Prelude.{slice_get}
-use Rattle.std.specs.List.{All}
-use Rattle.decision_log.specs.AtTable.{KnowsRest, identity_at}
-use Rattle.decision_log.specs.Known.{newcomer}
-use Rattle.decision_log.specs.Seats.{pass_view, newcomer_view}
+use Rattle.std.{proofs.Common.{◌≡◌, ◌+◌, ℕ, Some, length}, specs.{Prelude.slice_get, List.All}}
+use Rattle.decision_log.specs.{AtTable.{KnowsRest, identity_at}, Known.newcomer, Seats.{pass_view, newcomer_view}}
 use Rattle.decision_log.proofs.opening.deal_all.Given as goal
 
 abbrev pub invariant-loop-index : goal.invariant-loop-index

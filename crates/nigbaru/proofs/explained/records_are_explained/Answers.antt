@@ -1,6 +1,4 @@
-use Rattle.xa_session.specs.Replay.{state_after}
-use Rattle.xa_session.specs.Linear.{sights}
-use Rattle.xa_session.proofs.Linearizing.{runs_are_linearized}
+use Rattle.xa_session.{specs.{Replay.state_after, Linear.sights}, proofs.Linearizing.runs_are_linearized}
 use Rattle.nigbaru.proofs.ShownRuns.{linearized_explained}
 use Rattle.nigbaru.proofs.explained.records_are_explained.Goals as goal
 

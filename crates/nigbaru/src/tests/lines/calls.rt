@@ -1,6 +1,5 @@
 //! Calls of a transaction manager, in pieces, and over streams that fault.
-ghost use Rattle.xa_lines.specs.Exchange.{IsFresh};
-ghost use Rattle.xa_lines.specs.Recorded.{exchange_of};
+ghost use Rattle.xa_lines.specs.{Exchange.IsFresh, Recorded.exchange_of};
 
 use std::alloc::Global;
 use std::process::Abort;

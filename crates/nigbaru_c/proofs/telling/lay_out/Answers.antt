@@ -1,8 +1,6 @@
-use Rattle.std.proofs.Common.{◌≡◌, ◌∙◌, ◌<◌, length, sym, subst, arith}
-use Rattle.std.proofs.lemmas.List.{length-set, get_or_default}
+use Rattle.std.proofs.{Common.{◌≡◌, ◌∙◌, ◌<◌, length, sym, subst, arith}, lemmas.List.{length-set, get_or_default}}
 use Rattle.xa_xid.specs.declared.xid.Xid.{Xid}
-use Rattle.nigbaru_c.specs.Telling.{IsLaid}
-use Rattle.nigbaru_c.proofs.Laying.{laid_more, kept_more}
+use Rattle.nigbaru_c.{specs.Telling.IsLaid, proofs.Laying.{laid_more, kept_more}}
 use Rattle.nigbaru_c.proofs.telling.lay_out.Goals as goal
 
 pub loop-index-preserved : goal.loop-index-preserved

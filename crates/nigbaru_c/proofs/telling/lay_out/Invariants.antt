@@ -1,7 +1,6 @@
 use Rattle.std.proofs.Common.{◌≡◌, ◌<◌, ◌≤◌, ℕ, length, slice_index_or}
 use Rattle.xa_xid.specs.declared.xid.Xid.{Xid}
-use Rattle.nigbaru_c.specs.declared.xid_part.XidPart.{XidPart}
-use Rattle.nigbaru_c.specs.Telling.{IsLaid}
+use Rattle.nigbaru_c.specs.{declared.xid_part.XidPart.XidPart, Telling.IsLaid}
 use Rattle.nigbaru_c.proofs.telling.lay_out.Given as goal
 
 abbrev pub invariant-loop-index : goal.invariant-loop-index

@@ -1,7 +1,5 @@
-use Rattle.std.proofs.Common.{[], ◌∷◌, ◌++◌, ap, ◌∙◌}
-use Rattle.std.specs.Option.{unwrap_or}
-use Rattle.xa_audit.specs.Globals.{global_cmp}
-use Rattle.xa_audit.proofs.Lists.{put_again}
+use Rattle.std.{proofs.Common.{[], ◌∷◌, ◌++◌, ap, ◌∙◌}, specs.Option.unwrap_or}
+use Rattle.xa_audit.{specs.Globals.global_cmp, proofs.Lists.put_again}
 use Rattle.xa_audit.proofs.globals.add.Goals as goal
 
 pub returns : goal.returns

@@ -1,8 +1,5 @@
-use Rattle.std.proofs.Common.{◌≡◌, take}
-use Rattle.std.specs.Prelude.{filter}
-use Rattle.std.specs.BTreeMap.{get}
-use Rattle.xa_audit.specs.declared.global.GlobalName.{GlobalName}
-use Rattle.xa_audit.specs.Globals.{global_cmp, is_of, if_any}
+use Rattle.std.{proofs.Common.{◌≡◌, take}, specs.{Prelude.filter, BTreeMap.get}}
+use Rattle.xa_audit.specs.{declared.global.GlobalName.GlobalName, Globals.{global_cmp, is_of, if_any}}
 use Rattle.xa_audit.proofs.globals.globals_of.Given as goal
 
 abbrev pub invariant-loop-branch : goal.invariant-loop-branch

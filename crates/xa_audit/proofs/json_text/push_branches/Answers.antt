@@ -1,5 +1,4 @@
-use Rattle.xa_audit.specs.Written.{branch_json}
-use Rattle.xa_audit.proofs.Texts.{json_step, json_end}
+use Rattle.xa_audit.{specs.Written.branch_json, proofs.Texts.{json_step, json_end}}
 use Rattle.xa_audit.proofs.json_text.push_branches.Goals as goal
 
 pub loop-branch-preserved : goal.loop-branch-preserved

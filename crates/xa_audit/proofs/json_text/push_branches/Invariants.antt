@@ -1,6 +1,5 @@
 use Rattle.std.proofs.Common.{◌≡◌, ◌++◌, drop}
-use Rattle.xa_audit.specs.Written.{each_json, branch_json}
-use Rattle.xa_audit.proofs.Texts.{lead}
+use Rattle.xa_audit.{specs.Written.{each_json, branch_json}, proofs.Texts.lead}
 use Rattle.xa_audit.proofs.json_text.push_branches.Given as goal
 
 abbrev pub invariant-loop-branch : goal.invariant-loop-branch

@@ -1,7 +1,6 @@
 use Rattle.std.proofs.Common.{◌++◌, ap, ◌∙◌, codes, decimal}
 use Rattle.xa_server.proofs.Outcomes.{on_ok}
-use Rattle.xa_audit.specs.Written.{counts_json}
-use Rattle.xa_audit.proofs.Texts.{four_counts}
+use Rattle.xa_audit.{specs.Written.counts_json, proofs.Texts.four_counts}
 use Rattle.xa_audit.proofs.json_text.push_counts.Goals as goal
 
 pub returns : goal.returns

@@ -1,5 +1,4 @@
-use Rattle.xa_audit.specs.Written.{global_json}
-use Rattle.xa_audit.proofs.Texts.{json_next, json_done}
+use Rattle.xa_audit.{specs.Written.global_json, proofs.Texts.{json_next, json_done}}
 use Rattle.xa_audit.proofs.json_text.push_globals.Goals as goal
 
 pub loop-name-preserved : goal.loop-name-preserved

@@ -1,6 +1,5 @@
 use Rattle.std.proofs.Common.{◌≡◌, ◌++◌}
-use Rattle.xa_audit.specs.Written.{each_json, global_json}
-use Rattle.xa_audit.proofs.Texts.{lead}
+use Rattle.xa_audit.{specs.Written.{each_json, global_json}, proofs.Texts.lead}
 use Rattle.xa_audit.proofs.json_text.push_globals.Given as goal
 
 abbrev pub invariant-loop-name : goal.invariant-loop-name

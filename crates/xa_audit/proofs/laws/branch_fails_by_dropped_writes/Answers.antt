@@ -1,5 +1,4 @@
-use Rattle.xa_audit.specs.Deeds.{deeds_in, deeds_about}
-use Rattle.xa_audit.proofs.Failing.{fails_iff}
+use Rattle.xa_audit.{specs.Deeds.{deeds_in, deeds_about}, proofs.Failing.fails_iff}
 use Rattle.xa_audit.proofs.laws.branch_fails_by_dropped_writes.Goals as goal
 
 pub returns : goal.returns

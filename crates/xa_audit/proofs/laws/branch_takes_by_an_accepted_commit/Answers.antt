@@ -1,5 +1,4 @@
-use Rattle.xa_audit.specs.Deeds.{deeds_in, deeds_about}
-use Rattle.xa_audit.proofs.Taking.{took_by}
+use Rattle.xa_audit.{specs.Deeds.{deeds_in, deeds_about}, proofs.Taking.took_by}
 use Rattle.xa_audit.proofs.laws.branch_takes_by_an_accepted_commit.Goals as goal
 
 pub returns : goal.returns

@@ -1,6 +1,5 @@
 use Rattle.std.proofs.Common.{ap, ◌∙◌, arith}
-use Rattle.xa_audit.specs.Globals.{verdict_of, same_verdict}
-use Rattle.xa_audit.proofs.Lists.{count_le, count_in, count_out, count_done}
+use Rattle.xa_audit.{specs.Globals.{verdict_of, same_verdict}, proofs.Lists.{count_le, count_in, count_out, count_done}}
 use Rattle.xa_audit.proofs.lines_text.count.Goals as goal
 
 pub overflow_add-count : goal.overflow_add-count

@@ -1,5 +1,4 @@
-use Rattle.xa_audit.specs.Written.{branch_text}
-use Rattle.xa_audit.proofs.Texts.{each_step, each_end}
+use Rattle.xa_audit.{specs.Written.branch_text, proofs.Texts.{each_step, each_end}}
 use Rattle.xa_audit.proofs.lines_text.push_branches.Goals as goal
 
 pub loop-branch-preserved : goal.loop-branch-preserved

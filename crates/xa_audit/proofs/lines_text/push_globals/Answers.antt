@@ -1,5 +1,4 @@
-use Rattle.xa_audit.specs.Written.{global_text}
-use Rattle.xa_audit.proofs.Texts.{each_next, each_done}
+use Rattle.xa_audit.{specs.Written.global_text, proofs.Texts.{each_next, each_done}}
 use Rattle.xa_audit.proofs.lines_text.push_globals.Goals as goal
 
 pub loop-name-preserved : goal.loop-name-preserved

@@ -1,5 +1,4 @@
-use Rattle.std.proofs.Common.{ap, ◌∙◌, get_or}
-use Rattle.std.specs.Prelude.{None}
+use Rattle.std.{proofs.Common.{ap, ◌∙◌, get_or}, specs.Prelude.None}
 use Rattle.xa_audit.proofs.Lists.{one_more_place}
 use Rattle.xa_audit.proofs.owned.make_place.Goals as goal
 

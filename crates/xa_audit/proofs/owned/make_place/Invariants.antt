@@ -1,5 +1,4 @@
-use Rattle.std.proofs.Common.{◌≡◌, ℕ, ◌-◌, suc, length, get_or}
-use Rattle.std.specs.Prelude.{None}
+use Rattle.std.{proofs.Common.{◌≡◌, ℕ, ◌-◌, suc, length, get_or}, specs.Prelude.None}
 use Rattle.xa_audit.proofs.owned.make_place.Given as goal
 
 -- each session owns what it owned

@@ -1,8 +1,6 @@
 use Rattle.std.proofs.Common.{sym, ◌∙◌}
 use Rattle.xa_lines.specs.Script.{lines_of}
-use Rattle.xa_audit.specs.Branches.{lives_in}
-use Rattle.xa_audit.proofs.Following.{line_more, lines_end}
-use Rattle.xa_audit.proofs.Texts.{no_lines}
+use Rattle.xa_audit.{specs.Branches.lives_in, proofs.{Following.{line_more, lines_end}, Texts.no_lines}}
 use Rattle.xa_audit.proofs.store.lives_of.Goals as goal
 
 pub loop-rest-preserved : goal.loop-rest-preserved

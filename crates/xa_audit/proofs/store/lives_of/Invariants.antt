@@ -1,13 +1,8 @@
-use Rattle.std.proofs.Common.{◌≡◌, length}
-use Rattle.std.specs.BTreeMap.{get}
-use Rattle.xa_xid.specs.declared.xid.Xid.{Xid}
-use Rattle.xa_xid.specs.Xid.{xid_cmp}
+use Rattle.std.{proofs.Common.{◌≡◌, length}, specs.BTreeMap.get}
+use Rattle.xa_xid.specs.{declared.xid.Xid.Xid, Xid.xid_cmp}
 use Rattle.xa_lines.specs.Script.{lines_of}
-use Rattle.xa_audit.specs.Histories.{statements_in}
-use Rattle.xa_audit.specs.Deeds.{deeds_from, deeds_about}
-use Rattle.xa_audit.specs.Lives.{lives_after}
-use Rattle.xa_audit.specs.Branches.{lives_in}
-use Rattle.xa_audit.specs.Following.{IsFollowed}
+use Rattle.xa_audit.specs.{Histories.statements_in, Deeds.{deeds_from, deeds_about}, Lives.lives_after}
+use Rattle.xa_audit.specs.{Branches.lives_in, Following.IsFollowed}
 use Rattle.xa_audit.proofs.store.lives_of.Given as goal
 
 abbrev pub invariant-loop-rest : goal.invariant-loop-rest

@@ -1,7 +1,6 @@
 use Rattle.std.proofs.Common.{ap, ◌∙◌}
 use Rattle.xa_xid.specs.Xid.{xid_cmp}
-use Rattle.xa_audit.specs.Lives.{noted}
-use Rattle.xa_audit.proofs.Lists.{put_again}
+use Rattle.xa_audit.{specs.Lives.noted, proofs.Lists.put_again}
 use Rattle.xa_audit.proofs.store.note.Goals as goal
 
 pub returns : goal.returns

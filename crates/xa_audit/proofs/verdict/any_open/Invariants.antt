@@ -1,5 +1,4 @@
-use Rattle.std.proofs.Common.{◌≡◌, drop}
-use Rattle.std.specs.List.{list_any}
+use Rattle.std.{proofs.Common.{◌≡◌, drop}, specs.List.list_any}
 use Rattle.xa_audit.specs.Globals.{ends_as, is_open}
 use Rattle.xa_audit.proofs.verdict.any_open.Given as goal
 

@@ -1,8 +1,5 @@
-use Rattle.std.proofs.Common.{ap, sym, ◌∙◌, take, slice_index_or}
-use Rattle.std.proofs.lemmas.List.{take_more}
-use Rattle.xa_audit.specs.declared.ends.End.TheVariants.{Committed}
-use Rattle.xa_audit.specs.Globals.{last_end}
-use Rattle.xa_audit.proofs.Lists.{last_more}
+use Rattle.std.proofs.{Common.{ap, sym, ◌∙◌, take, slice_index_or}, lemmas.List.take_more}
+use Rattle.xa_audit.{specs.{declared.ends.End.TheVariants.Committed, Globals.last_end}, proofs.Lists.last_more}
 use Rattle.xa_audit.proofs.verdict.last_of.Goals as goal
 
 pub loop-end-preserved : goal.loop-end-preserved

@@ -1,10 +1,7 @@
-use Rattle.std.proofs.Common.{◌≡◌, ◌+◌, length, ap, sym, ◌∙◌, drop, inl, inr}
-use Rattle.std.specs.Int.{w64, from_be_bytes}
-use Rattle.std.specs.Cmp.Lexicographic.{other_text}
-use Rattle.std.proofs.lemmas.Bool.{eqb-false}
+use Rattle.std.proofs.{Common.{◌≡◌, ◌+◌, length, ap, sym, ◌∙◌, drop, inl, inr}, lemmas.Bool.eqb-false}
+use Rattle.std.specs.{Int.{w64, from_be_bytes}, Cmp.Lexicographic.other_text}
 use Rattle.xa_xid.specs.declared.xid.Xid.{Xid}
-use Rattle.xa_coordinator.specs.Branch.{branch_xid}
-use Rattle.xa_coordinator.proofs.Listed.{number_behind_is, one_fails}
+use Rattle.xa_coordinator.{specs.Branch.branch_xid, proofs.Listed.{number_behind_is, one_fails}}
 use Rattle.xa_coordinator.proofs.branch_name.number_of_branch.Goals as goal
 
 pub returns-in_default-clause-none : goal.returns-in_default-clause-none

@@ -1,5 +1,4 @@
-use Rattle.std.proofs.Common.{ap, ◌∙◌, arith}
-use Rattle.std.specs.Prelude.{slice_set}
+use Rattle.std.{proofs.Common.{ap, ◌∙◌, arith}, specs.Prelude.slice_set}
 use Rattle.xa_coordinator.proofs.DecisionsOf.{closed_next, closed_all}
 use Rattle.xa_coordinator.proofs.decisions.close_each.Goals as goal
 

@@ -1,8 +1,7 @@
 use Rattle.std.proofs.Common.{arith, ◌+◌, sym, ◌∙◌, subst}
 use Rattle.xa_coordinator.proofs.decisions.overtaken.Goals.{in-Closed-None, in-Undecided-Some, in-Undecided-None}
-use Rattle.xa_coordinator.proofs.decisions.overtaken.Goals.{in-Decided-default}
-use Rattle.xa_coordinator.proofs.Overtaking.{Walked, some_is_none, walked_none, overtaken_here, walked_all, step_first}
-use Rattle.xa_coordinator.proofs.Overtaking.{step_on}
+use Rattle.xa_coordinator.proofs.{decisions.overtaken.Goals.in-Decided-default, Overtaking.{Walked, some_is_none}}
+use Rattle.xa_coordinator.proofs.Overtaking.{walked_none, overtaken_here, walked_all, step_first, step_on}
 use Rattle.xa_coordinator.specs.declared.decisions.Decision.TheVariants.{Undecided, Decided, Closed}
 use Rattle.xa_coordinator.proofs.decisions.overtaken.Goals as goal
 

@@ -1,9 +1,7 @@
-use Rattle.std.proofs.Common.{false, ◌∙◌}
-use Rattle.std.proofs.lemmas.Result.{err_from_is_err_and}
+use Rattle.std.proofs.{Common.{false, ◌∙◌}, lemmas.Result.err_from_is_err_and}
 use Rattle.xa_xid.specs.declared.statement.Statement.TheVariants.{Recover}
 use Rattle.xa_session.proofs.Entering.{recover_reply}
-use Rattle.xa_coordinator.specs.declared.fault.Cause.TheVariants.{Session}
-use Rattle.xa_coordinator.proofs.LettingGo.{listed_as, listed_still}
+use Rattle.xa_coordinator.{specs.declared.fault.Cause.TheVariants.Session, proofs.LettingGo.{listed_as, listed_still}}
 use Rattle.xa_coordinator.proofs.Telling.{is_undone}
 use Rattle.xa_coordinator.proofs.listing.list_prepared.Goals as goal
 

@@ -1,10 +1,7 @@
 use Rattle.std.proofs.Common.{◌≡◌, ap, sym, subst, ◌∙◌, ◌+◌, ◌∷◌, [], length, length-append}
-use Rattle.std.specs.List.{All}
-use Rattle.std.proofs.lemmas.List.Elements.{All-push}
-use Rattle.chain_log.specs.RingPass.{identity_of}
-use Rattle.chain_log.specs.declared.ring.RingLog.{RingLog}
-use Rattle.xa_endless.specs.declared.resting.RestingMember.{RestingMember}
-use Rattle.xa_endless.specs.declared.slot.Slot.{Slot}
+use Rattle.std.{proofs.lemmas.List.Elements.All-push, specs.List.All}
+use Rattle.chain_log.specs.{RingPass.identity_of, declared.ring.RingLog.RingLog}
+use Rattle.xa_endless.specs.declared.{resting.RestingMember.RestingMember, slot.Slot.Slot}
 use Rattle.xa_endless.proofs.opening.place_all.Goals as goal
 
 pub loop-pass-preserved : goal.loop-pass-preserved

@@ -1,5 +1,4 @@
-use Rattle.std.proofs.Common.{◌≡◌, length}
-use Rattle.std.specs.List.{All}
+use Rattle.std.{proofs.Common.{◌≡◌, length}, specs.List.All}
 use Rattle.chain_log.specs.RingPass.{identity_of}
 use Rattle.xa_endless.proofs.opening.place_checkpoints.Given as goal
 

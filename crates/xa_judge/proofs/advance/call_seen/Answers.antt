@@ -1,8 +1,5 @@
-use Rattle.std.proofs.Common.{subst}
-use Rattle.std.proofs.lemmas.Result.{IfOk-weaker}
-use Rattle.xa_judge.specs.Late.{IsAnyUnheard}
-use Rattle.xa_judge.specs.Found.{Has}
-use Rattle.xa_judge.specs.Advances.{IsSeenFrom, IsAdvance}
+use Rattle.std.proofs.{Common.subst, lemmas.Result.IfOk-weaker}
+use Rattle.xa_judge.specs.{Late.IsAnyUnheard, Found.Has, Advances.{IsSeenFrom, IsAdvance}}
 use Rattle.xa_judge.proofs.Advances.{NoneUnheard, advance_call, widens_call}
 use Rattle.xa_judge.proofs.advance.call_seen.Goals as goal
 

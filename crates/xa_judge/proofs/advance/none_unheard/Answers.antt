@@ -1,7 +1,5 @@
 use Rattle.std.proofs.Common.{ap, sym, ◌∙◌, arith}
-use Rattle.xa_judge.specs.Found.{config_of}
-use Rattle.xa_judge.specs.Late.{has_unheard}
-use Rattle.xa_judge.proofs.Places.{mapped_place}
+use Rattle.xa_judge.{specs.{Found.config_of, Late.has_unheard}, proofs.Places.mapped_place}
 use Rattle.xa_judge.proofs.Late.{unheard_at, heard_more}
 use Rattle.xa_judge.proofs.advance.none_unheard.Goals as goal
 

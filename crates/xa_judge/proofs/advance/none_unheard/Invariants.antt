@@ -1,8 +1,5 @@
-use Rattle.std.proofs.Common.{◌≡◌, ℕ, ◌<◌, Some, false}
-use Rattle.std.specs.Prelude.{slice_get}
-use Rattle.xa_judge.specs.declared.configuration.Configuration.{Configuration}
-use Rattle.xa_judge.specs.Found.{config_of}
-use Rattle.xa_judge.specs.Late.{has_unheard}
+use Rattle.std.{proofs.Common.{◌≡◌, ℕ, ◌<◌, Some, false}, specs.Prelude.slice_get}
+use Rattle.xa_judge.specs.{declared.configuration.Configuration.Configuration, Found.config_of, Late.has_unheard}
 use Rattle.xa_judge.proofs.advance.none_unheard.Given as goal
 
 -- there is none before the place

@@ -1,10 +1,6 @@
-use Rattle.std.proofs.Common.{sym, subst}
-use Rattle.std.proofs.lemmas.Result.{IfOk-weaker}
-use Rattle.xa_judge.specs.Late.{IsReady}
-use Rattle.xa_judge.specs.Found.{Has}
-use Rattle.xa_judge.specs.Advances.{IsSeenFrom, AreAnswers, IsAdvance}
-use Rattle.xa_judge.proofs.Waits.{CanWait}
-use Rattle.xa_judge.proofs.Advances.{advance_now}
+use Rattle.std.proofs.{Common.{sym, subst}, lemmas.Result.IfOk-weaker}
+use Rattle.xa_judge.specs.{Late.IsReady, Found.Has, Advances.{IsSeenFrom, AreAnswers, IsAdvance}}
+use Rattle.xa_judge.proofs.{Waits.CanWait, Advances.advance_now}
 use Rattle.xa_judge.proofs.advance.see_event.Goals as goal
 
 pub returns-in-Lost : goal.returns-in-Lost

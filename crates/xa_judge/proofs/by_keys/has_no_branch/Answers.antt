@@ -1,6 +1,4 @@
-use Rattle.std.proofs.Common.{◌≡◌, length, vec_len, sym, ◌∙◌, arith}
-use Rattle.std.proofs.lemmas.Bool.{eqb-true}
-use Rattle.std.proofs.lemmas.List.{nil_from_length}
+use Rattle.std.proofs.{Common.{◌≡◌, length, vec_len, sym, ◌∙◌, arith}, lemmas.{Bool.eqb-true, List.nil_from_length}}
 use Rattle.xa_judge.proofs.KeyStates.{none_listed}
 use Rattle.xa_judge.proofs.by_keys.has_no_branch.Goals as goal
 

@@ -1,8 +1,5 @@
-use Rattle.std.proofs.Common.{◌≤◌, take, subst}
-use Rattle.std.specs.Prelude.{not}
-use Rattle.xa_judge.specs.Keys.{count_in}
-use Rattle.xa_judge.specs.Near.{named_in}
-use Rattle.xa_judge.proofs.KeyVerdicts.{illegal_part}
+use Rattle.std.{proofs.Common.{◌≤◌, take, subst}, specs.Prelude.not}
+use Rattle.xa_judge.{specs.{Keys.count_in, Near.named_in}, proofs.KeyVerdicts.illegal_part}
 use Rattle.xa_judge.proofs.by_keys.illegal_in.Goals as goal
 
 pub returns-then-count_before-explained : goal.returns-then-count_before-explained

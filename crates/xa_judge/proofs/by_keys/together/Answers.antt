@@ -1,6 +1,5 @@
 use Rattle.std.proofs.Common.{true, false, length}
-use Rattle.xa_judge.specs.Keys.{picked}
-use Rattle.xa_judge.proofs.KeyVerdicts.{legal_before}
+use Rattle.xa_judge.{specs.Keys.picked, proofs.KeyVerdicts.legal_before}
 use Rattle.xa_judge.proofs.by_keys.together.Goals as goal
 
 pub illegal_in-requires-clause-other : goal.illegal_in-requires-clause-other

@@ -1,8 +1,6 @@
-use Rattle.std.proofs.Common.{◌≡◌, Some, subst, inl, inr, arith, rules, tests}
+use Rattle.std.proofs.{Common.{◌≡◌, Some, subst, inl, inr, arith, rules, tests}, lemmas.Bool.cases_lt}
 use Rattle.std.specs.Prelude.{slice_get}
-use Rattle.std.proofs.lemmas.Bool.{cases_lt}
-use Rattle.xa_judge.proofs.KeyVerdicts.{within_of}
-use Rattle.xa_judge.proofs.OwnSteps.{among_at}
+use Rattle.xa_judge.proofs.{KeyVerdicts.within_of, OwnSteps.among_at}
 use Rattle.xa_judge.proofs.clear.avoids_rows.Goals as goal
 
 pub loop-place-preserved : goal.loop-place-preserved

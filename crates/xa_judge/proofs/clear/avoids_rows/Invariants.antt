@@ -1,6 +1,4 @@
-use Rattle.std.proofs.Common.{◌≡◌, ◌<◌, ℕ, false, Some, List}
-use Rattle.std.specs.Prelude.{slice_get}
-use Rattle.std.specs.Ordering.{eq_by_cmp}
+use Rattle.std.{proofs.Common.{◌≡◌, ◌<◌, ℕ, false, Some, List}, specs.{Prelude.slice_get, Ordering.eq_by_cmp}}
 use Rattle.xa_xid.specs.Xid.{bytes_cmp}
 use Rattle.xa_judge.specs.Clear.{key_of}
 use Rattle.xa_judge.proofs.clear.avoids_rows.Given as goal

@@ -1,6 +1,5 @@
 use Rattle.std.proofs.Common.{drop}
-use Rattle.xa_judge.specs.declared.request.Request.TheVariants.{Statement as Given}
-use Rattle.xa_judge.specs.Clear.{ComesAfter}
+use Rattle.xa_judge.specs.{declared.request.Request.TheVariants.Statement as Given, Clear.ComesAfter}
 use Rattle.xa_judge.proofs.clear.comes_after.Given as goal
 
 -- what comes after from the place on, does so from the first place on

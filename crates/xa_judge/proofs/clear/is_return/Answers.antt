@@ -1,8 +1,6 @@
 use Rattle.std.proofs.Common.{◌≡◌, ◌+◌, ◌∷◌, Some, drop, length, refl, ap, sym, ◌∙◌, subst}
-use Rattle.std.specs.Prelude.{slice_get}
-use Rattle.std.proofs.lemmas.Option.{slice_get_read}
-use Rattle.xa_judge.specs.Clear.{IsAside, AreCallsAside, returns_in}
-use Rattle.xa_judge.proofs.Steps.{drop_got}
+use Rattle.std.{proofs.lemmas.Option.slice_get_read, specs.Prelude.slice_get}
+use Rattle.xa_judge.{specs.Clear.{IsAside, AreCallsAside, returns_in}, proofs.Steps.drop_got}
 use Rattle.xa_judge.proofs.clear.is_return.Goals as goal
 
 pub returns-then-is_aside-clause-on : goal.returns-then-is_aside-clause-on

@@ -1,8 +1,5 @@
-use Rattle.std.proofs.Common.{◌≡◌, ◌≢◌, ◌∷◌, Some, true, ap, sym, ◌∙◌, subst, rules, tests}
-use Rattle.std.proofs.lemmas.Option.{same_Some}
-use Rattle.xa_judge.specs.Foreseen.{seen_in}
-use Rattle.xa_judge.specs.Keys.{session_of}
-use Rattle.xa_judge.specs.Clear.{returns_in}
+use Rattle.std.proofs.{Common.{◌≡◌, ◌≢◌, ◌∷◌, Some, true, ap, sym, ◌∙◌, subst, rules, tests}, lemmas.Option.same_Some}
+use Rattle.xa_judge.specs.{Foreseen.seen_in, Keys.session_of, Clear.returns_in}
 use Rattle.xa_judge.proofs.Eager.{returns_past, returns_here}
 use Rattle.xa_judge.proofs.clear.returns_after.Goals as goal
 

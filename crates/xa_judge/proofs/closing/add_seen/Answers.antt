@@ -1,16 +1,13 @@
-use Rattle.std.proofs.Common.{◌≡◌, ◌++◌, ◌∷◌, [], sym, ap, ◌∙◌, inr, subst, Option, Some}
-use Rattle.std.specs.Prelude.{IfSome}
+use Rattle.std.{proofs.Common.{◌≡◌, ◌++◌, ◌∷◌, [], sym, ap, ◌∙◌, inr, subst, Option, Some}, specs.Prelude.IfSome}
 use Rattle.std.specs.Option.{option_map}
-use Rattle.xa_judge.specs.declared.moves.Move.TheVariants.{Event as Seeing}
-use Rattle.xa_judge.specs.declared.configuration.Configuration.{Configuration}
-use Rattle.xa_judge.specs.Found.{config_of}
+use Rattle.xa_judge.specs.{declared.{moves.Move.Move, configuration.Configuration.Configuration}, Found.config_of}
 use Rattle.xa_judge.proofs.closing.add_seen.Goals as goal
 
 -- the path that led to what was found
 path_to : (one next : Configuration) (found : Option Configuration) → found ≡ Some next
-    → IfSome found (λ n. n.path ≡ one.path ++ Seeing ∷ [])
-    → next.path ≡ one.path ++ Seeing ∷ []
-path_to one next found is path = subst (λ o. IfSome o (λ n. n.path ≡ one.path ++ Seeing ∷ [])) is path
+    → IfSome found (λ n. n.path ≡ one.path ++ Move.Event ∷ [])
+    → next.path ≡ one.path ++ Move.Event ∷ []
+path_to one next found is path = subst (λ o. IfSome o (λ n. n.path ≡ one.path ++ Move.Event ∷ [])) is path
 
 pub returns-in_ok-add-in-Some : goal.returns-in_ok-add-in-Some
 returns-in_ok-add-in-Some c =

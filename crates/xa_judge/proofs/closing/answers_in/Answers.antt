@@ -1,7 +1,5 @@
 use Rattle.std.proofs.Common.{ap, ◌∙◌, slice_get, arith}
-use Rattle.xa_judge.specs.Found.{config_of}
-use Rattle.xa_judge.proofs.Places.{mapped_place}
-use Rattle.xa_judge.proofs.Loops.{answers_step, answers_more}
+use Rattle.xa_judge.{specs.Found.config_of, proofs.{Places.mapped_place, Loops.{answers_step, answers_more}}}
 use Rattle.xa_judge.proofs.closing.answers_in.Goals as goal
 
 pub loop-one-preserved : goal.loop-one-preserved

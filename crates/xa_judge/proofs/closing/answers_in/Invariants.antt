@@ -1,6 +1,5 @@
 use Rattle.std.specs.List.{All}
-use Rattle.xa_judge.specs.Found.{IsAnsweredIn}
-use Rattle.xa_judge.proofs.Loops.{HasAnswersBefore}
+use Rattle.xa_judge.{specs.Found.IsAnsweredIn, proofs.Loops.HasAnswersBefore}
 use Rattle.xa_judge.proofs.closing.answers_in.Given as goal
 
 -- the answers are those of the configurations before the place

@@ -1,9 +1,5 @@
-use Rattle.std.proofs.Common.{length, ap, arith}
-use Rattle.std.proofs.lemmas.List.{length-append}
-use Rattle.xa_judge.specs.Late.{at_once}
-use Rattle.xa_judge.proofs.Growth.{grows_none, grows_more}
-use Rattle.xa_judge.proofs.Late.{reached_more}
-use Rattle.xa_judge.proofs.Loops.{closed_more}
+use Rattle.std.proofs.{Common.{length, ap, arith}, lemmas.List.length-append}
+use Rattle.xa_judge.{specs.Late.at_once, proofs.{Growth.{grows_none, grows_more}, Late.reached_more, Loops.closed_more}}
 use Rattle.xa_judge.proofs.closing.close.Goals as goal
 
 pub loop-place-init : goal.loop-place-init

@@ -1,7 +1,5 @@
 use Rattle.std.proofs.Common.{◌≤◌, ◌-◌}
-use Rattle.xa_judge.specs.Explained.{Config}
-use Rattle.xa_judge.specs.Late.{IsReachedFrom}
-use Rattle.xa_judge.specs.Found.{Has, Grows, IsClosedBelow}
+use Rattle.xa_judge.specs.{Explained.Config, Late.IsReachedFrom, Found.{Has, Grows, IsClosedBelow}}
 use Rattle.xa_judge.proofs.closing.close.Given as goal
 
 -- the list has grown, only by acts that count, and is closed before the place

@@ -1,7 +1,5 @@
 use Rattle.std.proofs.Common.{subst}
-use Rattle.xa_judge.specs.Found.{IsSeenAdded}
-use Rattle.xa_judge.proofs.Loops.{sees_step, sees_reach}
-use Rattle.xa_judge.proofs.Late.{seen_only}
+use Rattle.xa_judge.{specs.Found.IsSeenAdded, proofs.{Loops.{sees_step, sees_reach}, Late.seen_only}}
 use Rattle.xa_judge.proofs.closing.observe_all.Goals as goal
 
 pub loop-one-preserved : goal.loop-one-preserved

@@ -1,6 +1,5 @@
 use Rattle.std.proofs.Common.{length}
-use Rattle.xa_judge.proofs.Loops.{SeesBoth, ReachesPastBoth}
-use Rattle.xa_judge.proofs.Late.{SeenOnly}
+use Rattle.xa_judge.proofs.{Loops.{SeesBoth, ReachesPastBoth}, Late.SeenOnly}
 use Rattle.xa_judge.proofs.closing.observe_all.Given as goal
 
 abbrev pub invariant-loop-one : goal.invariant-loop-one

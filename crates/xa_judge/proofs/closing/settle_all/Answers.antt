@@ -1,8 +1,6 @@
 use Rattle.std.proofs.Common.{inl, inr, arith}
-use Rattle.xa_judge.proofs.Places.{length_map}
+use Rattle.xa_judge.proofs.{Places.length_map, Loops.{settles_step, settles_reach}, Late.settled_only}
 use Rattle.xa_judge.specs.Found.{config_of}
-use Rattle.xa_judge.proofs.Loops.{settles_step, settles_reach}
-use Rattle.xa_judge.proofs.Late.{settled_only}
 use Rattle.xa_judge.proofs.closing.settle_all.Goals as goal
 
 pub loop-one-preserved : goal.loop-one-preserved

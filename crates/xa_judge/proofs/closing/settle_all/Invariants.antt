@@ -1,6 +1,5 @@
 use Rattle.std.proofs.Common.{length}
-use Rattle.xa_judge.proofs.Loops.{SettlesBoth, KeepsReachBoth}
-use Rattle.xa_judge.proofs.Late.{SettledOnly}
+use Rattle.xa_judge.proofs.{Loops.{SettlesBoth, KeepsReachBoth}, Late.SettledOnly}
 use Rattle.xa_judge.proofs.closing.settle_all.Given as goal
 
 abbrev pub invariant-loop-one : goal.invariant-loop-one

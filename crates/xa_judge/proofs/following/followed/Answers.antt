@@ -1,9 +1,6 @@
 use Rattle.std.proofs.Common.{◌≡◌, ◌↔◌, ◌<◌, ◌∷◌, ◌+◌, ◌∙◌, Some, None, drop, length, ap, sym, subst, arith}
 use Rattle.std.proofs.lemmas.List.{drop_more, drop_all}
-use Rattle.xa_judge.specs.Explained.{LeadsThrough}
-use Rattle.xa_judge.specs.Found.{config_of}
-use Rattle.xa_judge.specs.Following.{LeadsOn}
-use Rattle.xa_judge.proofs.Places.{get_within}
+use Rattle.xa_judge.{specs.{Explained.LeadsThrough, Found.config_of, Following.LeadsOn}, proofs.Places.get_within}
 use Rattle.xa_judge.proofs.Steps.{none_leads}
 use Rattle.xa_judge.proofs.following.followed.Goals as goal
 

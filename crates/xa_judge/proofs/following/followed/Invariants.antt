@@ -1,6 +1,5 @@
 use Rattle.std.proofs.Common.{◌↔◌, drop}
-use Rattle.xa_judge.specs.Explained.{Config, opening_config, LeadsThrough}
-use Rattle.xa_judge.specs.Found.{config_of}
+use Rattle.xa_judge.specs.{Explained.{Config, opening_config, LeadsThrough}, Found.config_of}
 use Rattle.xa_judge.proofs.following.followed.Given as goal
 
 -- the moves that are left lead on from here just where all of them lead through all of the events

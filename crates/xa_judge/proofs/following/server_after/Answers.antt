@@ -1,6 +1,5 @@
 use Rattle.std.proofs.Common.{IfSome, subst, sym}
-use Rattle.xa_judge.specs.Explained.{opening_config, LeadsThrough}
-use Rattle.xa_judge.specs.Found.{config_of}
+use Rattle.xa_judge.specs.{Explained.{opening_config, LeadsThrough}, Found.config_of}
 use Rattle.xa_judge.proofs.following.server_after.Goals as goal
 
 pub returns-in_ok-into_server-in-Some-clause-found : goal.returns-in_ok-into_server-in-Some-clause-found

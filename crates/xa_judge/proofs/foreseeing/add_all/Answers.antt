@@ -1,7 +1,5 @@
-use Rattle.std.proofs.Common.{ap, arith, length}
-use Rattle.std.proofs.lemmas.List.{length-append}
-use Rattle.xa_judge.specs.Found.{config_of}
-use Rattle.xa_judge.specs.Foreseen.{hints_of}
+use Rattle.std.proofs.{Common.{ap, arith, length}, lemmas.List.length-append}
+use Rattle.xa_judge.specs.{Found.config_of, Foreseen.hints_of}
 use Rattle.xa_judge.proofs.ForeseenGrowth.{extends_none, extends_more, still_at, expanded_more}
 use Rattle.xa_judge.proofs.foreseeing.add_all.Goals as goal
 

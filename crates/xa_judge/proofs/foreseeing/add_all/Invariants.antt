@@ -1,7 +1,5 @@
-use Rattle.std.proofs.Common.{◌≡◌, Some}
-use Rattle.std.specs.Prelude.{slice_get}
-use Rattle.xa_judge.specs.declared.configuration.Configuration.{Configuration}
-use Rattle.xa_judge.specs.Found.{config_of}
+use Rattle.std.{proofs.Common.{◌≡◌, Some}, specs.Prelude.slice_get}
+use Rattle.xa_judge.specs.{declared.configuration.Configuration.Configuration, Found.config_of}
 use Rattle.xa_judge.specs.Foreseen.{hints_of, ExtendsBy, IsExpandedFor}
 use Rattle.xa_judge.proofs.foreseeing.add_all.Given as goal
 

@@ -1,5 +1,4 @@
-use Rattle.xa_judge.specs.Foreseen.{hints_of}
-use Rattle.xa_judge.proofs.ForeseenGrowth.{extends_more, both_added}
+use Rattle.xa_judge.{specs.Foreseen.hints_of, proofs.ForeseenGrowth.{extends_more, both_added}}
 use Rattle.xa_judge.proofs.foreseeing.add_allowed.Goals as goal
 
 pub returns-clause-grows : goal.returns-clause-grows

@@ -1,7 +1,5 @@
 use Rattle.std.proofs.Common.{arith}
-use Rattle.xa_judge.specs.Foreseen.{hints_of}
-use Rattle.xa_judge.proofs.Places.{stands_at}
-use Rattle.xa_judge.proofs.ForeseenGrowth.{next_added}
+use Rattle.xa_judge.{specs.Foreseen.hints_of, proofs.{Places.stands_at, ForeseenGrowth.next_added}}
 use Rattle.xa_judge.proofs.foreseeing.add_effect.Goals as goal
 
 pub returns-in_ok-add-in-Some-clause-has : goal.returns-in_ok-add-in-Some-clause-has

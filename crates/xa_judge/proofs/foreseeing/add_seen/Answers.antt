@@ -1,5 +1,4 @@
-use Rattle.xa_judge.specs.Foreseen.{hints_of}
-use Rattle.xa_judge.proofs.ForeseenGrowth.{seen_added}
+use Rattle.xa_judge.{specs.Foreseen.hints_of, proofs.ForeseenGrowth.seen_added}
 use Rattle.xa_judge.proofs.foreseeing.add_seen.Goals as goal
 
 pub returns-in_ok-add-in-Some-clause-has : goal.returns-in_ok-add-in-Some-clause-has

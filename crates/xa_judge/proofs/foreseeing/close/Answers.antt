@@ -1,7 +1,5 @@
-use Rattle.std.proofs.Common.{length, ap, arith}
-use Rattle.std.proofs.lemmas.List.{length-append}
-use Rattle.xa_judge.specs.Foreseen.{hints_of}
-use Rattle.xa_judge.proofs.ForeseenGrowth.{extends_none, extends_more, closed_more}
+use Rattle.std.proofs.{Common.{length, ap, arith}, lemmas.List.length-append}
+use Rattle.xa_judge.{specs.Foreseen.hints_of, proofs.ForeseenGrowth.{extends_none, extends_more, closed_more}}
 use Rattle.xa_judge.proofs.foreseeing.close.Goals as goal
 
 pub loop-place-init : goal.loop-place-init

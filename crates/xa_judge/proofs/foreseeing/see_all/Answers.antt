@@ -1,7 +1,5 @@
 use Rattle.std.proofs.Common.{◌≡◌, Some, subst, rules, tests}
-use Rattle.xa_judge.specs.Explained.{Config, observed}
-use Rattle.xa_judge.specs.Found.{config_of, Has}
-use Rattle.xa_judge.specs.Foreseen.{hints_of, ReplacesFor}
+use Rattle.xa_judge.specs.{Explained.{Config, observed}, Found.{config_of, Has}, Foreseen.{hints_of, ReplacesFor}}
 use Rattle.xa_judge.proofs.ForeseenGrowth.{sees_more, sees_end}
 use Rattle.xa_judge.proofs.foreseeing.see_all.Goals as goal
 

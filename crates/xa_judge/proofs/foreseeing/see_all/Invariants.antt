@@ -1,6 +1,5 @@
 use Rattle.std.proofs.Common.{length}
-use Rattle.xa_judge.specs.Foreseen.{hints_of}
-use Rattle.xa_judge.proofs.ForeseenGrowth.{SeesBothFor}
+use Rattle.xa_judge.{specs.Foreseen.hints_of, proofs.ForeseenGrowth.SeesBothFor}
 use Rattle.xa_judge.proofs.foreseeing.see_all.Given as goal
 
 abbrev pub invariant-loop-one : goal.invariant-loop-one

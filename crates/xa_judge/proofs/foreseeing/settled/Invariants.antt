@@ -1,5 +1,4 @@
-use Rattle.xa_judge.specs.Found.{config_of}
-use Rattle.xa_judge.specs.Foreseen.{hints_of, ReplacesFor}
+use Rattle.xa_judge.specs.{Found.config_of, Foreseen.{hints_of, ReplacesFor}}
 use Rattle.xa_judge.proofs.foreseeing.settled.Given as goal
 
 -- it is as good as the first one

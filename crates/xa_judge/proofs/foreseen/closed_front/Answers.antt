@@ -1,7 +1,5 @@
 use Rattle.std.proofs.Common.{◌≡◌, true, [], sym, subst, rules, tests}
-use Rattle.xa_judge.specs.Found.{Has}
-use Rattle.xa_judge.specs.Foreseen.{hints_of, GoesOn}
-use Rattle.xa_judge.proofs.ForeseenAdvances.{answers_end}
+use Rattle.xa_judge.{specs.{Found.Has, Foreseen.{hints_of, GoesOn}}, proofs.ForeseenAdvances.answers_end}
 use Rattle.xa_judge.proofs.foreseen.closed_front.Goals as goal
 
 pub returns : goal.returns

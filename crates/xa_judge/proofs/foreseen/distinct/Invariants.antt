@@ -1,5 +1,4 @@
-use Rattle.std.proofs.Common.{take}
-use Rattle.std.specs.List.{Contains}
+use Rattle.std.{proofs.Common.take, specs.List.Contains}
 use Rattle.xa_judge.specs.declared.answer.Answer.{Answer}
 use Rattle.xa_judge.proofs.foreseen.distinct.Given as goal
 

@@ -1,5 +1,4 @@
-use Rattle.xa_judge.specs.Foreseen.{hints_of}
-use Rattle.xa_judge.proofs.ForeseenAdvances.{all_after}
+use Rattle.xa_judge.{specs.Foreseen.hints_of, proofs.ForeseenAdvances.all_after}
 use Rattle.xa_judge.proofs.foreseen.front_after.Goals as goal
 
 pub returns-in_ok-closed-in-Kept : goal.returns-in_ok-closed-in-Kept

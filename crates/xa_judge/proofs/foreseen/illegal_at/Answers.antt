@@ -1,11 +1,6 @@
-use Rattle.std.proofs.Common.{◌≡◌, Some, subst}
-use Rattle.std.specs.Prelude.{IfSome, slice_get}
-use Rattle.std.specs.List.{Contains}
-use Rattle.xa_judge.specs.declared.answer.Answer.{Answer}
-use Rattle.xa_judge.specs.declared.client_state.ClientState.TheVariants.{Answered}
-use Rattle.xa_judge.specs.Explained.{Config}
-use Rattle.xa_judge.specs.Found.{Has, IsAnsweredIn}
-use Rattle.xa_judge.specs.Verdicts.{IsAnswerAfter}
+use Rattle.std.{proofs.Common.{◌≡◌, Some, subst}, specs.{Prelude.{IfSome, slice_get}, List.Contains}}
+use Rattle.xa_judge.specs.declared.{answer.Answer.Answer, client_state.ClientState.TheVariants.Answered}
+use Rattle.xa_judge.specs.{Explained.Config, Found.{Has, IsAnsweredIn}, Verdicts.IsAnswerAfter}
 use Rattle.xa_judge.proofs.foreseen.illegal_at.Goals as goal
 
 pub refuted-requires-clause-all : goal.refuted-requires-clause-all

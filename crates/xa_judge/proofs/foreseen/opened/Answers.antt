@@ -1,7 +1,5 @@
 use Rattle.std.proofs.Common.{◌∙◌}
-use Rattle.xa_judge.specs.Foreseen.{hint_in, hints_of}
-use Rattle.xa_judge.proofs.Places.{length_map}
-use Rattle.xa_judge.proofs.Eager.{goes_same}
+use Rattle.xa_judge.{specs.Foreseen.{hint_in, hints_of}, proofs.{Places.length_map, Eager.goes_same}}
 use Rattle.xa_judge.proofs.ForeseenAdvances.{goes_first}
 use Rattle.xa_judge.proofs.foreseen.opened.Goals as goal
 

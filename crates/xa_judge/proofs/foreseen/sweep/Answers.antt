@@ -1,7 +1,5 @@
-use Rattle.std.proofs.Common.{length, subst, arith}
-use Rattle.xa_judge.specs.Found.{Has}
-use Rattle.xa_judge.specs.Foreseen.{hints_of, GoesOnLike}
-use Rattle.std.proofs.lemmas.List.{drop_all}
+use Rattle.std.proofs.{Common.{length, subst, arith}, lemmas.List.drop_all}
+use Rattle.xa_judge.specs.{Found.Has, Foreseen.{hints_of, GoesOnLike}}
 use Rattle.xa_judge.proofs.foreseen.sweep.Goals as goal
 
 pub returns : goal.returns

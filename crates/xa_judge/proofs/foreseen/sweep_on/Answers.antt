@@ -1,9 +1,6 @@
-use Rattle.std.proofs.Common.{◌≡◌, ◌+◌, ◌∷◌, drop, ap, sym, ◌∙◌, subst, arith}
-use Rattle.std.proofs.lemmas.List.{at_drop_more}
+use Rattle.std.proofs.{Common.{◌≡◌, ◌+◌, ◌∷◌, drop, ap, sym, ◌∙◌, subst, arith}, lemmas.List.at_drop_more}
 use Rattle.std.specs.Prelude.{IfSome}
-use Rattle.xa_judge.specs.Found.{Has}
-use Rattle.xa_judge.specs.Foreseen.{hints_of, GoesOn, GoesOnLike, IsAdvanceFor}
-use Rattle.xa_judge.proofs.Places.{stands_at}
+use Rattle.xa_judge.{specs.{Found.Has, Foreseen.{hints_of, GoesOn, GoesOnLike, IsAdvanceFor}}, proofs.Places.stands_at}
 use Rattle.xa_judge.proofs.ForeseenAdvances.{goes_shortened}
 use Rattle.xa_judge.proofs.foreseen.sweep_on.Goals as goal
 

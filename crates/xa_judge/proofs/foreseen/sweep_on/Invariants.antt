@@ -1,7 +1,5 @@
 use Rattle.std.proofs.Common.{drop}
-use Rattle.xa_judge.specs.Explained.{Config}
-use Rattle.xa_judge.specs.Found.{Has}
-use Rattle.xa_judge.specs.Foreseen.{hints_of, GoesOnLike}
+use Rattle.xa_judge.specs.{Explained.Config, Found.Has, Foreseen.{hints_of, GoesOnLike}}
 use Rattle.xa_judge.proofs.foreseen.sweep_on.Given as goal
 
 -- where moves go on to an end from what was kept, some go on from what is kept through the events from the place on, to

@@ -1,8 +1,5 @@
 use Rattle.std.proofs.Common.{◌≡◌, false, subst, rules, tests}
-use Rattle.xa_judge.specs.Explained.{Config}
-use Rattle.xa_judge.specs.Found.{Has}
-use Rattle.xa_judge.specs.Late.{has_unheard}
-use Rattle.xa_judge.proofs.ForeseenAdvances.{needs_none}
+use Rattle.xa_judge.{specs.{Explained.Config, Found.Has, Late.has_unheard}, proofs.ForeseenAdvances.needs_none}
 use Rattle.xa_judge.proofs.foreseen_event.see_call.Goals as goal
 
 pub see_open-requires-clause-needs : goal.see_open-requires-clause-needs

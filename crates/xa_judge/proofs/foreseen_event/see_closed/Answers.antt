@@ -1,6 +1,5 @@
 use Rattle.std.proofs.Common.{◌≡◌, true, length, subst, rules, tests}
-use Rattle.xa_judge.specs.Foreseen.{hints_of, AreClosedFor}
-use Rattle.xa_judge.proofs.ForeseenAdvances.{advance_closed}
+use Rattle.xa_judge.{specs.Foreseen.{hints_of, AreClosedFor}, proofs.ForeseenAdvances.advance_closed}
 use Rattle.xa_judge.proofs.foreseen_event.see_closed.Goals as goal
 
 pub returns : goal.returns

@@ -1,8 +1,6 @@
-use Rattle.std.proofs.Common.{◌≡◌, Some, subst, inl, inr, arith, rules, tests}
+use Rattle.std.proofs.{Common.{◌≡◌, Some, subst, inl, inr, arith, rules, tests}, lemmas.Bool.cases_lt}
 use Rattle.std.specs.Prelude.{slice_get}
-use Rattle.std.proofs.lemmas.Bool.{cases_lt}
-use Rattle.xa_judge.proofs.KeyVerdicts.{within_of}
-use Rattle.xa_judge.proofs.ForeseenLists.{unknown_at}
+use Rattle.xa_judge.proofs.{KeyVerdicts.within_of, ForeseenLists.unknown_at}
 use Rattle.xa_judge.proofs.hints.are_unknown.Goals as goal
 
 pub loop-number-preserved : goal.loop-number-preserved

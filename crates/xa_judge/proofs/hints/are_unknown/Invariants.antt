@@ -1,7 +1,5 @@
-use Rattle.std.proofs.Common.{◌≡◌, ◌<◌, ℕ, None, Some}
-use Rattle.std.specs.Prelude.{slice_get}
-use Rattle.xa_judge.specs.declared.open_call.OpenCall.{OpenCall}
-use Rattle.xa_judge.specs.Foreseen.{hint_in}
+use Rattle.std.{proofs.Common.{◌≡◌, ◌<◌, ℕ, None, Some}, specs.Prelude.slice_get}
+use Rattle.xa_judge.specs.{declared.open_call.OpenCall.OpenCall, Foreseen.hint_in}
 use Rattle.xa_judge.proofs.hints.are_unknown.Given as goal
 
 -- those of lower numbers

@@ -1,8 +1,5 @@
-use Rattle.std.proofs.Common.{◌≡◌, Some, subst, sym}
-use Rattle.std.specs.Prelude.{slice_get}
-use Rattle.xa_judge.specs.Found.{Has}
-use Rattle.xa_judge.specs.Foreseen.{hints_of, GoesOn}
-use Rattle.xa_judge.proofs.ForeseenAdvances.{noted_goes_on}
+use Rattle.std.{proofs.Common.{◌≡◌, Some, subst, sym}, specs.Prelude.slice_get}
+use Rattle.xa_judge.{specs.{Found.Has, Foreseen.{hints_of, GoesOn}}, proofs.ForeseenAdvances.noted_goes_on}
 use Rattle.xa_judge.proofs.hints.note_unheard.Goals as goal
 
 pub returns-in-Some : goal.returns-in-Some

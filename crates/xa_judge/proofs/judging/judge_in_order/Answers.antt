@@ -1,5 +1,4 @@
-use Rattle.xa_judge.specs.Told.{no_pass}
-use Rattle.xa_judge.proofs.Told.{passes_on, told_on}
+use Rattle.xa_judge.{specs.Told.no_pass, proofs.Told.{passes_on, told_on}}
 use Rattle.xa_judge.proofs.judging.judge_in_order.Goals as goal
 
 pub loop-way-init : goal.loop-way-init

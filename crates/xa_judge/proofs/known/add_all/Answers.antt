@@ -1,8 +1,6 @@
 use Rattle.std.proofs.Common.{arith}
-use Rattle.xa_judge.specs.Found.{config_of}
-use Rattle.xa_judge.proofs.Growth.{grows_none, grows_more, still_there}
-use Rattle.xa_judge.proofs.Late.{adds_none, adds_more}
-use Rattle.xa_judge.proofs.Loops.{others_more}
+use Rattle.xa_judge.{specs.Found.config_of, proofs.Growth.{grows_none, grows_more, still_there}}
+use Rattle.xa_judge.proofs.{Late.{adds_none, adds_more}, Loops.others_more}
 use Rattle.xa_judge.proofs.known.add_all.Goals as goal
 
 pub loop-number-init : goal.loop-number-init

@@ -1,7 +1,5 @@
-use Rattle.std.proofs.Common.{◌≡◌, Some, false}
-use Rattle.std.specs.Prelude.{slice_get}
-use Rattle.xa_judge.specs.declared.configuration.Configuration.{Configuration}
-use Rattle.xa_judge.specs.Late.{is_over}
+use Rattle.std.{proofs.Common.{◌≡◌, Some, false}, specs.Prelude.slice_get}
+use Rattle.xa_judge.specs.{declared.configuration.Configuration.Configuration, Late.is_over}
 use Rattle.xa_judge.specs.Found.{config_of, Grows, AddsOnly, IsExpandedBelow}
 use Rattle.xa_judge.proofs.known.add_all.Given as goal
 

@@ -1,10 +1,6 @@
-use Rattle.std.proofs.Common.{◌≡◌, ◌∙◌, sym, ap, None, arith}
+use Rattle.std.proofs.{Common.{◌≡◌, ◌∙◌, sym, ap, None, arith}, lemmas.Option.{none-some, same_Some}}
 use Rattle.std.specs.Option.{option_map}
-use Rattle.std.proofs.lemmas.Option.{none-some, same_Some}
-use Rattle.xa_judge.specs.Explained.{effect_of}
-use Rattle.xa_judge.specs.Found.{config_of}
-use Rattle.xa_judge.proofs.Places.{stands_at}
-use Rattle.xa_judge.proofs.Loops.{effect_added}
+use Rattle.xa_judge.{specs.{Explained.effect_of, Found.config_of}, proofs.{Places.stands_at, Loops.effect_added}}
 use Rattle.xa_judge.proofs.Late.{adds_none, adds_effect}
 use Rattle.xa_judge.proofs.known.add_effect.Goals as goal
 

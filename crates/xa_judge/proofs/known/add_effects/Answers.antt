@@ -1,6 +1,4 @@
-use Rattle.xa_judge.specs.Found.{config_of}
-use Rattle.xa_judge.proofs.Growth.{grows_more, still_there}
-use Rattle.xa_judge.proofs.Late.{adds_more}
+use Rattle.xa_judge.{specs.Found.config_of, proofs.{Growth.{grows_more, still_there}, Late.adds_more}}
 use Rattle.xa_judge.proofs.Loops.{effects_added}
 use Rattle.xa_judge.proofs.known.add_effects.Goals as goal
 

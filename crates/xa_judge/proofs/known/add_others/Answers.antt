@@ -1,6 +1,5 @@
 use Rattle.std.proofs.Common.{ap, ◌∙◌, Some}
-use Rattle.xa_judge.specs.Found.{config_of}
-use Rattle.xa_judge.specs.Explained.{effect_of}
+use Rattle.xa_judge.specs.{Found.config_of, Explained.effect_of}
 use Rattle.xa_judge.proofs.known.add_others.Goals as goal
 
 pub returns-in_ok-add_effects-in-Some-clause-has : goal.returns-in_ok-add_effects-in-Some-clause-has

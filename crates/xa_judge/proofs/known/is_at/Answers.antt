@@ -1,7 +1,6 @@
 use Rattle.std.proofs.Common.{◌≡◌, ◌<◌, Some, slice_get, length, sym, subst, ap, ◌∙◌, arith}
 use Rattle.std.proofs.lemmas.Option.{slice_get-get_or}
-use Rattle.xa_judge.specs.Found.{config_of, Has}
-use Rattle.xa_judge.proofs.Places.{place_mapped}
+use Rattle.xa_judge.{specs.Found.{config_of, Has}, proofs.Places.place_mapped}
 use Rattle.xa_judge.proofs.known.is_at.Goals as goal
 
 -- what stands at a place of the list stands in the list

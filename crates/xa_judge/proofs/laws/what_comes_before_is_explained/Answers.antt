@@ -1,7 +1,5 @@
 use Rattle.std.proofs.Common.{ℕ, zero, suc, List, [], ◌∷◌, take, refl}
-use Rattle.xa_judge.specs.declared.event.Event.{Event}
-use Rattle.xa_judge.specs.declared.moves.Move.{Move}
-use Rattle.xa_judge.specs.declared.moves.Move.TheVariants.{Event as Seeing, Effect}
+use Rattle.xa_judge.specs.declared.{event.Event.Event, moves.Move.{Move, TheVariants.{Event as Seeing, Effect}}}
 use Rattle.xa_judge.specs.Explained.{Config, opening_config, LeadsThrough}
 use Rattle.xa_judge.proofs.laws.what_comes_before_is_explained.Goals as goal
 

@@ -1,7 +1,5 @@
 use Rattle.std.proofs.Common.{[], ◌∷◌, ◌++◌, take, ap, sym, ◌∙◌, subst, rules, arith}
-use Rattle.std.specs.List.{All}
-use Rattle.std.proofs.lemmas.List.{take_more, take_all}
-use Rattle.std.proofs.lemmas.List.Elements.{All-push}
+use Rattle.std.{proofs.lemmas.List.{take_more, take_all, Elements.All-push}, specs.List.All}
 use Rattle.xa_judge.specs.Near.{named_in, CallsNamed}
 use Rattle.xa_judge.proofs.near.all_named.Goals as goal
 

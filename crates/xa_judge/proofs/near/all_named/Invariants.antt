@@ -1,5 +1,4 @@
-use Rattle.std.proofs.Common.{take}
-use Rattle.std.specs.List.{All}
+use Rattle.std.{proofs.Common.take, specs.List.All}
 use Rattle.xa_judge.specs.Near.{named_in, CallsNamed}
 use Rattle.xa_judge.proofs.near.all_named.Given as goal
 

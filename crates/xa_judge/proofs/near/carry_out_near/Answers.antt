@@ -1,8 +1,6 @@
 use Rattle.std.proofs.Common.{sym, subst}
-use Rattle.xa_server.specs.State.{State}
-use Rattle.xa_server.specs.Step.{after}
-use Rattle.xa_judge.specs.Near.{named_in, AreNear}
-use Rattle.xa_judge.proofs.NearStates.{near_after}
+use Rattle.xa_server.specs.{State.State, Step.after}
+use Rattle.xa_judge.{specs.Near.{named_in, AreNear}, proofs.NearStates.near_after}
 use Rattle.xa_judge.proofs.near.carry_out_near.Goals as goal
 
 pub returns : goal.returns

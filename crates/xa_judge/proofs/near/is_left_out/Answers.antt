@@ -1,8 +1,7 @@
 use Rattle.std.proofs.Common.{sym, subst}
 use Rattle.xa_xid.specs.declared.statement.Statement.{Statement}
 use Rattle.xa_server.specs.Step.{after}
-use Rattle.xa_judge.specs.Near.{named_in, AreNear}
-use Rattle.xa_judge.proofs.NearStates.{near_put, near_del}
+use Rattle.xa_judge.{specs.Near.{named_in, AreNear}, proofs.NearStates.{near_put, near_del}}
 use Rattle.xa_judge.proofs.near.is_left_out.Goals as goal
 
 pub returns-in_ok-out-in-Put : goal.returns-in_ok-out-in-Put

@@ -1,7 +1,6 @@
 use Rattle.std.proofs.Common.{Option, IfSome, subst, rules}
 use Rattle.xa_server.specs.State.{State}
-use Rattle.xa_judge.specs.Near.{named_in, AreNear, IsLoadedTo}
-use Rattle.xa_judge.specs.Told.{no_pass}
+use Rattle.xa_judge.specs.{Near.{named_in, AreNear, IsLoadedTo}, Told.no_pass}
 use Rattle.xa_judge.proofs.near.judge_behind.Goals as goal
 
 pub judge_later-requires-clause-near : goal.judge_later-requires-clause-near

@@ -1,16 +1,13 @@
 use Rattle.std.proofs.Common.{◌≡◌, List, [], ◌∷◌, ◌++◌, append_assoc, append-nil, ap, sym, ◌∙◌, subst, arith}
 use Rattle.std.proofs.lemmas.Grind.{common_steps}
-use Rattle.xa_judge.specs.declared.event.Event.{Event}
-use Rattle.xa_judge.specs.declared.event.Event.TheVariants.{Call, Return}
-use Rattle.xa_judge.specs.Near.{IsLoadedTo}
-use Rattle.xa_judge.proofs.Loaded.{loaded_more, none_left}
+use Rattle.xa_judge.{specs.{declared.event.Event.Event, Near.IsLoadedTo}, proofs.Loaded.{loaded_more, none_left}}
 use Rattle.xa_judge.proofs.near.loaded.Goals as goal
 
 pub loop-rest-preserved : goal.loop-rest-preserved
 loop-rest-preserved c =
     let seen = c.loop-rest.invariant in
     let call = c.in-Some.call in
-    let head : List Event = Call call.session call.request.now ∷ Return call.session call.seen.now ∷ [] in (
+    let head : List Event = Event.Call call.session call.request.now ∷ Event.Return call.session call.seen.now ∷ [] in (
       seen.0 ++ head,
       seen.1 ∙ ap (λ l. seen.0 ++ l) c.in-Some.ensures ∙ sym (append_assoc seen.0 head call.later.now),
       subst (IsLoadedTo c.args.base.now (seen.0 ++ head)) (sym c.in_ok-shows.ensures.state)

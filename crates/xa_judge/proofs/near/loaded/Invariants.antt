@@ -1,6 +1,5 @@
 use Rattle.std.proofs.Common.{◌≡◌, List, ◌++◌, length}
-use Rattle.xa_judge.specs.declared.event.Event.{Event}
-use Rattle.xa_judge.specs.Near.{named_in, AreNear, IsLoadedTo}
+use Rattle.xa_judge.specs.{declared.event.Event.Event, Near.{named_in, AreNear, IsLoadedTo}}
 use Rattle.xa_judge.proofs.near.loaded.Given as goal
 
 -- what was seen leads to the full server, and the other is near it

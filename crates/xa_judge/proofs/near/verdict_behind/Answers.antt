@@ -1,5 +1,4 @@
-use Rattle.xa_judge.specs.Near.{named_in}
-use Rattle.xa_judge.proofs.NearVerdicts.{illegal_behind}
+use Rattle.xa_judge.{specs.Near.named_in, proofs.NearVerdicts.illegal_behind}
 use Rattle.xa_judge.proofs.near.verdict_behind.Goals as goal
 
 pub returns-in-Illegal-clause-verdict : goal.returns-in-Illegal-clause-verdict

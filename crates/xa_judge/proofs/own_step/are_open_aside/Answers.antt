@@ -1,9 +1,6 @@
-use Rattle.std.proofs.Common.{◌≡◌, Some, drop, sym, ◌∙◌, subst, inl, inr, arith, rules, tests}
+use Rattle.std.proofs.{Common.{◌≡◌, Some, drop, sym, ◌∙◌, subst, inl, inr, arith, rules, tests}, lemmas.Bool.cases_lt}
 use Rattle.std.specs.Prelude.{slice_get}
-use Rattle.std.proofs.lemmas.Bool.{cases_lt}
-use Rattle.xa_judge.specs.Clear.{IsAside, returns_in}
-use Rattle.xa_judge.proofs.KeyVerdicts.{within_of}
-use Rattle.xa_judge.proofs.ForeseenLists.{noted_at}
+use Rattle.xa_judge.{specs.Clear.{IsAside, returns_in}, proofs.{KeyVerdicts.within_of, ForeseenLists.noted_at}}
 use Rattle.xa_judge.proofs.own_step.are_open_aside.Goals as goal
 
 pub loop-number-preserved : goal.loop-number-preserved

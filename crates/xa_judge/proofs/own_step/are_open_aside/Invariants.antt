@@ -1,8 +1,5 @@
-use Rattle.std.proofs.Common.{◌≡◌, ◌≢◌, ◌<◌, ℕ, Some, drop}
-use Rattle.std.specs.Prelude.{slice_get}
-use Rattle.xa_judge.specs.declared.open_call.OpenCall.{OpenCall}
-use Rattle.xa_judge.specs.declared.request.Request.{Request}
-use Rattle.xa_judge.specs.Clear.{IsAside, returns_in}
+use Rattle.std.{proofs.Common.{◌≡◌, ◌≢◌, ◌<◌, ℕ, Some, drop}, specs.Prelude.slice_get}
+use Rattle.xa_judge.specs.{declared.{open_call.OpenCall.OpenCall, request.Request.Request}, Clear.{IsAside, returns_in}}
 use Rattle.xa_judge.specs.Foreseen.{hint_in}
 use Rattle.xa_judge.proofs.own_step.are_open_aside.Given as goal
 

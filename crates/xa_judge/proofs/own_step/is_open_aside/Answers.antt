@@ -1,9 +1,6 @@
-use Rattle.std.proofs.Common.{◌≡◌, Some, drop, refl, ap, sym, ◌∙◌, subst}
-use Rattle.std.specs.Prelude.{slice_get}
-use Rattle.xa_judge.specs.declared.event.Event.TheVariants.{Call, Return, Lost, Unknown}
-use Rattle.xa_judge.specs.Clear.{IsAside, returns_in}
-use Rattle.xa_judge.proofs.OwnSteps.{asked_is, asked_not}
-use Rattle.xa_judge.proofs.Places.{stands_at}
+use Rattle.std.{proofs.Common.{◌≡◌, Some, drop, refl, ap, sym, ◌∙◌, subst}, specs.Prelude.slice_get}
+use Rattle.xa_judge.specs.{declared.event.Event.TheVariants.{Call, Return, Lost, Unknown}, Clear.{IsAside, returns_in}}
+use Rattle.xa_judge.proofs.{OwnSteps.{asked_is, asked_not}, Places.stands_at}
 use Rattle.xa_judge.proofs.own_step.is_open_aside.Goals as goal
 
 pub returns-in-Some-Call : goal.returns-in-Some-Call

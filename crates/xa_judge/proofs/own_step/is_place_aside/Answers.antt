@@ -1,7 +1,5 @@
-use Rattle.std.proofs.Common.{Some, sym, ◌∙◌, ap, subst}
-use Rattle.std.proofs.lemmas.Option.{same_Some}
-use Rattle.xa_judge.specs.Foreseen.{asked_by}
-use Rattle.xa_judge.proofs.Places.{stands_at}
+use Rattle.std.proofs.{Common.{Some, sym, ◌∙◌, ap, subst}, lemmas.Option.same_Some}
+use Rattle.xa_judge.{specs.Foreseen.asked_by, proofs.Places.stands_at}
 use Rattle.xa_judge.proofs.own_step.is_place_aside.Goals as goal
 
 pub returns-in-Some : goal.returns-in-Some

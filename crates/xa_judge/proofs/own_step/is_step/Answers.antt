@@ -1,7 +1,6 @@
 use Rattle.std.proofs.Common.{◌≡◌, ap, sym, ◌∙◌, subst}
 use Rattle.xa_xid.specs.declared.statement.Statement.TheVariants.{Start, End, Prepare}
-use Rattle.xa_server.specs.declared.reply.Reply.TheVariants.{Ok as Accepted}
-use Rattle.xa_server.specs.Replies.{reply_to}
+use Rattle.xa_server.specs.{declared.reply.Reply.TheVariants.Ok as Accepted, Replies.reply_to}
 use Rattle.xa_judge.specs.Clear.{key_of, IsEnding, IsOwnStep}
 use Rattle.xa_judge.proofs.OwnSteps.{accepted, started_step, ended_step, prepared_step, row_step, finished_step}
 use Rattle.xa_judge.proofs.own_step.is_step.Goals as goal

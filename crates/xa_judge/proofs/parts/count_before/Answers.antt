@@ -1,7 +1,7 @@
 use Rattle.std.proofs.Common.{◌+◌, ◌<◌, length, ap, sym, ◌∙◌, arith, false}
 use Rattle.xa_judge.proofs.KeyParts.{same_side, other_side, count_next}
-use Rattle.xa_judge.proofs.parts.count_before.Goals as goal
 use Rattle.xa_judge.proofs.parts.count_before.Goals.{then-sides-index, else-sides-index}
+use Rattle.xa_judge.proofs.parts.count_before.Goals as goal
 
 pub loop-index-preserved : goal.loop-index-preserved
 loop-index-preserved c =

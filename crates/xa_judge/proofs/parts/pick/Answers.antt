@@ -1,10 +1,9 @@
 use Rattle.std.proofs.Common.{◌+◌, ◌<◌, [], ◌∷◌, ◌++◌, Vec, Global, length, drop, ap, sym, ◌∙◌, arith, false}
 use Rattle.std.proofs.Common.{append-nil}
-use Rattle.xa_judge.specs.declared.event.Event.{Event}
-use Rattle.xa_judge.specs.Keys.{picked}
+use Rattle.xa_judge.specs.{declared.event.Event.Event, Keys.picked}
 use Rattle.xa_judge.proofs.KeyParts.{same_side, other_side, picked_next, picked_past, picked_end, one_at_most}
-use Rattle.xa_judge.proofs.parts.pick.Goals as goal
 use Rattle.xa_judge.proofs.parts.pick.Goals.{then-sides-place+in_ok-copy_of+in_ok-push, else-sides-place}
+use Rattle.xa_judge.proofs.parts.pick.Goals as goal
 
 pub loop-place-preserved : goal.loop-place-preserved
 loop-place-preserved c =

@@ -1,7 +1,7 @@
 use Rattle.std.proofs.Common.{◌+◌, ◌<◌, length, ap, sym, ◌∙◌, arith, false}
 use Rattle.xa_judge.proofs.KeyParts.{same_side, other_side, count_next}
-use Rattle.xa_judge.proofs.parts.place_in.Goals as goal
 use Rattle.xa_judge.proofs.parts.place_in.Goals.{then-sides-place+else-count-index, else-sides-place}
+use Rattle.xa_judge.proofs.parts.place_in.Goals as goal
 
 pub loop-place-preserved : goal.loop-place-preserved
 loop-place-preserved c =

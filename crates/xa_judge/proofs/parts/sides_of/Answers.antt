@@ -1,13 +1,7 @@
-use Rattle.std.proofs.Common.{◌≡◌, ℕ, ◌+◌, ◌<◌, List, [], ◌∷◌, ◌++◌, Bool, Some, length, get_or, ap, sym, ◌∙◌}
-use Rattle.std.proofs.Common.{subst, arith}
-use Rattle.std.specs.Prelude.{slice_get, slice_set}
-use Rattle.std.specs.Option.{unwrap_or}
-use Rattle.xa_judge.specs.declared.turn.Turn.{Turn}
-use Rattle.xa_judge.specs.declared.turn.Turn.TheVariants.{Nobody}
-use Rattle.xa_judge.specs.Keys.{session_of, turn_after, turn_in, turns_past}
-use Rattle.xa_judge.specs.Near.{named_in}
-use Rattle.xa_judge.proofs.Places.{stands_at}
-use Rattle.xa_judge.proofs.KeyParts.{CutSoFar, cut_more, cut_all}
+use Rattle.std.proofs.Common.{◌≡◌, ℕ, ◌+◌, ◌<◌, List, [], ◌∷◌, ◌++◌, Bool, Some, length, get_or, ap, sym, ◌∙◌, subst}
+use Rattle.std.{proofs.Common.arith, specs.{Prelude.{slice_get, slice_set}, Option.unwrap_or}}
+use Rattle.xa_judge.{specs.declared.turn.Turn.{Turn, TheVariants.Nobody}, proofs.KeyParts.{CutSoFar, cut_more, cut_all}}
+use Rattle.xa_judge.{specs.{Keys.{session_of, turn_after, turn_in, turns_past}, Near.named_in}, proofs.Places.stands_at}
 use Rattle.xa_judge.proofs.parts.sides_of.Goals as goal
 
 found : (turns seen : List Turn) (place session : ℕ) (turn : Turn) → seen ≡ turns → place ≡ session

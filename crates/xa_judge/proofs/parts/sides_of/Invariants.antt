@@ -1,5 +1,4 @@
-use Rattle.xa_judge.specs.Near.{named_in}
-use Rattle.xa_judge.proofs.KeyParts.{CutSoFar}
+use Rattle.xa_judge.{specs.Near.named_in, proofs.KeyParts.CutSoFar}
 use Rattle.xa_judge.proofs.parts.sides_of.Given as goal
 
 -- the events before the place are cut

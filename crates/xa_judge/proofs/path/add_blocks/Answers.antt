@@ -1,7 +1,6 @@
 use Rattle.std.proofs.Common.{◌≡◌, ◌+◌, ◌++◌, ◌∷◌, [], take, map, ap, sym, ◌∙◌, append_assoc, append-nil, rules}
 use Rattle.std.proofs.lemmas.List.{take_more}
-use Rattle.xa_judge.specs.Path.{move_of, moves_of}
-use Rattle.xa_judge.proofs.Paths.{moves_more}
+use Rattle.xa_judge.{specs.Path.{move_of, moves_of}, proofs.Paths.moves_more}
 use Rattle.xa_judge.proofs.path.add_blocks.Goals as goal
 
 pub loop-block-init : goal.loop-block-init

@@ -1,6 +1,5 @@
 use Rattle.std.proofs.Common.{length, refl, sym, subst, arith, zero-add}
-use Rattle.xa_judge.specs.Told.{IsReport, no_report}
-use Rattle.xa_judge.proofs.Told.{report_more}
+use Rattle.xa_judge.{specs.Told.{IsReport, no_report}, proofs.Told.report_more}
 use Rattle.xa_judge.proofs.progress.tell_first.Goals as goal
 
 pub loop-place-init : goal.loop-place-init

@@ -1,7 +1,5 @@
-use Rattle.std.proofs.Common.{ap, sym, ◌∙◌, rules, tests}
-use Rattle.std.specs.Option.{option_map}
-use Rattle.xa_judge.specs.Found.{config_of}
-use Rattle.xa_judge.proofs.ForeseenSteps.{settles_one}
+use Rattle.std.{proofs.Common.{ap, sym, ◌∙◌, rules, tests}, specs.Option.option_map}
+use Rattle.xa_judge.{specs.Found.config_of, proofs.ForeseenSteps.settles_one}
 use Rattle.xa_judge.proofs.quiet.settled_one.Goals as goal
 
 pub returns-in-Some : goal.returns-in-Some

@@ -1,6 +1,5 @@
 use Rattle.std.proofs.Common.{arith, rules, tests}
-use Rattle.xa_judge.specs.Verdicts.{IsAnswerAfter}
-use Rattle.xa_judge.proofs.RefutedReturns.{all_more, all_end}
+use Rattle.xa_judge.{specs.Verdicts.IsAnswerAfter, proofs.RefutedReturns.{all_more, all_end}}
 use Rattle.xa_judge.proofs.refuting.are_given.Goals as goal
 
 pub loop-answer-preserved : goal.loop-answer-preserved

@@ -1,5 +1,4 @@
-use Rattle.std.proofs.Common.{take}
-use Rattle.std.specs.List.{All}
+use Rattle.std.{proofs.Common.take, specs.List.All}
 use Rattle.xa_judge.specs.Verdicts.{IsAnswerAfter}
 use Rattle.xa_judge.proofs.refuting.are_given.Given as goal
 

@@ -1,7 +1,5 @@
-use Rattle.std.proofs.Common.{subst}
-use Rattle.std.specs.Prelude.{IfSome}
-use Rattle.xa_judge.specs.Explained.{opening_config, LeadsThrough}
-use Rattle.xa_judge.specs.Found.{config_of}
+use Rattle.std.{proofs.Common.subst, specs.Prelude.IfSome}
+use Rattle.xa_judge.specs.{Explained.{opening_config, LeadsThrough}, Found.config_of}
 use Rattle.xa_judge.proofs.refuting.is_given.Goals as goal
 
 pub returns : goal.returns

@@ -1,9 +1,6 @@
 use Rattle.std.proofs.Common.{◌≡◌, ◌≢◌, ◌<◌, false, take, length, vec_len, sym, ◌∙◌, subst, arith, rules, tests}
-use Rattle.std.specs.List.{All, Contains}
-use Rattle.std.proofs.lemmas.Bool.{eqb-false}
-use Rattle.xa_judge.specs.declared.answer.Answer.{Answer}
-use Rattle.xa_judge.specs.Explained.{shows_answer}
-use Rattle.xa_judge.specs.Verdicts.{IsAnswerAfter}
+use Rattle.std.{proofs.lemmas.Bool.eqb-false, specs.List.{All, Contains}}
+use Rattle.xa_judge.specs.{declared.answer.Answer.Answer, Explained.shows_answer, Verdicts.IsAnswerAfter}
 use Rattle.xa_judge.proofs.RefutedReturns.{illegal_return}
 use Rattle.xa_judge.proofs.refuting.refuted.Goals as goal
 

@@ -1,6 +1,5 @@
 use Rattle.std.proofs.Common.{◌≡◌, false, ap, sym, ◌∙◌, arith}
-use Rattle.xa_judge.specs.Explained.{shows_answer}
-use Rattle.xa_judge.proofs.RefutedReturns.{all_more, all_end}
+use Rattle.xa_judge.{specs.Explained.shows_answer, proofs.RefutedReturns.{all_more, all_end}}
 use Rattle.xa_judge.proofs.refuting.shows_none.Goals as goal
 
 pub loop-answer-preserved : goal.loop-answer-preserved

@@ -1,5 +1,4 @@
-use Rattle.std.proofs.Common.{◌≡◌, false, take}
-use Rattle.std.specs.List.{All}
+use Rattle.std.{proofs.Common.{◌≡◌, false, take}, specs.List.All}
 use Rattle.xa_judge.specs.Explained.{shows_answer}
 use Rattle.xa_judge.proofs.refuting.shows_none.Given as goal
 

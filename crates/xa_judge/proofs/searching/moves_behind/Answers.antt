@@ -1,5 +1,4 @@
-use Rattle.xa_judge.specs.Told.{no_pass}
-use Rattle.xa_judge.proofs.Told.{passes_on, pass_of}
+use Rattle.xa_judge.{specs.Told.no_pass, proofs.Told.{passes_on, pass_of}}
 use Rattle.xa_judge.proofs.searching.moves_behind.Goals as goal
 
 pub loop-width-init : goal.loop-width-init

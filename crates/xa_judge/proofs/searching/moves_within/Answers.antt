@@ -1,7 +1,5 @@
 use Rattle.std.proofs.Common.{◌≡◌, ◌<◌, ◌+◌, length, ap, arith, rules}
-use Rattle.xa_judge.specs.Told.{no_report}
-use Rattle.xa_judge.proofs.Told.{report_more}
-use Rattle.xa_judge.proofs.Verdicts.{some_shortened}
+use Rattle.xa_judge.{specs.Told.no_report, proofs.{Told.report_more, Verdicts.some_shortened}}
 use Rattle.xa_judge.proofs.searching.moves_within.Goals as goal
 
 pub loop-place-init : goal.loop-place-init

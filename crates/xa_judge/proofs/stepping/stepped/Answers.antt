@@ -1,7 +1,5 @@
 use Rattle.std.proofs.Common.{drop}
-use Rattle.xa_judge.specs.Found.{Has}
-use Rattle.xa_judge.specs.Foreseen.{hints_of}
-use Rattle.xa_judge.proofs.Eager.{goes_past}
+use Rattle.xa_judge.{specs.{Found.Has, Foreseen.hints_of}, proofs.Eager.goes_past}
 use Rattle.xa_judge.proofs.stepping.stepped.Goals as goal
 
 pub loop-number-preserved : goal.loop-number-preserved

@@ -1,7 +1,5 @@
 use Rattle.std.proofs.Common.{drop, rules, tests}
-use Rattle.xa_judge.specs.Found.{Has}
-use Rattle.xa_judge.specs.Foreseen.{hints_of}
-use Rattle.xa_judge.proofs.Eager.{steps_more, steps_end, goes_stepped}
+use Rattle.xa_judge.{specs.{Found.Has, Foreseen.hints_of}, proofs.Eager.{steps_more, steps_end, goes_stepped}}
 use Rattle.xa_judge.proofs.stepping.stepped_all.Goals as goal
 
 pub loop-one-preserved : goal.loop-one-preserved

@@ -1,6 +1,5 @@
 use Rattle.std.proofs.Common.{drop, length}
-use Rattle.xa_judge.specs.Foreseen.{hints_of}
-use Rattle.xa_judge.proofs.Eager.{StepsBoth}
+use Rattle.xa_judge.{specs.Foreseen.hints_of, proofs.Eager.StepsBoth}
 use Rattle.xa_judge.proofs.stepping.stepped_all.Given as goal
 
 abbrev pub invariant-loop-one : goal.invariant-loop-one

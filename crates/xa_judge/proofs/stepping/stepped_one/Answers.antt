@@ -1,8 +1,5 @@
-use Rattle.std.proofs.Common.{drop, ap, sym, ◌∙◌, rules, tests}
-use Rattle.std.specs.Option.{option_map}
-use Rattle.xa_judge.specs.Clear.{IsReadyStep}
-use Rattle.xa_judge.specs.Found.{config_of}
-use Rattle.xa_judge.specs.Foreseen.{hints_of}
+use Rattle.std.{proofs.Common.{drop, ap, sym, ◌∙◌, rules, tests}, specs.Option.option_map}
+use Rattle.xa_judge.specs.{Clear.IsReadyStep, Found.config_of, Foreseen.hints_of}
 use Rattle.xa_judge.proofs.Eager.{steps_first, steps_none}
 use Rattle.xa_judge.proofs.stepping.stepped_one.Goals as goal
 

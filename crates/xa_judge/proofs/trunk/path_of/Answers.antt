@@ -1,5 +1,4 @@
-use Rattle.std.proofs.Common.{length, refl, ap, sym, ◌++◌, ◌∙◌}
-use Rattle.std.proofs.lemmas.Option.{slice_get_read}
+use Rattle.std.proofs.{Common.{length, refl, ap, sym, ◌++◌, ◌∙◌}, lemmas.Option.slice_get_read}
 use Rattle.xa_judge.specs.declared.configuration.Configuration.{Configuration}
 use Rattle.xa_judge.proofs.trunk.path_of.Goals as goal
 

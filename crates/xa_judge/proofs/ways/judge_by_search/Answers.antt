@@ -1,6 +1,5 @@
 use Rattle.std.proofs.Common.{subst}
-use Rattle.xa_judge.specs.Following.{Leads}
-use Rattle.xa_judge.proofs.Told.{passes_of}
+use Rattle.xa_judge.{specs.Following.Leads, proofs.Told.passes_of}
 use Rattle.xa_judge.proofs.ways.judge_by_search.Goals as goal
 
 pub returns-then-branch-clause-verdict : goal.returns-then-branch-clause-verdict

@@ -1,12 +1,8 @@
 use Rattle.std.proofs.Common.{◌≡◌, ◌<◌, ◌+◌, [], take, length, refl, ap, sym, ◌∙◌, subst, arith}
-use Rattle.std.proofs.lemmas.Option.{slice_get_read}
-use Rattle.std.specs.List.{All}
-use Rattle.xa_judge.specs.Found.{Reaches, IsPathOf}
-use Rattle.xa_judge.specs.Advances.{IsAdvance}
+use Rattle.std.{proofs.lemmas.Option.slice_get_read, specs.List.All}
+use Rattle.xa_judge.specs.{Found.{Reaches, IsPathOf}, Advances.IsAdvance, Told.{no_report, IsSizeOfKept}}
 use Rattle.xa_judge.proofs.Verdicts.{complete_more, reach_more, legal, refuted, answers_given, wide, opens_reached}
-use Rattle.xa_judge.specs.Told.{no_report, IsSizeOfKept}
-use Rattle.xa_judge.proofs.Told.{report_more}
-use Rattle.xa_judge.proofs.Verdicts.{opens_complete, continues_shortened, some_shortened}
+use Rattle.xa_judge.proofs.{Verdicts.{opens_complete, continues_shortened, some_shortened}, Told.report_more}
 use Rattle.xa_judge.proofs.Late.{opens_kept, kept_on}
 use Rattle.xa_judge.proofs.ways.judge_in_breadth.Goals as goal
 

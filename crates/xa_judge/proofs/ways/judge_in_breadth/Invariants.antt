@@ -1,8 +1,5 @@
-use Rattle.std.proofs.Common.{◌≡◌, ◌<◌, ◌+◌, take, length}
-use Rattle.std.specs.List.{All}
-use Rattle.xa_judge.specs.Explained.{Config}
-use Rattle.xa_judge.specs.Late.{IsKept}
-use Rattle.xa_judge.specs.Found.{Has, Reaches}
+use Rattle.std.{proofs.Common.{◌≡◌, ◌<◌, ◌+◌, take, length}, specs.List.All}
+use Rattle.xa_judge.specs.{Explained.Config, Late.IsKept, Found.{Has, Reaches}}
 use Rattle.xa_judge.specs.Told.{AreReports, IsComplete, IsSizeOfKept}
 use Rattle.xa_judge.proofs.ways.judge_in_breadth.Given as goal
 

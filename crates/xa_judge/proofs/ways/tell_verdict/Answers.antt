@@ -1,6 +1,5 @@
 use Rattle.std.proofs.Common.{◌+◌, length, zero-add}
-use Rattle.xa_judge.specs.Told.{no_pass}
-use Rattle.xa_judge.proofs.Told.{told_of}
+use Rattle.xa_judge.{specs.Told.no_pass, proofs.Told.told_of}
 use Rattle.xa_judge.proofs.ways.tell_verdict.Goals as goal
 
 pub returns-in-None-clause-told : goal.returns-in-None-clause-told

@@ -1,7 +1,6 @@
 use Rattle.std.proofs.Common.{rules, ◌≡◌, ◌==◌, ◌∙◌, true, false, length, sym}
 use Rattle.xa_xid.specs.Bytes.{unblank}
-use Rattle.xa_lines.specs.Script.{lines_of}
-use Rattle.xa_lines.proofs.Bare.{begins_blank, begins_filled, begins_none}
+use Rattle.xa_lines.{specs.Script.lines_of, proofs.Bare.{begins_blank, begins_filled, begins_none}}
 use Rattle.xa_lines.proofs.comments.begins_with_comment.Goals as goal
 
 pub returns-then-not-is_empty : goal.returns-then-not-is_empty

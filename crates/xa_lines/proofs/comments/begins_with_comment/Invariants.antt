@@ -1,6 +1,5 @@
 use Rattle.std.proofs.Common.{◌≡◌, length}
-use Rattle.xa_lines.specs.Script.{lines_of}
-use Rattle.xa_lines.specs.Uncommented.{begins_commented}
+use Rattle.xa_lines.specs.{Script.lines_of, Uncommented.begins_commented}
 use Rattle.xa_lines.proofs.comments.begins_with_comment.Given as goal
 
 abbrev pub invariant-loop-rest : goal.invariant-loop-rest

@@ -1,6 +1,5 @@
 use Rattle.std.proofs.Common.{rules, ◌≡◌, ◌∙◌, ◌++◌, ◌∷◌, [], sym}
-use Rattle.xa_lines.specs.Script.{lines_of}
-use Rattle.xa_lines.proofs.Bare.{bare_more, bare_end}
+use Rattle.xa_lines.{specs.Script.lines_of, proofs.Bare.{bare_more, bare_end}}
 use Rattle.xa_lines.proofs.comments.without_comments.Goals as goal
 
 pub loop-rest-preserved : goal.loop-rest-preserved

@@ -1,6 +1,5 @@
 use Rattle.std.proofs.Common.{◌≡◌, ◌++◌, length}
-use Rattle.xa_lines.specs.Script.{lines_of}
-use Rattle.xa_lines.specs.Uncommented.{bare_lines}
+use Rattle.xa_lines.specs.{Script.lines_of, Uncommented.bare_lines}
 use Rattle.xa_lines.proofs.comments.without_comments.Given as goal
 
 abbrev pub invariant-loop-rest : goal.invariant-loop-rest

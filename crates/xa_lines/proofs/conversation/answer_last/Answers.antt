@@ -1,6 +1,5 @@
 use Rattle.std.proofs.Common.{◌∙◌, sym}
-use Rattle.xa_lines.specs.Received.{held_by}
-use Rattle.xa_lines.proofs.Clients.{last_ok, last_err, last_nothing}
+use Rattle.xa_lines.{specs.Received.held_by, proofs.Clients.{last_ok, last_err, last_nothing}}
 use Rattle.xa_lines.proofs.conversation.answer_last.Goals as goal
 
 pub returns-then-is_empty-clause-ok : goal.returns-then-is_empty-clause-ok

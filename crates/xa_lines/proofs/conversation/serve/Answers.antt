@@ -1,9 +1,7 @@
-use Rattle.std.proofs.Common.{◌≡◌, ◌==◌, ◌≤◌, ◌-◌, ◌^◌, ◌+◌, true, false, arith}
-use Rattle.std.proofs.lemmas.Bool.Decides.{nat_tests}
+use Rattle.std.proofs.{Common.{◌≡◌, ◌==◌, ◌≤◌, ◌-◌, ◌^◌, ◌+◌, true, false, arith}, lemmas.Bool.Decides.nat_tests}
 use Rattle.std.proofs.lemmas.Result.{err_from_is_err_and}
-use Rattle.xa_lines.specs.Received.{held_by}
-use Rattle.xa_lines.proofs.Clients.{ready_fresh, ready_ok, receive_err, receive_end, receive_some, flush_ok, flush_err}
-use Rattle.xa_lines.proofs.Clients.{served_ok, served_err, passed_on, spent}
+use Rattle.xa_lines.{specs.Received.held_by, proofs.Clients.{ready_fresh, ready_ok, receive_err, receive_end}}
+use Rattle.xa_lines.proofs.Clients.{receive_some, flush_ok, flush_err, served_ok, served_err, passed_on, spent}
 use Rattle.xa_lines.proofs.conversation.serve.Goals as goal
 
 pub loop-read-init : goal.loop-read-init

@@ -1,5 +1,4 @@
-use Rattle.xa_lines.specs.Received.{held_by}
-use Rattle.xa_lines.proofs.Clients.{Ready}
+use Rattle.xa_lines.{specs.Received.held_by, proofs.Clients.Ready}
 use Rattle.xa_lines.proofs.conversation.serve.Given as goal
 
 abbrev pub invariant-loop-read : goal.invariant-loop-read

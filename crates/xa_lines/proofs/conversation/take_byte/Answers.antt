@@ -1,7 +1,5 @@
-use Rattle.std.proofs.Common.{◌≡◌, ◌==◌, false, arith}
-use Rattle.std.proofs.lemmas.Bool.Decides.{nat_tests}
-use Rattle.xa_lines.specs.Received.{held_by}
-use Rattle.xa_lines.proofs.Clients.{feed_ok, feed_err, put_ok}
+use Rattle.std.proofs.{Common.{◌≡◌, ◌==◌, false, arith}, lemmas.Bool.Decides.nat_tests}
+use Rattle.xa_lines.{specs.Received.held_by, proofs.Clients.{feed_ok, feed_err, put_ok}}
 use Rattle.xa_lines.proofs.conversation.take_byte.Goals as goal
 
 pub returns-then-byte-eq10-clause-ok : goal.returns-then-byte-eq10-clause-ok

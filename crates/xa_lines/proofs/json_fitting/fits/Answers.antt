@@ -1,6 +1,5 @@
 use Rattle.std.proofs.Common.{rules, ◌≡◌, ◌∙◌, sym, ap, true, false}
-use Rattle.xa_lines.specs.Objects.{part_fits_as, mark_of, parts_fit, left_as}
-use Rattle.xa_lines.specs.Script.{lines_of}
+use Rattle.xa_lines.specs.{Objects.{part_fits_as, mark_of, parts_fit, left_as}, Script.lines_of}
 use Rattle.xa_lines.proofs.JsonWritten.{fit_more, fit_fails, fit_ends}
 use Rattle.xa_lines.proofs.json_fitting.fits.Goals as goal
 

@@ -1,6 +1,5 @@
 use Rattle.std.proofs.Common.{◌≡◌, length}
-use Rattle.xa_lines.specs.Script.{lines_of}
-use Rattle.xa_lines.specs.Objects.{parts_fit}
+use Rattle.xa_lines.specs.{Script.lines_of, Objects.parts_fit}
 use Rattle.xa_lines.proofs.json_fitting.fits.Given as goal
 
 abbrev pub invariant-loop-parts : goal.invariant-loop-parts

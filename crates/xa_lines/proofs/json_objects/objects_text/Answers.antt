@@ -1,6 +1,5 @@
 use Rattle.std.proofs.Common.{◌∙◌, sym}
-use Rattle.xa_lines.specs.Script.{lines_of}
-use Rattle.xa_lines.proofs.JsonWritten.{objects_more, objects_end}
+use Rattle.xa_lines.{specs.Script.lines_of, proofs.JsonWritten.{objects_more, objects_end}}
 use Rattle.xa_lines.proofs.json_objects.objects_text.Goals as goal
 
 pub loop-rest-preserved : goal.loop-rest-preserved

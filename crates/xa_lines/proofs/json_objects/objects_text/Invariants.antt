@@ -1,6 +1,5 @@
 use Rattle.std.proofs.Common.{◌≡◌, ◌++◌, length}
-use Rattle.xa_lines.specs.Script.{lines_of}
-use Rattle.xa_lines.specs.Objects.{objects_of}
+use Rattle.xa_lines.specs.{Script.lines_of, Objects.objects_of}
 use Rattle.xa_lines.proofs.json_objects.objects_text.Given as goal
 
 abbrev pub invariant-loop-rest : goal.invariant-loop-rest

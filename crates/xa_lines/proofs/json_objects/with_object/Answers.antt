@@ -1,9 +1,6 @@
 use Rattle.std.proofs.Common.{rules, ◌≡◌, ◌++◌, ◌∷◌, []}
-use Rattle.json.specs.Token.{begin_object, end_object}
-use Rattle.json.specs.Print.{print}
-use Rattle.xa_lines.specs.Script.{lines_of}
-use Rattle.xa_lines.specs.Objects.{form_for, parts_tokens}
-use Rattle.xa_lines.proofs.JsonWritten.{object_done}
+use Rattle.json.specs.{Token.{begin_object, end_object}, Print.print}
+use Rattle.xa_lines.{specs.{Script.lines_of, Objects.{form_for, parts_tokens}}, proofs.JsonWritten.object_done}
 use Rattle.xa_lines.proofs.json_objects.with_object.Goals as goal
 
 pub returns : goal.returns

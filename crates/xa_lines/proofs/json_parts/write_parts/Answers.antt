@@ -1,6 +1,5 @@
 use Rattle.std.proofs.Common.{rules, ◌≡◌, ◌∙◌, ◌++◌, sym, ap}
-use Rattle.xa_lines.specs.Objects.{part_tokens_as, mark_of, parts_tokens, left_as}
-use Rattle.xa_lines.specs.Script.{lines_of}
+use Rattle.xa_lines.specs.{Objects.{part_tokens_as, mark_of, parts_tokens, left_as}, Script.lines_of}
 use Rattle.xa_lines.proofs.JsonWritten.{members_more, members_end}
 use Rattle.xa_lines.proofs.json_parts.write_parts.Goals as goal
 

@@ -1,6 +1,5 @@
 use Rattle.std.proofs.Common.{◌≡◌, ◌++◌, length}
-use Rattle.xa_lines.specs.Script.{lines_of}
-use Rattle.xa_lines.specs.Objects.{parts_tokens}
+use Rattle.xa_lines.specs.{Script.lines_of, Objects.parts_tokens}
 use Rattle.xa_lines.proofs.json_parts.write_parts.Given as goal
 
 abbrev pub invariant-loop-parts : goal.invariant-loop-parts

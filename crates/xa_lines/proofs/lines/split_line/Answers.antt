@@ -1,5 +1,4 @@
-use Rattle.std.proofs.Common.{◌∙◌, ap, take, drop}
-use Rattle.std.proofs.lemmas.List.{take_rest}
+use Rattle.std.proofs.{Common.{◌∙◌, ap, take, drop}, lemmas.List.take_rest}
 use Rattle.xa_lines.proofs.Script.{lines_of-split, none_left}
 use Rattle.xa_lines.proofs.lines.split_line.Goals as goal
 

@@ -1,10 +1,7 @@
-use Rattle.std.proofs.Common.{rules, ◌∙◌}
-use borrow.Author.Tests.{tests}
-use Rattle.std.proofs.lemmas.Iterator.{YieldsList-from_slice}
-use Rattle.std.proofs.lemmas.Iterator.Search.{position_from_yields_List}
-use Rattle.xa_xid.specs.Bytes.{belongs}
-use Rattle.xa_xid.specs.declared.byte_class.ByteClass.TheVariants.{Blank}
+use Rattle.std.proofs.{Common.{rules, ◌∙◌}, lemmas.Iterator.{YieldsList-from_slice, Search.position_from_yields_List}}
+use Rattle.xa_xid.specs.{Bytes.belongs, declared.byte_class.ByteClass.TheVariants.Blank}
 use Rattle.xa_lines.proofs.Counting.{from_position}
+use borrow.Author.Tests.{tests}
 use Rattle.xa_lines.proofs.lines.word_length.Goals as goal
 
 pub returns-clause-length : goal.returns-clause-length

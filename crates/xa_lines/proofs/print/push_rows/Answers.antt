@@ -1,6 +1,5 @@
 use Rattle.std.proofs.Common.{◌∙◌, ◌++◌, ap}
-use Rattle.xa_lines.specs.Printed.{row_text}
-use Rattle.xa_lines.proofs.Printed.{rows_text-more}
+use Rattle.xa_lines.{specs.Printed.row_text, proofs.Printed.rows_text-more}
 use Rattle.xa_lines.proofs.print.push_rows.Goals as goal
 
 pub loop-xid-preserved : goal.loop-xid-preserved

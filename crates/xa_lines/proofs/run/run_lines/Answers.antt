@@ -1,11 +1,8 @@
-use Rattle.std.proofs.Common.{◌≡◌, ◌∙◌, sym, ap}
-use Rattle.std.proofs.lemmas.Result.{err_from_is_err_and}
-use Rattle.xa_lines.specs.Script.{lines_of}
-use Rattle.xa_lines.specs.Transcript.{run_text, transcript}
+use Rattle.std.proofs.{Common.{◌≡◌, ◌∙◌, sym, ap}, lemmas.Result.err_from_is_err_and}
+use Rattle.xa_lines.specs.{Script.lines_of, Transcript.{run_text, transcript}}
 use Rattle.xa_lines.proofs.Calls.{written_none as calls_none, written_so, written_then, stopped_then, written_all}
-use Rattle.xa_lines.proofs.Calls.{answers_stopped}
-use Rattle.xa_lines.proofs.Transcript.{written_none, prefix_written, prefix_more, written_more, written_as}
-use Rattle.xa_lines.proofs.Transcript.{written_whole, run_text-line, run_text-end, on_err}
+use Rattle.xa_lines.proofs.{Calls.answers_stopped, Transcript.{written_none, prefix_written, prefix_more, written_more}}
+use Rattle.xa_lines.proofs.Transcript.{written_as, written_whole, run_text-line, run_text-end, on_err}
 use Rattle.xa_lines.proofs.run.run_lines.Goals as goal
 
 pub returns-in_err-put_line-clause-prefix : goal.returns-in_err-put_line-clause-prefix

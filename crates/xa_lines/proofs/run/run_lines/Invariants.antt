@@ -1,7 +1,5 @@
 use Rattle.std.proofs.Common.{length}
-use Rattle.xa_lines.specs.Calls.{IsWrittenBut}
-use Rattle.xa_lines.specs.Script.{lines_of}
-use Rattle.xa_lines.specs.Transcript.{run_text, transcript, IsWrittenUpTo}
+use Rattle.xa_lines.specs.{Calls.IsWrittenBut, Script.lines_of, Transcript.{run_text, transcript, IsWrittenUpTo}}
 use Rattle.xa_lines.proofs.run.run_lines.Given as goal
 
 abbrev pub invariant-loop-rest : goal.invariant-loop-rest

@@ -1,7 +1,5 @@
-use Rattle.std.proofs.Common.{inl, refl, rules}
-use Rattle.std.proofs.lemmas.Result.{err_from_is_err_and}
-use Rattle.xa_lines.specs.Transcript.{StopsRun}
-use Rattle.xa_lines.proofs.Calls.{passed_fault, run_stopped}
+use Rattle.std.proofs.{Common.{inl, refl, rules}, lemmas.Result.err_from_is_err_and}
+use Rattle.xa_lines.{specs.Transcript.StopsRun, proofs.Calls.{passed_fault, run_stopped}}
 use Rattle.xa_lines.proofs.run.run_script.Goals as goal
 
 pub returns-in_err-script-clause-cause : goal.returns-in_err-script-clause-cause

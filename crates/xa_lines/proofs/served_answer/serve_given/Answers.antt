@@ -1,6 +1,5 @@
 use Rattle.std.proofs.Common.{Ok, Err, rules}
-use Rattle.xa_lines.specs.Answer.{bytes_of}
-use Rattle.xa_lines.proofs.Behind.{given_answer}
+use Rattle.xa_lines.{specs.Answer.bytes_of, proofs.Behind.given_answer}
 use Rattle.xa_lines.proofs.served_answer.serve_given.Goals as goal
 
 pub returns-in-Ok : goal.returns-in-Ok

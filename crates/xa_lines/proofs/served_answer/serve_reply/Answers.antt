@@ -1,7 +1,6 @@
 use Rattle.std.proofs.Common.{Ok, ap}
 use Rattle.xa_server.specs.Step.{is_list}
-use Rattle.xa_lines.specs.Answer.{bytes_of}
-use Rattle.xa_lines.proofs.Behind.{text_answered, reply_answered}
+use Rattle.xa_lines.{specs.Answer.bytes_of, proofs.Behind.{text_answered, reply_answered}}
 use Rattle.xa_lines.proofs.served_answer.serve_reply.Goals as goal
 
 pub returns-in-Recovered-clause-answered : goal.returns-in-Recovered-clause-answered

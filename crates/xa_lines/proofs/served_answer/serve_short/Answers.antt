@@ -1,6 +1,5 @@
 use Rattle.std.proofs.Common.{inl, inr}
-use Rattle.xa_lines.specs.Answer.{bytes_of}
-use Rattle.xa_lines.proofs.Behind.{reply_answers}
+use Rattle.xa_lines.{specs.Answer.bytes_of, proofs.Behind.reply_answers}
 use Rattle.xa_lines.proofs.served_answer.serve_short.Goals as goal
 
 pub returns-in-Ok-clause-answered : goal.returns-in-Ok-clause-answered

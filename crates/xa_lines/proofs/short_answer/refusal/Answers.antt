@@ -1,5 +1,4 @@
-use Rattle.std.proofs.Common.{◌≤◌, ◌∙◌, length, ap, decimal, arith}
-use Rattle.std.proofs.lemmas.Fmt.{length-decimal-le}
+use Rattle.std.proofs.{Common.{◌≤◌, ◌∙◌, length, ap, decimal, arith}, lemmas.Fmt.length-decimal-le}
 use Rattle.xa_lines.proofs.Told.{refused_text-parts}
 use Rattle.xa_lines.proofs.short_answer.refusal.Goals as goal
 

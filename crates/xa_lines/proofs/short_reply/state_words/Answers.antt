@@ -1,5 +1,4 @@
-use Rattle.std.proofs.Common.{ap, sym}
-use Rattle.std.specs.Fmt.{digits}
+use Rattle.std.{proofs.Common.{ap, sym}, specs.Fmt.digits}
 use Rattle.xa_server.specs.declared.xa_error.XaError.TheVariants.{Rmfail}
 use Rattle.xa_lines.specs.Printed.{error_text}
 use Rattle.xa_lines.proofs.short_reply.state_words.Goals as goal

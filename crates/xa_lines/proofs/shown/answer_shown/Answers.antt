@@ -1,7 +1,5 @@
 use Rattle.std.proofs.Common.{subst}
-use Rattle.xa_lines.specs.Script.{Line}
-use Rattle.xa_lines.specs.Shown.{IsAnswerShown}
-use Rattle.xa_lines.proofs.Behind.{blank_shown}
+use Rattle.xa_lines.{specs.{Script.Line, Shown.IsAnswerShown}, proofs.Behind.blank_shown}
 use Rattle.xa_lines.proofs.shown.answer_shown.Goals as goal
 
 pub returns-in-Blank : goal.returns-in-Blank

@@ -1,6 +1,4 @@
-use Rattle.std.proofs.Common.{◌∙◌, arith, length, sym, vec_len}
-use Rattle.std.proofs.lemmas.Bool.{eqb-true}
-use Rattle.std.proofs.lemmas.List.{nil_from_length}
+use Rattle.std.proofs.{Common.{◌∙◌, arith, length, sym, vec_len}, lemmas.{Bool.eqb-true, List.nil_from_length}}
 use Rattle.xa_lines.proofs.Listed.{nothing_listed}
 use Rattle.xa_lines.proofs.shown.lists_nothing.Goals as goal
 

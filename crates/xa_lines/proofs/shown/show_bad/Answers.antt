@@ -1,6 +1,5 @@
 use Rattle.std.proofs.Common.{[], refl}
-use Rattle.xa_lines.specs.Answer.{bytes_of}
-use Rattle.xa_lines.proofs.Behind.{bad_shown}
+use Rattle.xa_lines.{specs.Answer.bytes_of, proofs.Behind.bad_shown}
 use Rattle.xa_lines.proofs.shown.show_bad.Goals as goal
 
 pub returns : goal.returns

@@ -1,6 +1,5 @@
 use Rattle.std.proofs.Common.{Ok, ◌∙◌}
-use Rattle.xa_lines.specs.Answer.{bytes_of}
-use Rattle.xa_lines.proofs.Behind.{given_answer, given_shown, given_unshown}
+use Rattle.xa_lines.{specs.Answer.bytes_of, proofs.Behind.{given_answer, given_shown, given_unshown}}
 use Rattle.xa_lines.proofs.shown.show_read.Goals as goal
 
 pub returns-in-Ok : goal.returns-in-Ok

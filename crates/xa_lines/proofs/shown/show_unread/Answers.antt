@@ -1,6 +1,5 @@
 use Rattle.std.proofs.Common.{[], Err, refl}
-use Rattle.xa_lines.specs.Answer.{bytes_of}
-use Rattle.xa_lines.proofs.Behind.{given_answer, given_shown}
+use Rattle.xa_lines.{specs.Answer.bytes_of, proofs.Behind.{given_answer, given_shown}}
 use Rattle.xa_lines.proofs.shown.show_unread.Goals as goal
 
 pub returns : goal.returns

@@ -1,11 +1,7 @@
-use Rattle.std.proofs.Common.{◌≡◌, ◌++◌, ◌+◌, ℕ, List, take, sym, subst, rules, arith}
+use Rattle.std.proofs.Common.{◌≡◌, ◌++◌, ◌+◌, ℕ, List, take, sym, subst, rules, arith, length-append}
+use Rattle.std.proofs.{KnownBytes.Consumes-trans, lemmas.{Result.err_from_is_err_and, List.length-take}}
 use Rattle.std.specs.Io.KnownBytes.{Consumes}
-use Rattle.std.proofs.KnownBytes.{Consumes-trans}
-use Rattle.std.proofs.lemmas.Result.{err_from_is_err_and}
-use Rattle.std.proofs.lemmas.List.{length-take}
-use Rattle.std.proofs.Common.{length-append}
-use Rattle.xa_lines.specs.Calls.{Carries}
-use Rattle.xa_lines.proofs.Calls.{carries_empty, read_more, stops_for_memory, stops_for_fault}
+use Rattle.xa_lines.{specs.Calls.Carries, proofs.Calls.{carries_empty, read_more, stops_for_memory, stops_for_fault}}
 use Rattle.xa_lines.proofs.Written.{length-piece}
 use Rattle.xa_lines.proofs.streams.read_within.Goals as goal
 

@@ -1,5 +1,4 @@
-use Rattle.std.proofs.Common.{◌≤◌, vec_len}
-use Rattle.std.specs.Io.KnownBytes.{Consumes}
+use Rattle.std.{proofs.Common.{◌≤◌, vec_len}, specs.Io.KnownBytes.Consumes}
 use Rattle.xa_lines.specs.Calls.{Carries}
 use Rattle.xa_lines.proofs.streams.read_within.Given as goal
 

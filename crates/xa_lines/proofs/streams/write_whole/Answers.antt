@@ -1,9 +1,6 @@
-use Rattle.std.proofs.Common.{ℕ, drop, arith}
-use Rattle.std.proofs.lemmas.Result.{err_from_is_err_and}
+use Rattle.std.proofs.{Common.{ℕ, drop, arith}, lemmas.{Result.err_from_is_err_and, List.{length-take, length-drop}}}
 use Rattle.std.proofs.KnownBytes.{Appends-nil}
-use Rattle.std.proofs.lemmas.List.{length-take, length-drop}
-use Rattle.xa_lines.proofs.Calls.{carries_none, written_front, written_next, writing_stopped}
-use Rattle.xa_lines.proofs.Written.{Appends-more}
+use Rattle.xa_lines.proofs.{Calls.{carries_none, written_front, written_next, writing_stopped}, Written.Appends-more}
 use Rattle.xa_lines.proofs.streams.write_whole.Goals as goal
 
 pub loop-written-init : goal.loop-written-init

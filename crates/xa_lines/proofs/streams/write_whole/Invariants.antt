@@ -1,5 +1,4 @@
-use Rattle.std.proofs.Common.{◌≤◌, ◌-◌, length, take}
-use Rattle.std.specs.Io.KnownBytes.{Appends}
+use Rattle.std.{proofs.Common.{◌≤◌, ◌-◌, length, take}, specs.Io.KnownBytes.Appends}
 use Rattle.xa_lines.specs.Calls.{HasWritten}
 use Rattle.xa_lines.proofs.streams.write_whole.Given as goal
 

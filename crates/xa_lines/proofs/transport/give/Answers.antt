@@ -1,10 +1,6 @@
-use Rattle.std.proofs.Common.{ℕ, arith, inl, inr, refl}
-use Rattle.std.proofs.lemmas.Result.{err_from_is_err_and}
-use Rattle.std.proofs.KnownBytes.{Appends-nil}
-use Rattle.std.proofs.lemmas.List.{length-take, length-drop}
-use Rattle.xa_lines.proofs.Calls.{writing_stopped}
-use Rattle.xa_lines.proofs.Trying.{tried_none, tried_next, tried_part}
-use Rattle.xa_lines.proofs.Written.{Appends-more}
+use Rattle.std.proofs.{Common.{ℕ, arith, inl, inr, refl}, lemmas.Result.err_from_is_err_and}
+use Rattle.std.proofs.{lemmas.List.{length-take, length-drop}, KnownBytes.Appends-nil}
+use Rattle.xa_lines.proofs.{Calls.writing_stopped, Trying.{tried_none, tried_next, tried_part}, Written.Appends-more}
 use Rattle.xa_lines.proofs.transport.give.Goals as goal
 
 pub loop-try-init : goal.loop-try-init

@@ -1,9 +1,6 @@
-use Rattle.std.proofs.Common.{◌∙◌, ◌+◌, ℕ, ap, sym, subst, arith}
-use Rattle.std.specs.Prelude.{slice_set}
-use Rattle.xa_coordinator.proofs.Walk.{Reached}
-use Rattle.xa_coordinator.proofs.Walk.{reached_all}
-use Rattle.xa_manager.specs.Said.{IsListed}
-use Rattle.xa_manager.proofs.Said.{listed_more}
+use Rattle.std.{proofs.Common.{◌∙◌, ◌+◌, ℕ, ap, sym, subst, arith}, specs.Prelude.slice_set}
+use Rattle.xa_coordinator.proofs.Walk.{Reached, reached_all}
+use Rattle.xa_manager.{specs.Said.IsListed, proofs.Said.listed_more}
 use Rattle.xa_manager.proofs.answer.listed_by_each.Goals as goal
 
 pub loop-store-preserved : goal.loop-store-preserved

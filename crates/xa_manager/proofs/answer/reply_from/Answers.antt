@@ -1,8 +1,7 @@
 use Rattle.std.proofs.Common.{sym, subst, Result}
 use Rattle.xa_server.specs.declared.reply.Reply.{Reply}
 use Rattle.xa_session.specs.declared.fault.Fault.{Fault}
-use Rattle.xa_manager.specs.Said.{RepliesAs}
-use Rattle.xa_manager.proofs.Said.{replied_as}
+use Rattle.xa_manager.{specs.Said.RepliesAs, proofs.Said.replied_as}
 use Rattle.xa_manager.proofs.answer.reply_from.Goals as goal
 
 pub returns : goal.returns

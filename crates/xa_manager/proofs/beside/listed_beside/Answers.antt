@@ -1,8 +1,6 @@
 use Rattle.std.proofs.Common.{◌∙◌, ◌+◌, ℕ, ap, sym, subst, arith}
 use Rattle.xa_coordinator.proofs.Walk.{Reached}
-use Rattle.xa_manager.specs.Beside.{within}
-use Rattle.xa_manager.specs.Said.{IsListed}
-use Rattle.xa_manager.proofs.Besides.{listed_beside, leaves_next}
+use Rattle.xa_manager.{specs.{Beside.within, Said.IsListed}, proofs.Besides.{listed_beside, leaves_next}}
 use Rattle.xa_manager.proofs.beside.listed_beside.Goals as goal
 
 pub loop-store-preserved : goal.loop-store-preserved

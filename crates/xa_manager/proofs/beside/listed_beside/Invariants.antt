@@ -1,7 +1,6 @@
 use Rattle.std.proofs.Common.{◌≡◌, ◌≤◌, vec_len, vec_capacity}
 use Rattle.xa_coordinator.proofs.Walk.{Reached}
-use Rattle.xa_manager.specs.Beside.{within, LeavesAlone}
-use Rattle.xa_manager.specs.Said.{IsListed}
+use Rattle.xa_manager.specs.{Beside.{within, LeavesAlone}, Said.IsListed}
 use Rattle.xa_manager.proofs.beside.listed_beside.Given as goal
 
 abbrev pub invariant-loop-store : goal.invariant-loop-store

@@ -1,5 +1,4 @@
-use Rattle.std.proofs.Common.{◌≡◌, ◌∙◌, ◌++◌, [], ◌∷◌, ap, sym, lit<}
-use Rattle.std.proofs.lemmas.Fmt.{decimal_digit}
+use Rattle.std.proofs.{Common.{◌≡◌, ◌∙◌, ◌++◌, [], ◌∷◌, ap, sym, lit<}, lemmas.Fmt.decimal_digit}
 use Rattle.std.specs.Prelude.{codes, decimal}
 use Rattle.xa_manager.proofs.call_server.unread.Goals as goal
 

@@ -1,8 +1,6 @@
 use Rattle.std.proofs.Common.{◌≡◌, ◌∙◌, [], ◌∷◌, ◌++◌, ◌+◌, false, take, sym}
 use Rattle.std.proofs.lemmas.List.Elements.{All-nil, All-push}
-use Rattle.xa_manager.specs.Managed.{whole_of}
-use Rattle.xa_manager.specs.declared.response.Response.{Response}
-use Rattle.xa_manager.specs.Runs.{none_yet, is_unanswered}
+use Rattle.xa_manager.specs.{Managed.whole_of, declared.response.Response.Response, Runs.{none_yet, is_unanswered}}
 use Rattle.xa_manager.proofs.Runs.{carried_more, taken_more}
 use Rattle.xa_manager.proofs.carrying.carry_out.Goals as goal
 

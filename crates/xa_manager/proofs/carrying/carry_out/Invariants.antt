@@ -1,7 +1,5 @@
 use Rattle.std.proofs.Common.{List, take}
-use Rattle.xa_manager.specs.Managed.{whole_of}
-use Rattle.xa_manager.specs.declared.response.Response.{Response}
-use Rattle.xa_manager.specs.Runs.{CarriesOut, AreAnswered}
+use Rattle.xa_manager.specs.{Managed.whole_of, declared.response.Response.Response, Runs.{CarriesOut, AreAnswered}}
 use Rattle.xa_manager.proofs.carrying.carry_out.Given as goal
 
 abbrev pub invariant-loop-call : goal.invariant-loop-call

@@ -1,9 +1,5 @@
-use Rattle.std.proofs.Common.{[], ◌∷◌, ◌++◌, ◌+◌, take, refl}
-use Rattle.std.specs.Prelude.{slice_index}
-use Rattle.xa_manager.specs.Managed.{whole_of}
-use Rattle.xa_manager.specs.declared.call.Call.TheVariants.{Fail}
-use Rattle.xa_manager.specs.Runs.{none_yet}
-use Rattle.xa_manager.specs.Stops.{fails_from}
+use Rattle.std.{proofs.Common.{[], ◌∷◌, ◌++◌, ◌+◌, take, refl}, specs.Prelude.slice_index}
+use Rattle.xa_manager.specs.{Managed.whole_of, declared.call.Call.TheVariants.Fail, Runs.none_yet, Stops.fails_from}
 use Rattle.xa_manager.proofs.Runs.{carried_as, carried_more, fails_none, fails_step}
 use Rattle.xa_manager.proofs.carrying.limit_each.Goals as goal
 

@@ -1,8 +1,5 @@
 use Rattle.std.proofs.Common.{List, take}
-use Rattle.xa_manager.specs.Managed.{whole_of}
-use Rattle.xa_manager.specs.declared.response.Response.{Response}
-use Rattle.xa_manager.specs.Runs.{CarriesOut}
-use Rattle.xa_manager.specs.Stops.{fails_from}
+use Rattle.xa_manager.specs.{Managed.whole_of, declared.response.Response.Response, Runs.CarriesOut, Stops.fails_from}
 use Rattle.xa_manager.proofs.carrying.limit_each.Given as goal
 
 abbrev pub invariant-loop-store : goal.invariant-loop-store

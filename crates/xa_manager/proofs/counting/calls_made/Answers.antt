@@ -1,8 +1,6 @@
 use Rattle.std.proofs.Common.{◌≡◌, ◌∙◌, ℕ, List, [], ◌∷◌, ◌++◌, length, map, ap, sym, arith, Vec, Global}
-use Rattle.std.specs.Prelude.{slice_get}
-use Rattle.std.proofs.lemmas.List.{length-map, map_push}
-use Rattle.xa_manager.specs.Stops.{differences, MakesCalls}
-use Rattle.xa_manager.proofs.Counts.{pushed, none_there}
+use Rattle.std.{proofs.lemmas.List.{length-map, map_push}, specs.Prelude.slice_get}
+use Rattle.xa_manager.{specs.Stops.{differences, MakesCalls}, proofs.Counts.{pushed, none_there}}
 use Rattle.xa_manager.proofs.counting.calls_made.Goals as goal
 
 pub loop-place-init : goal.loop-place-init

@@ -1,7 +1,5 @@
-use Rattle.std.proofs.Common.{◌≡◌, ℕ, List, Some, map, take, vec_len}
-use Rattle.std.specs.Prelude.{slice_get}
-use Rattle.xa_manager.specs.Runs.{IsGiven}
-use Rattle.xa_manager.specs.Stops.{MakesCalls}
+use Rattle.std.{proofs.Common.{◌≡◌, ℕ, List, Some, map, take, vec_len}, specs.Prelude.slice_get}
+use Rattle.xa_manager.specs.{Runs.IsGiven, Stops.MakesCalls}
 use Rattle.xa_manager.proofs.counting.calls_made.Given as goal
 
 abbrev pub invariant-loop-place : goal.invariant-loop-place

@@ -1,7 +1,6 @@
 use Rattle.std.proofs.Common.{◌∙◌, ◌+◌, ℕ, List, [], ◌∷◌, ◌++◌, drop, refl, ap, sym, append_assoc, append-nil}
 use Rattle.std.specs.Prelude.{slice_index}
-use Rattle.xa_manager.specs.Stops.{differences}
-use Rattle.xa_manager.proofs.Counts.{differences_step, differences_end}
+use Rattle.xa_manager.{specs.Stops.differences, proofs.Counts.{differences_step, differences_end}}
 use Rattle.xa_manager.proofs.counting.differences.Goals as goal
 
 pub loop-place-preserved : goal.loop-place-preserved

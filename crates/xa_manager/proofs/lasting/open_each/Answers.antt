@@ -2,12 +2,9 @@ use Rattle.std.proofs.Common.{◌≡◌, ◌∙◌, ◌<◌, ◌-◌, ◌^◌, �
 use Rattle.std.proofs.lemmas.List.Elements.{All-push}
 use Rattle.decision_log.specs.Known.{newcomer}
 use Rattle.xa_server.specs.State.{no_state}
-use Rattle.xa_coordinator.specs.declared.fused.Fused.{Fused}
+use Rattle.xa_coordinator.specs.declared.{fused.Fused.Fused, store.LastingStore.LastingStore}
 use Rattle.xa_coordinator.specs.Lasting.{own_view, other_view, other_alone}
-use Rattle.xa_coordinator.specs.declared.store.LastingStore.{LastingStore}
-use Rattle.xa_manager.specs.Limits.{Passes}
-use Rattle.xa_manager.specs.Whole.{IsPair}
-use Rattle.xa_manager.proofs.Limits.{passes_more}
+use Rattle.xa_manager.{specs.{Limits.Passes, Whole.IsPair}, proofs.Limits.passes_more}
 use Rattle.xa_manager.proofs.lasting.open_each.Goals as goal
 
 pair_of : (store : LastingStore) → store.first.value ≡ no_state → (own_view store).known ≡ newcomer 1

@@ -1,7 +1,6 @@
 use Rattle.std.proofs.Common.{◌≡◌, ◌≤◌, ◌<◌, ◌-◌, ◌^◌, ℕ, All, length, vec_len}
 use Rattle.xa_coordinator.specs.Lasting.{own_view, other_alone}
-use Rattle.xa_manager.specs.Limits.{Passes}
-use Rattle.xa_manager.specs.Whole.{IsPair}
+use Rattle.xa_manager.specs.{Limits.Passes, Whole.IsPair}
 use Rattle.xa_manager.proofs.lasting.open_each.Given as goal
 
 abbrev pub invariant-loop-alloc : goal.invariant-loop-alloc

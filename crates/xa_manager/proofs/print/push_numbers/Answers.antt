@@ -1,7 +1,7 @@
 use Rattle.std.proofs.Common.{◌∙◌, ℕ, Vec, Global, ap, inl, inr}
 use Rattle.xa_manager.proofs.Printing.{numbers_grown_if}
-use Rattle.xa_manager.proofs.print.push_numbers.Goals as goal
 use Rattle.xa_manager.proofs.print.push_numbers.Goals.{then-stands+in_ok-push_numbered, else-stands}
+use Rattle.xa_manager.proofs.print.push_numbers.Goals as goal
 
 pub loop-place-preserved : goal.loop-place-preserved
 loop-place-preserved c =

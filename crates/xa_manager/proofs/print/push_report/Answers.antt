@@ -1,5 +1,4 @@
-use Rattle.std.proofs.Common.{codes, decimal}
-use Rattle.std.proofs.lemmas.Result.{on_ok_weaker}
+use Rattle.std.proofs.{Common.{codes, decimal}, lemmas.Result.on_ok_weaker}
 use Rattle.xa_manager.proofs.Printing.{three_grown}
 use Rattle.xa_manager.proofs.print.push_report.Goals as goal
 

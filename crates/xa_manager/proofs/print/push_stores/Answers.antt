@@ -1,5 +1,4 @@
-use Rattle.std.proofs.Common.{◌≡◌, ◌++◌, ◌∙◌, ap, get_or, codes, decimal}
-use Rattle.std.proofs.lemmas.List.{get_or_default}
+use Rattle.std.proofs.{Common.{◌≡◌, ◌++◌, ◌∙◌, ap, get_or, codes, decimal}, lemmas.List.get_or_default}
 use Rattle.xa_manager.proofs.Printing.{stores_grown}
 use Rattle.xa_manager.proofs.print.push_stores.Goals as goal
 

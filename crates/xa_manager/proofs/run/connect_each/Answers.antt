@@ -1,10 +1,7 @@
 use Rattle.std.proofs.Common.{◌≡◌, ◌<◌, ◌∙◌, ◌++◌, ◌∷◌, [], length, length-append, get_or, map, take, ap, sym, subst}
-use Rattle.std.proofs.Common.{arith}
-use Rattle.std.proofs.lemmas.List.{map_push, map-id}
+use Rattle.std.proofs.{Common.arith, lemmas.{List.{map_push, map-id}, Iterator.Adapters.YieldsList-from_vec}}
+use Rattle.std.proofs.lemmas.{Iterator.Consumers.{YieldsList-turn, YieldsList-end}, Slice.Zip.AllZip-long}
 use Rattle.std.specs.List.{AllZip}
-use Rattle.std.proofs.lemmas.Iterator.Adapters.{YieldsList-from_vec}
-use Rattle.std.proofs.lemmas.Iterator.Consumers.{YieldsList-turn, YieldsList-end}
-use Rattle.std.proofs.lemmas.Slice.Zip.{AllZip-long}
 use Rattle.xa_manager.proofs.Passes.{IsOwn, own_at, bases_more, bases_all}
 use Rattle.xa_manager.proofs.run.connect_each.Goals as goal
 

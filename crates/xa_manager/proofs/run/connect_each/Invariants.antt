@@ -1,5 +1,4 @@
-use Rattle.std.proofs.Common.{◌≡◌, vec_len, length, map, take}
-use Rattle.std.specs.List.{AllZip}
+use Rattle.std.{proofs.Common.{◌≡◌, vec_len, length, map, take}, specs.List.AllZip}
 use Rattle.xa_manager.proofs.run.connect_each.Given as goal
 
 abbrev pub invariant-loop-pass : goal.invariant-loop-pass

@@ -1,9 +1,7 @@
 use Rattle.std.proofs.Common.{◌≡◌, ◌<◌, ◌-◌, ◌^◌, ◌∙◌, ◌++◌, ◌∷◌, [], ℕ, List, length, length-append, map, ap, sym}
-use Rattle.std.proofs.Common.{subst, arith}
-use Rattle.std.proofs.lemmas.List.{map_push}
+use Rattle.std.proofs.{Common.{subst, arith}, lemmas.List.map_push}
 use Rattle.xa_coordinator.specs.declared.fused.Fused.{Fused}
-use Rattle.xa_manager.specs.Limits.{Passes}
-use Rattle.xa_manager.proofs.Limits.{passes_more}
+use Rattle.xa_manager.{specs.Limits.Passes, proofs.Limits.passes_more}
 use Rattle.xa_manager.proofs.run.fuse_each.Goals as goal
 
 pub loop-session-preserved : goal.loop-session-preserved

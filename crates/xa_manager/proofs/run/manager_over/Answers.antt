@@ -1,11 +1,9 @@
 use Rattle.std.proofs.Common.{◌≡◌, ◌∙◌, List, false, map, ap, sym, subst, rules}
-use Rattle.std.proofs.lemmas.List.Elements.{recursion_from_All}
-use Rattle.std.specs.List.{AllZip, AllByRecursion}
+use Rattle.std.{proofs.lemmas.List.Elements.recursion_from_All, specs.List.{AllZip, AllByRecursion}}
 use Rattle.decision_log.specs.Known.{newcomer}
 use Rattle.xa_server.specs.State.{no_state}
 use Rattle.xa_store.specs.Passes.{Pass, known_of}
-use Rattle.xa_manager.specs.Whole.{IsPair}
-use Rattle.xa_manager.proofs.Passes.{IsOwn, seen_as, pairs_of, fused_pairs, map_within}
+use Rattle.xa_manager.{specs.Whole.IsPair, proofs.Passes.{IsOwn, seen_as, pairs_of, fused_pairs, map_within}}
 use Rattle.xa_manager.proofs.run.manager_over.Goals as goal
 
 pub returns-clause-sessions : goal.returns-clause-sessions

@@ -1,10 +1,8 @@
-use Rattle.std.proofs.Common.{◌≡◌, ℕ, List, All, sym, subst, arith}
-use Rattle.std.proofs.lemmas.List.Elements.{All-push}
+use Rattle.std.proofs.{Common.{◌≡◌, ℕ, List, All, sym, subst, arith}, lemmas.List.Elements.All-push}
 use Rattle.std.proofs.lemmas.Slice.Zip.{all_zipped_more}
 use Rattle.decision_log.specs.Known.{newcomer}
 use Rattle.xa_server.specs.State.{no_state}
-use Rattle.xa_store.specs.Passes.{Pass, identity_of, known_of}
-use Rattle.xa_store.specs.declared.store.Store.{Store}
+use Rattle.xa_store.specs.{Passes.{Pass, identity_of, known_of}, declared.store.Store.Store}
 use Rattle.xa_manager.proofs.Passes.{IsOwn}
 use Rattle.xa_manager.proofs.run.open_stores.Goals as goal
 

@@ -1,11 +1,7 @@
 use Rattle.std.proofs.Common.{◌≡◌, ◌∙◌, ◌+◌, ℕ, List, [], ◌∷◌, ◌++◌, length, take, refl, sym, ap, arith, false}
-use Rattle.std.proofs.lemmas.List.{take_all, length_push}
-use Rattle.std.proofs.lemmas.List.Elements.{All-nil, All-push}
-use Rattle.xa_manager.specs.Managed.{whole_of}
-use Rattle.xa_manager.specs.declared.response.Response.{Response}
-use Rattle.xa_manager.specs.Runs.{none_yet, is_unanswered}
-use Rattle.xa_manager.specs.Scripts.{fault_text, faults_from}
-use Rattle.xa_manager.proofs.Runs.{carried_as, carried_more, taken_more}
+use Rattle.std.proofs.lemmas.List.{take_all, length_push, Elements.{All-nil, All-push}}
+use Rattle.xa_manager.specs.{Managed.whole_of, declared.response.Response.Response, Runs.{none_yet, is_unanswered}}
+use Rattle.xa_manager.{specs.Scripts.{fault_text, faults_from}, proofs.Runs.{carried_as, carried_more, taken_more}}
 use Rattle.xa_manager.proofs.Texts.{faults_snoc, faults_none}
 use Rattle.xa_manager.proofs.stop_faulty.faulty_lines.Goals as goal
 

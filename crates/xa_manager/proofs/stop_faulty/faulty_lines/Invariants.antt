@@ -1,7 +1,5 @@
 use Rattle.std.proofs.Common.{◌≡◌, List, take, length}
-use Rattle.xa_manager.specs.Managed.{whole_of}
-use Rattle.xa_manager.specs.declared.response.Response.{Response}
-use Rattle.xa_manager.specs.Runs.{CarriesOut, AreAnswered}
+use Rattle.xa_manager.specs.{Managed.whole_of, declared.response.Response.Response, Runs.{CarriesOut, AreAnswered}}
 use Rattle.xa_manager.specs.Scripts.{faults_from}
 use Rattle.xa_manager.proofs.stop_faulty.faulty_lines.Given as goal
 

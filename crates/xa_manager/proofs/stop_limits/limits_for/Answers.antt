@@ -1,7 +1,6 @@
 use Rattle.std.proofs.Common.{◌∙◌, ◌+◌, ◌-◌, ℕ, List, [], ◌∷◌, ◌++◌, drop, refl, ap, sym, append-nil, append_assoc}
 use Rattle.std.specs.Prelude.{slice_index}
-use Rattle.xa_manager.specs.Stops.{limits_for}
-use Rattle.xa_manager.proofs.Counts.{limits_step, limits_end}
+use Rattle.xa_manager.{specs.Stops.limits_for, proofs.Counts.{limits_step, limits_end}}
 use Rattle.xa_manager.proofs.stop_limits.limits_for.Goals as goal
 
 pub loop-there-preserved : goal.loop-there-preserved

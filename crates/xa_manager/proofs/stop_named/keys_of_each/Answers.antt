@@ -1,10 +1,7 @@
-use Rattle.std.proofs.Common.{◌≡◌, ◌∙◌, ℕ, List, [], ◌∷◌, ◌++◌, length, map, ap, sym, arith}
-use Rattle.std.proofs.Common.{Vec, Global}
-use Rattle.std.specs.Prelude.{slice_get}
-use Rattle.std.proofs.lemmas.List.{length-map, map_push}
+use Rattle.std.proofs.Common.{◌≡◌, ◌∙◌, ℕ, List, [], ◌∷◌, ◌++◌, length, map, ap, sym, arith, Vec, Global}
+use Rattle.std.{proofs.lemmas.List.{length-map, map_push}, specs.Prelude.slice_get}
 use Rattle.xa_xid.specs.declared.key.Key.{Key}
-use Rattle.xa_manager.specs.Rows.{keys_named}
-use Rattle.xa_manager.proofs.Counts.{pushed}
+use Rattle.xa_manager.{specs.Rows.keys_named, proofs.Counts.pushed}
 use Rattle.xa_manager.proofs.stop_named.keys_of_each.Goals as goal
 
 pub loop-store-preserved : goal.loop-store-preserved

@@ -1,5 +1,4 @@
-use Rattle.std.proofs.Common.{◌≡◌, ◌++◌}
-use Rattle.std.specs.BTreeSet.{keys}
+use Rattle.std.{proofs.Common.{◌≡◌, ◌++◌}, specs.BTreeSet.keys}
 use Rattle.xa_manager.proofs.stop_named.listed.Given as goal
 
 -- those so far and those that are left are all

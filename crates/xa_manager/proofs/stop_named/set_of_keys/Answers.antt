@@ -1,8 +1,5 @@
-use Rattle.std.proofs.Common.{◌∙◌, ◌+◌, ℕ, List, drop, ap, sym}
-use Rattle.std.specs.BTreeSet.{keys}
-use Rattle.std.specs.Prelude.{Option}
-use Rattle.xa_manager.specs.Rows.{keys_with, with_key}
-use Rattle.xa_manager.proofs.Texts.{keys_step, keys_end}
+use Rattle.std.{proofs.Common.{◌∙◌, ◌+◌, ℕ, List, drop, ap, sym}, specs.{BTreeSet.keys, Prelude.Option}}
+use Rattle.xa_manager.{specs.Rows.{keys_with, with_key}, proofs.Texts.{keys_step, keys_end}}
 use Rattle.xa_manager.proofs.stop_named.set_of_keys.Goals as goal
 
 pub loop-call-preserved : goal.loop-call-preserved

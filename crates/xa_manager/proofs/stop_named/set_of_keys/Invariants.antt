@@ -1,5 +1,4 @@
-use Rattle.std.proofs.Common.{◌≡◌, [], drop}
-use Rattle.std.specs.BTreeSet.{keys}
+use Rattle.std.{proofs.Common.{◌≡◌, [], drop}, specs.BTreeSet.keys}
 use Rattle.xa_manager.specs.Rows.{keys_with}
 use Rattle.xa_manager.proofs.stop_named.set_of_keys.Given as goal
 

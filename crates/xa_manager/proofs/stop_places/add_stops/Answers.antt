@@ -1,6 +1,5 @@
 use Rattle.std.proofs.Common.{◌≡◌, ◌∙◌, ℕ, List, [], ◌∷◌, ◌++◌, ap, sym, append-nil, append_assoc, arith}
-use Rattle.xa_manager.specs.declared.stop.Stop.{Stop}
-use Rattle.xa_manager.specs.Stops.{stops_below}
+use Rattle.xa_manager.specs.{declared.stop.Stop.Stop, Stops.stops_below}
 use Rattle.xa_manager.proofs.Counts.{none_below, stops_more, counted}
 use Rattle.xa_manager.proofs.stop_places.add_stops.Goals as goal
 

@@ -1,8 +1,6 @@
-use Rattle.std.proofs.Common.{◌≡◌, ◌∙◌, ◌+◌, ◌<◌, ℕ, List, ◌++◌, length, get_or, drop, map, ap, sym}
-use Rattle.std.proofs.Common.{append_assoc, append-nil, arith, Vec, Global}
-use Rattle.std.proofs.lemmas.List.{length-map}
-use Rattle.xa_manager.specs.declared.stop.Stop.{Stop}
-use Rattle.xa_manager.specs.Stops.{stops_at, stops_from}
+use Rattle.std.proofs.Common.{◌≡◌, ◌∙◌, ◌+◌, ◌<◌, ℕ, List, ◌++◌, length, get_or, drop, map, ap, sym, append_assoc}
+use Rattle.std.proofs.{Common.{append-nil, arith, Vec, Global}, lemmas.List.length-map}
+use Rattle.xa_manager.specs.{declared.stop.Stop.Stop, Stops.{stops_at, stops_from}}
 use Rattle.xa_manager.proofs.Counts.{read_map, stops_step, stops_end}
 use Rattle.xa_manager.proofs.stop_places.stops_in.Goals as goal
 

@@ -1,8 +1,6 @@
 use Rattle.std.proofs.Common.{◌∙◌, List, [], ◌∷◌, ◌++◌, All, ap, sym, subst, append_assoc, append-nil}
 use Rattle.std.proofs.lemmas.List.Elements.{All-push}
-use Rattle.xa_manager.specs.Calls.{IsWritten}
-use Rattle.xa_manager.specs.declared.call.Call.{Call}
-use Rattle.xa_manager.specs.Scripts.{calls_of}
+use Rattle.xa_manager.specs.{Calls.IsWritten, declared.call.Call.Call, Scripts.calls_of}
 use Rattle.xa_manager.proofs.Texts.{calls_cut, calls_end}
 use Rattle.xa_manager.proofs.stop_reading.read_calls.Goals as goal
 

@@ -1,6 +1,5 @@
 use Rattle.std.proofs.Common.{◌≡◌, ◌++◌, All, length}
-use Rattle.xa_manager.specs.Calls.{IsWritten}
-use Rattle.xa_manager.specs.Scripts.{calls_of}
+use Rattle.xa_manager.specs.{Calls.IsWritten, Scripts.calls_of}
 use Rattle.xa_manager.proofs.stop_reading.read_calls.Given as goal
 
 abbrev pub invariant-loop-rest : goal.invariant-loop-rest

@@ -1,5 +1,4 @@
-use Rattle.std.proofs.Common.{◌≡◌, ◌++◌, take}
-use Rattle.std.specs.List.{flat_map}
+use Rattle.std.{proofs.Common.{◌≡◌, ◌++◌, take}, specs.List.flat_map}
 use Rattle.xa_manager.specs.Rows.{row_line}
 use Rattle.xa_manager.proofs.stop_rows.with_rows.Given as goal
 

@@ -1,13 +1,9 @@
 use Rattle.std.proofs.Common.{◌≡◌, ◌∙◌, ◌+◌, ◌<◌, ◌≤◌, ℕ, List, ◌++◌, length, get_or, drop, map, refl, ap, sym}
-use Rattle.std.proofs.Common.{append_assoc, append-nil, arith, Vec, Global}
-use Rattle.std.specs.List.{flat_map}
-use Rattle.std.proofs.lemmas.List.{length-map}
-use Rattle.std.proofs.lemmas.Option.{slice_get_read}
+use Rattle.std.proofs.{Common.{append_assoc, append-nil, arith, Vec, Global}, lemmas.List.length-map}
+use Rattle.std.{proofs.lemmas.Option.slice_get_read, specs.List.flat_map}
 use Rattle.xa_xid.specs.declared.key.Key.{Key}
 use Rattle.xa_server.specs.State.{State}
-use Rattle.xa_manager.specs.Counted.{state_in}
-use Rattle.xa_manager.specs.Rows.{row_line, rows_text}
-use Rattle.xa_manager.proofs.Counts.{read_map}
+use Rattle.xa_manager.{specs.{Counted.state_in, Rows.{row_line, rows_text}}, proofs.Counts.read_map}
 use Rattle.xa_manager.proofs.Texts.{rows_step, rows_end}
 use Rattle.xa_manager.proofs.stop_rows.with_rows_of_each.Goals as goal
 

@@ -1,7 +1,5 @@
 use Rattle.std.proofs.Common.{◌≡◌, ◌++◌, List, drop, map}
-use Rattle.xa_manager.specs.declared.call.Call.{Call}
-use Rattle.xa_manager.specs.Counted.{state_in}
-use Rattle.xa_manager.specs.Rows.{rows_text, AreNamed}
+use Rattle.xa_manager.specs.{declared.call.Call.Call, Counted.state_in, Rows.{rows_text, AreNamed}}
 use Rattle.xa_manager.proofs.stop_rows.with_rows_of_each.Given as goal
 
 abbrev pub invariant-loop-store : goal.invariant-loop-store

@@ -1,12 +1,8 @@
-use Rattle.std.proofs.Common.{◌≡◌, ◌∙◌, ◌+◌, ◌<◌, ◌≤◌, ℕ, List, ◌++◌, All, length, map, ap, sym, subst}
-use Rattle.std.proofs.Common.{arith, codes, Vec, Global}
-use Rattle.std.specs.List.{AllZip, concat}
-use Rattle.std.proofs.lemmas.List.{length-map}
+use Rattle.std.proofs.Common.{◌≡◌, ◌∙◌, ◌+◌, ◌<◌, ◌≤◌, ℕ, List, ◌++◌, All, length, map, ap, sym, subst, arith, codes}
+use Rattle.std.{proofs.{Common.{Vec, Global}, lemmas.List.length-map}, specs.List.{AllZip, concat}}
 use Rattle.xa_xid.specs.declared.key.Key.{Key}
-use Rattle.xa_manager.specs.declared.stop.Stop.{Stop}
-use Rattle.xa_manager.specs.Rows.{AreNamed}
+use Rattle.xa_manager.{specs.{declared.stop.Stop.Stop, Rows.AreNamed}, proofs.Counts.stops_within}
 use Rattle.xa_manager.specs.Stops.{IsStopText, IsLeft, IsWhole, count_line, stops_in, ended_calls}
-use Rattle.xa_manager.proofs.Counts.{stops_within}
 use Rattle.xa_manager.proofs.stop_run.shown_stops.Goals as goal
 
 pub with_stops-requires-clause-within : goal.with_stops-requires-clause-within

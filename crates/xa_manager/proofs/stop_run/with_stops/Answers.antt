@@ -1,12 +1,8 @@
-use Rattle.std.proofs.Common.{◌∙◌, ◌<◌, ℕ, List, [], ◌∷◌, ◌++◌, length, take, map, refl, ap, sym}
-use Rattle.std.proofs.Common.{subst, append_assoc, append-nil, arith, Vec, Global}
-use Rattle.std.specs.List.{AllZip, concat}
-use Rattle.std.proofs.lemmas.List.{take_more, take_all, length-map}
-use Rattle.std.proofs.lemmas.Option.{slice_get_read}
-use Rattle.xa_manager.specs.declared.stop.Stop.{Stop}
+use Rattle.std.proofs.Common.{◌∙◌, ◌<◌, ℕ, List, [], ◌∷◌, ◌++◌, length, take, map, refl, ap, sym, subst, append_assoc}
+use Rattle.std.proofs.{Common.{append-nil, arith, Vec, Global}, lemmas.List.{take_more, take_all, length-map}}
+use Rattle.std.{proofs.lemmas.Option.slice_get_read, specs.List.{AllZip, concat}}
+use Rattle.xa_manager.{specs.declared.stop.Stop.Stop, proofs.{Counts.read_map, Texts.{zip_push, concat_push}}}
 use Rattle.xa_manager.specs.Stops.{IsStopText, IsLeft, IsCutAt, limits_for, stopped_calls, stop_line}
-use Rattle.xa_manager.proofs.Counts.{read_map}
-use Rattle.xa_manager.proofs.Texts.{zip_push, concat_push}
 use Rattle.xa_manager.proofs.stop_run.with_stops.Goals as goal
 
 pub loop-place-init : goal.loop-place-init

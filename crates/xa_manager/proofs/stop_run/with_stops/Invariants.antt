@@ -1,5 +1,4 @@
-use Rattle.std.proofs.Common.{◌≡◌, ◌++◌, ℕ, List, take, map, length}
-use Rattle.std.specs.List.{AllZip, concat}
+use Rattle.std.{proofs.Common.{◌≡◌, ◌++◌, ℕ, List, take, map, length}, specs.List.{AllZip, concat}}
 use Rattle.xa_manager.specs.Stops.{IsStopText}
 use Rattle.xa_manager.proofs.stop_run.with_stops.Given as goal
 

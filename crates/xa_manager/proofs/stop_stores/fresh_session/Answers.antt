@@ -1,11 +1,8 @@
 use Rattle.std.proofs.Common.{◌≡◌, ◌∙◌, sym, subst, refl}
 use Rattle.decision_log.specs.Known.{newcomer}
 use Rattle.xa_server.specs.State.{no_state}
-use Rattle.xa_coordinator.specs.Lasting.{own_view, other_view, other_alone}
-use Rattle.xa_coordinator.specs.declared.store.LastingStore.{LastingStore}
-use Rattle.xa_manager.specs.Whole.{IsPair}
-use Rattle.xa_manager.specs.declared.counted_store.CountedStore.{CountedStore}
-use Rattle.xa_manager.specs.Counted.{own_of, other_of}
+use Rattle.xa_coordinator.specs.{Lasting.{own_view, other_view, other_alone}, declared.store.LastingStore.LastingStore}
+use Rattle.xa_manager.specs.{Whole.IsPair, declared.counted_store.CountedStore.CountedStore, Counted.{own_of, other_of}}
 use Rattle.xa_manager.proofs.stop_stores.fresh_session.Goals as goal
 
 pair_of : (store : LastingStore) → store.first.value ≡ no_state → (own_view store).known ≡ newcomer 1

@@ -1,11 +1,8 @@
 use Rattle.std.proofs.Common.{◌≡◌, ◌<◌, ◌-◌, ◌^◌, ℕ, List, false, All, length, sym, subst, arith}
 use Rattle.std.proofs.lemmas.List.Elements.{All-push}
 use Rattle.xa_coordinator.specs.declared.fused.Fused.{Fused}
-use Rattle.xa_manager.specs.Limits.{Passes}
-use Rattle.xa_manager.specs.Whole.{IsPair}
-use Rattle.xa_manager.proofs.Limits.{passes_more}
-use Rattle.xa_manager.specs.declared.counted_store.CountedStore.{CountedStore}
-use Rattle.xa_manager.specs.Counted.{own_of, other_of}
+use Rattle.xa_manager.specs.{Limits.Passes, Whole.IsPair, declared.counted_store.CountedStore.CountedStore}
+use Rattle.xa_manager.{specs.Counted.{own_of, other_of}, proofs.Limits.passes_more}
 use Rattle.xa_manager.proofs.stop_stores.open_each.Goals as goal
 
 pub loop-alloc-preserved : goal.loop-alloc-preserved

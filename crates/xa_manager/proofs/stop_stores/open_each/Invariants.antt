@@ -1,7 +1,5 @@
 use Rattle.std.proofs.Common.{◌≡◌, ◌≤◌, ◌<◌, ◌-◌, ◌^◌, ℕ, false, All, length, vec_len}
-use Rattle.xa_manager.specs.Limits.{Passes}
-use Rattle.xa_manager.specs.Whole.{IsPair}
-use Rattle.xa_manager.specs.Counted.{own_of, other_of}
+use Rattle.xa_manager.specs.{Limits.Passes, Whole.IsPair, Counted.{own_of, other_of}}
 use Rattle.xa_manager.proofs.stop_stores.open_each.Given as goal
 
 abbrev pub invariant-loop-alloc : goal.invariant-loop-alloc

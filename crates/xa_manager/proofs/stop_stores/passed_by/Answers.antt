@@ -1,9 +1,7 @@
-use Rattle.std.proofs.Common.{◌≡◌, ◌∙◌, ◌-◌, ◌^◌, ℕ, List, [], ◌∷◌, ◌++◌, false, map, ap, sym}
-use Rattle.std.proofs.lemmas.List.{map_push}
+use Rattle.std.proofs.{Common.{◌≡◌, ◌∙◌, ◌-◌, ◌^◌, ℕ, List, [], ◌∷◌, ◌++◌, false, map, ap, sym}, lemmas.List.map_push}
 use Rattle.std.proofs.lemmas.List.Elements.{All-push}
 use Rattle.xa_coordinator.specs.declared.fused.Fused.{Fused}
-use Rattle.xa_manager.specs.Runs.{passed}
-use Rattle.xa_manager.specs.declared.counted_store.CountedStore.{CountedStore}
+use Rattle.xa_manager.specs.{Runs.passed, declared.counted_store.CountedStore.CountedStore}
 use Rattle.xa_manager.proofs.stop_stores.passed_by.Goals as goal
 
 pub loop-session-preserved : goal.loop-session-preserved

@@ -1,9 +1,6 @@
 use Rattle.std.proofs.Common.{◌++◌, ◌∷◌, [], ◌∙◌, ◌≤◌, List, length, take, drop, refl, ap, sym, arith}
 use Rattle.std.proofs.lemmas.List.{length-take-le}
-use Rattle.xa_manager.specs.Managed.{whole_of}
-use Rattle.xa_manager.specs.declared.call.Call.{Call}
-use Rattle.xa_manager.specs.declared.response.Response.{Response}
-use Rattle.xa_manager.specs.Stops.{fails_from}
+use Rattle.xa_manager.specs.{Managed.whole_of, declared.{call.Call.Call, response.Response.Response}, Stops.fails_from}
 use Rattle.xa_manager.proofs.Runs.{run_count, cut_run, line_alone, carried_length, fails_length}
 use Rattle.xa_manager.proofs.stopping.with_cut_line.Goals as goal
 

@@ -1,7 +1,5 @@
 use Rattle.std.proofs.Common.{length}
-use Rattle.xa_manager.specs.Managed.{whole_of}
-use Rattle.xa_manager.specs.Runs.{HasCarried}
-use Rattle.xa_manager.proofs.Runs.{from_fresh, run_count, carried_length}
+use Rattle.xa_manager.{specs.{Managed.whole_of, Runs.HasCarried}, proofs.Runs.{from_fresh, run_count, carried_length}}
 use Rattle.xa_manager.proofs.stopping.with_lines.Goals as goal
 
 pub with_recovery-requires : goal.with_recovery-requires

@@ -1,10 +1,7 @@
 use Rattle.std.proofs.Common.{◌∙◌, ◌++◌, ℕ, List, length, map, ap}
 use Rattle.xa_lines.specs.Answer.{bytes_of}
-use Rattle.xa_manager.specs.Managed.{whole_of}
-use Rattle.xa_manager.specs.declared.counted_store.CountedStore.{CountedStore}
-use Rattle.xa_manager.specs.Counted.{state_in}
-use Rattle.xa_manager.specs.Rows.{rows_text}
-use Rattle.xa_manager.proofs.Runs.{recovered}
+use Rattle.xa_manager.specs.{Managed.whole_of, declared.counted_store.CountedStore.CountedStore, Counted.state_in}
+use Rattle.xa_manager.{specs.Rows.rows_text, proofs.Runs.recovered}
 use Rattle.xa_manager.proofs.stopping.with_recovery.Goals as goal
 
 pub returns : goal.returns

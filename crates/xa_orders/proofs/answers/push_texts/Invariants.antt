@@ -1,5 +1,4 @@
-use Rattle.std.proofs.Common.{◌≡◌, ◌++◌, drop}
-use Rattle.std.specs.List.{concat}
+use Rattle.std.{proofs.Common.{◌≡◌, ◌++◌, drop}, specs.List.concat}
 use Rattle.xa_orders.proofs.answers.push_texts.Given as goal
 
 abbrev pub invariant-loop-text : goal.invariant-loop-text

@@ -1,5 +1,4 @@
-use Rattle.std.proofs.Common.{◌≡◌, take}
-use Rattle.std.specs.Prelude.{fold}
+use Rattle.std.{proofs.Common.{◌≡◌, take}, specs.Prelude.fold}
 use Rattle.xa_orders.specs.Marks.{with_text}
 use Rattle.xa_orders.proofs.answers.with_texts.Given as goal
 

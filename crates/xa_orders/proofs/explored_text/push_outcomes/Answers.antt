@@ -1,6 +1,5 @@
 use Rattle.std.proofs.Common.{◌+◌, ◌++◌, ◌∙◌, List, ℕ, refl, sym, ap, append-nil}
-use Rattle.xa_orders.specs.Scripts.{outcomes_text}
-use Rattle.xa_orders.proofs.Scripts.{outcomes_step, outcomes_end}
+use Rattle.xa_orders.{specs.Scripts.outcomes_text, proofs.Scripts.{outcomes_step, outcomes_end}}
 use Rattle.xa_orders.proofs.explored_text.push_outcomes.Goals as goal
 
 pub loop-place-preserved : goal.loop-place-preserved

@@ -1,6 +1,5 @@
 use Rattle.std.proofs.Common.{◌++◌, ◌∙◌, List, ℕ, sym, ap, append-nil, decimal}
-use Rattle.xa_orders.specs.Scripts.{sessions_text}
-use Rattle.xa_orders.proofs.Scripts.{sessions_step, sessions_end}
+use Rattle.xa_orders.{specs.Scripts.sessions_text, proofs.Scripts.{sessions_step, sessions_end}}
 use Rattle.xa_orders.proofs.explored_text.push_sessions.Goals as goal
 
 pub loop-session-preserved : goal.loop-session-preserved

@@ -1,9 +1,6 @@
-use Rattle.std.proofs.Common.{◌≡◌, ◌++◌, ◌∙◌, List, ℕ, length, ap, subst}
-use Rattle.std.specs.Prelude.{IfSome}
+use Rattle.std.{proofs.Common.{◌≡◌, ◌++◌, ◌∙◌, List, ℕ, length, ap, subst}, specs.Prelude.IfSome}
 use Rattle.xa_server.specs.State.{State, no_state}
-use Rattle.xa_orders.specs.Orders.{Parts, told_text, told_state, opening}
-use Rattle.xa_orders.specs.Found.{IsLevel}
-use Rattle.xa_orders.proofs.Ends.{all_explored}
+use Rattle.xa_orders.{specs.{Orders.{Parts, told_text, told_state, opening}, Found.IsLevel}, proofs.Ends.all_explored}
 use Rattle.xa_orders.proofs.exploring.explore.Goals as goal
 
 pub returns-clause-explored : goal.returns-clause-explored

@@ -1,5 +1,4 @@
-use Rattle.std.proofs.Common.{◌≡◌, length, take}
-use Rattle.std.specs.Prelude.{fold}
+use Rattle.std.{proofs.Common.{◌≡◌, length, take}, specs.Prelude.fold}
 use Rattle.xa_orders.specs.Marks.{with_word}
 use Rattle.xa_orders.proofs.marks.with_text.Given as goal
 

@@ -1,7 +1,5 @@
-use Rattle.std.proofs.Common.{◌≡◌, ◌≢◌, ◌∙◌, List, ℕ, refl, inl, inr, subst}
-use Rattle.std.specs.List.{All}
-use Rattle.xa_orders.specs.declared.outcome.Outcome.{Outcome}
-use Rattle.xa_orders.specs.Orders.{Any}
+use Rattle.std.{proofs.Common.{◌≡◌, ◌≢◌, ◌∙◌, List, ℕ, refl, inl, inr, subst}, specs.List.All}
+use Rattle.xa_orders.specs.{declared.outcome.Outcome.Outcome, Orders.Any}
 use Rattle.xa_orders.proofs.outcomes.add_outcome.Goals as goal
 
 pub returns-then-is_listed : goal.returns-then-is_listed

@@ -1,8 +1,5 @@
-use Rattle.std.proofs.Common.{◌≡◌, ◌≢◌, sym, ◌∙◌, subst}
-use Rattle.std.specs.List.{All}
-use Rattle.std.proofs.lemmas.List.{take_all}
-use Rattle.xa_orders.specs.declared.outcome.Outcome.{Outcome}
-use Rattle.xa_orders.proofs.Lists.{any_read}
+use Rattle.std.{proofs.{Common.{◌≡◌, ◌≢◌, sym, ◌∙◌, subst}, lemmas.List.take_all}, specs.List.All}
+use Rattle.xa_orders.{specs.declared.outcome.Outcome.Outcome, proofs.Lists.any_read}
 use Rattle.xa_orders.proofs.outcomes.is_listed.Goals as goal
 
 pub returns-then-is_same_text-clause-listed : goal.returns-then-is_same_text-clause-listed

@@ -1,5 +1,4 @@
-use Rattle.std.proofs.Common.{◌≢◌, take}
-use Rattle.std.specs.List.{All}
+use Rattle.std.{proofs.Common.{◌≢◌, take}, specs.List.All}
 use Rattle.xa_orders.proofs.outcomes.is_listed.Given as goal
 
 abbrev pub invariant-loop-one : goal.invariant-loop-one

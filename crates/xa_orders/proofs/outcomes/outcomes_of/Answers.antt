@@ -1,5 +1,4 @@
-use Rattle.xa_orders.specs.Ends.{text_from}
-use Rattle.xa_orders.proofs.Ends.{outcome_step, outcomes_none}
+use Rattle.xa_orders.{specs.Ends.text_from, proofs.Ends.{outcome_step, outcomes_none}}
 use Rattle.xa_orders.proofs.outcomes.outcomes_of.Goals as goal
 
 pub loop-way-preserved : goal.loop-way-preserved

@@ -1,5 +1,4 @@
-use Rattle.std.proofs.Common.{List, ℕ, refl, subst}
-use Rattle.std.proofs.lemmas.Result.{err_from_is_err_and}
+use Rattle.std.proofs.{Common.{List, ℕ, refl, subst}, lemmas.Result.err_from_is_err_and}
 use Rattle.xa_lines.proofs.Calls.{completed, stopped_writing, stopped_reading, stopped_making}
 use Rattle.xa_lines.specs.Limits.{script_bytes, script_reads}
 use Rattle.xa_orders.specs.Scripts.{IsExploredText, IsSomeText, IsFaultOfExploring}

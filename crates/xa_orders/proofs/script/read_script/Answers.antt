@@ -1,7 +1,6 @@
 use Rattle.std.proofs.Common.{◌+◌, ap, sym, ◌∙◌, arith}
 use Rattle.xa_lines.specs.Script.{lines_of}
-use Rattle.xa_orders.specs.Scripts.{Reading, script_read, read_lines}
-use Rattle.xa_orders.specs.Kept.{read_kept}
+use Rattle.xa_orders.specs.{Scripts.{Reading, script_read, read_lines}, Kept.read_kept}
 use Rattle.xa_orders.proofs.Scripts.{read_lines_cut, read_lines_end}
 use Rattle.xa_orders.proofs.script.read_script.Goals as goal
 

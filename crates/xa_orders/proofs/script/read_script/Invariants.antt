@@ -1,7 +1,6 @@
 use Rattle.std.proofs.Common.{◌≡◌, ◌+◌, ◌≤◌, length}
 use Rattle.xa_lines.specs.Script.{lines_of}
-use Rattle.xa_orders.specs.Scripts.{script_read, read_lines}
-use Rattle.xa_orders.specs.Kept.{read_kept}
+use Rattle.xa_orders.specs.{Scripts.{script_read, read_lines}, Kept.read_kept}
 use Rattle.xa_orders.proofs.script.read_script.Given as goal
 
 abbrev pub invariant-loop-rest : goal.invariant-loop-rest

@@ -1,5 +1,4 @@
-use Rattle.xa_orders.specs.Orders.{opening}
-use Rattle.xa_orders.proofs.Levels.{wide_level, level_found, level_opening}
+use Rattle.xa_orders.{specs.Orders.opening, proofs.Levels.{wide_level, level_found, level_opening}}
 use Rattle.xa_orders.proofs.searching.every_way.Goals as goal
 
 pub returns-in-None-clause-wide : goal.returns-in-None-clause-wide

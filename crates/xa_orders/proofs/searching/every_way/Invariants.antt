@@ -1,5 +1,4 @@
-use Rattle.xa_orders.specs.Orders.{opening}
-use Rattle.xa_orders.specs.Found.{IsLevel}
+use Rattle.xa_orders.specs.{Orders.opening, Found.IsLevel}
 use Rattle.xa_orders.proofs.searching.every_way.Given as goal
 
 abbrev pub invariant-loop : goal.invariant-loop

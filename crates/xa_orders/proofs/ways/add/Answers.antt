@@ -1,6 +1,5 @@
 use Rattle.std.proofs.Common.{◌≡◌, refl, inl, subst}
-use Rattle.xa_orders.specs.Orders.{Any}
-use Rattle.xa_orders.specs.Found.{config_of}
+use Rattle.xa_orders.specs.{Orders.Any, Found.config_of}
 use Rattle.xa_orders.proofs.ways.add.Goals as goal
 
 pub returns-then-is_there : goal.returns-then-is_there

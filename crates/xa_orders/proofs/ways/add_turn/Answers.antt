@@ -1,5 +1,4 @@
-use Rattle.std.proofs.Common.{inr, subst}
-use Rattle.std.specs.Prelude.{IfSome}
+use Rattle.std.{proofs.Common.{inr, subst}, specs.Prelude.IfSome}
 use Rattle.xa_orders.specs.Found.{IsTurn}
 use Rattle.xa_orders.proofs.ways.add_turn.Goals as goal
 

@@ -1,7 +1,5 @@
 use Rattle.std.proofs.Common.{List}
-use Rattle.xa_orders.specs.declared.way.Way.{Way}
-use Rattle.xa_orders.specs.Found.{AllPrecede, IsNextOf}
-use Rattle.xa_orders.proofs.Levels.{IsHalfway}
+use Rattle.xa_orders.{specs.{declared.way.Way.Way, Found.{AllPrecede, IsNextOf}}, proofs.Levels.IsHalfway}
 use Rattle.xa_orders.proofs.ways.add_turns.Given as goal
 
 abbrev pub invariant-loop-number : goal.invariant-loop-number

@@ -1,7 +1,5 @@
-use Rattle.std.proofs.Common.{◌≡◌, ◌<◌, Some, slice_get, length, sym, ap, ◌∙◌, arith}
-use Rattle.std.proofs.lemmas.Option.{slice_get-get_or}
-use Rattle.xa_orders.specs.Found.{config_of}
-use Rattle.xa_orders.proofs.Lists.{any_at}
+use Rattle.std.proofs.{Common.{◌≡◌, ◌<◌, Some, slice_get, length, sym, ap, ◌∙◌, arith}, lemmas.Option.slice_get-get_or}
+use Rattle.xa_orders.{specs.Found.config_of, proofs.Lists.any_at}
 use Rattle.xa_orders.proofs.ways.is_at.Goals as goal
 
 -- what stands at a place of the list is one of it

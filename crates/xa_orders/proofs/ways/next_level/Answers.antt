@@ -1,6 +1,5 @@
 use Rattle.std.proofs.Common.{◌+◌}
-use Rattle.xa_orders.proofs.Differing.{wide_next}
-use Rattle.xa_orders.proofs.Levels.{level_step}
+use Rattle.xa_orders.proofs.{Differing.wide_next, Levels.level_step}
 use Rattle.xa_orders.proofs.ways.next_level.Goals as goal
 
 pub returns-then-spread-clause-wide : goal.returns-then-spread-clause-wide

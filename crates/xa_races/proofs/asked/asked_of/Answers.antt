@@ -1,7 +1,6 @@
 use Rattle.std.proofs.Common.{map, ap, ◌∙◌, Vec, Global, Bool}
 use Rattle.xa_lines.specs.Printed.{converts}
-use Rattle.xa_races.proofs.Race.{mapped_more}
-use Rattle.xa_races.proofs.RaceRuns.{map_push}
+use Rattle.xa_races.proofs.{Race.mapped_more, RaceRuns.map_push}
 use Rattle.xa_races.proofs.asked.asked_of.Goals as goal
 
 pub loop-list-preserved : goal.loop-list-preserved

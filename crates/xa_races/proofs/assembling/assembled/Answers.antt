@@ -1,5 +1,4 @@
-use Rattle.std.proofs.Common.{arith}
-use Rattle.std.proofs.lemmas.Result.{IfOk-weaker}
+use Rattle.std.proofs.{Common.arith, lemmas.Result.IfOk-weaker}
 use Rattle.xa_races.proofs.Places.{only_none, same_entries}
 use Rattle.xa_races.proofs.assembling.assembled.Goals as goal
 

@@ -1,5 +1,4 @@
-use Rattle.std.proofs.Common.{◌≡◌, length, None}
-use Rattle.std.specs.List.{All}
+use Rattle.std.{proofs.Common.{◌≡◌, length, None}, specs.List.All}
 use Rattle.xa_races.proofs.assembling.empty_places.Given as goal
 
 abbrev pub invariant-loop : goal.invariant-loop

@@ -1,11 +1,6 @@
-use Rattle.std.proofs.Common.{◌≡◌, ◌<◌, length, get_or, sym, subst, ◌∙◌}
-use Rattle.std.specs.List.{All}
-use Rattle.std.proofs.lemmas.Iterator.Adapters.{YieldsList-from_vec}
-use Rattle.std.proofs.lemmas.Iterator.Consumers.{YieldsList-turn}
-use Rattle.std.proofs.lemmas.List.Elements.{All-get_or}
-use Rattle.std.proofs.Common.{Vec, Global}
-use Rattle.xa_races.specs.Assembled.{IsWithin}
-use Rattle.xa_races.specs.declared.added.Added.{Added}
+use Rattle.std.proofs.{Common.{◌≡◌, ◌<◌, length, get_or, sym, subst, ◌∙◌, Vec, Global}, lemmas.List.Elements.All-get_or}
+use Rattle.std.{proofs.lemmas.Iterator.{Adapters.YieldsList-from_vec, Consumers.YieldsList-turn}, specs.List.All}
+use Rattle.xa_races.specs.{Assembled.IsWithin, declared.added.Added.Added}
 use Rattle.xa_races.proofs.assembling.place_all.Goals as goal
 
 pub loop-added-preserved : goal.loop-added-preserved

@@ -1,11 +1,6 @@
-use Rattle.std.proofs.Common.{◌≡◌, ◌-◌, ◌<◌, Some, length, get_or, sym, subst, ◌∙◌}
-use Rattle.std.proofs.lemmas.Iterator.Adapters.{YieldsList-from_vec}
-use Rattle.std.proofs.lemmas.Iterator.Consumers.{YieldsList-turn}
-use Rattle.std.proofs.lemmas.List.{length-set}
-use Rattle.std.proofs.lemmas.List.Elements.{All-get_or}
-use Rattle.xa_races.specs.Assembled.{IsWithin}
-use Rattle.xa_races.specs.declared.added.Added.{Added}
-use Rattle.xa_races.proofs.Places.{only_set}
+use Rattle.std.proofs.{Common.{◌≡◌, ◌-◌, ◌<◌, Some, length, get_or, sym, subst, ◌∙◌}, lemmas.List.Elements.All-get_or}
+use Rattle.std.proofs.lemmas.{Iterator.{Adapters.YieldsList-from_vec, Consumers.YieldsList-turn}, List.length-set}
+use Rattle.xa_races.{specs.{Assembled.IsWithin, declared.added.Added.Added}, proofs.Places.only_set}
 use Rattle.xa_races.proofs.assembling.place_each.Goals as goal
 
 pub loop-one-preserved-then-place-from-2 : goal.loop-one-preserved-then-place-from-2

@@ -1,5 +1,4 @@
-use Rattle.std.proofs.Common.{◌≡◌, ℕ, List, length}
-use Rattle.std.specs.List.{All}
+use Rattle.std.{proofs.Common.{◌≡◌, ℕ, List, length}, specs.List.All}
 use Rattle.xa_words.specs.Entry.{Entry}
 use Rattle.xa_races.specs.Assembled.{HasOnly, IsWithin}
 use Rattle.xa_races.proofs.assembling.place_each.Given as goal

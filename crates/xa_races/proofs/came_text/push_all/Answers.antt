@@ -1,9 +1,6 @@
 use Rattle.std.proofs.Common.{◌≡◌, ℕ, ◌+◌, ◌<◌, ◌≤◌, List, [], ◌∷◌, ◌++◌, length, drop, get_or, refl, ap, sym, ◌∙◌}
-use Rattle.std.proofs.Common.{append_assoc, append-nil}
-use Rattle.std.proofs.lemmas.List.{drop_more, drop_all}
-use Rattle.xa_races.specs.declared.came_tally.CameTally.{CameTally}
-use Rattle.xa_races.specs.Came.{came_text}
-use Rattle.xa_races.specs.Tallied.{tallies_text}
+use Rattle.std.proofs.{Common.{append_assoc, append-nil}, lemmas.List.{drop_more, drop_all}}
+use Rattle.xa_races.specs.{declared.came_tally.CameTally.CameTally, Came.came_text, Tallied.tallies_text}
 use Rattle.xa_races.proofs.came_text.push_all.Goals as goal
 
 -- one of the list more

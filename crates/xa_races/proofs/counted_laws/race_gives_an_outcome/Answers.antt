@@ -1,7 +1,5 @@
-use Rattle.xa_orders.proofs.Lists.{any_weaker}
+use Rattle.xa_orders.{proofs.Lists.any_weaker, specs.{declared.outcome.Outcome.Outcome, Orders.AtMost}}
 use Rattle.std.proofs.Common.{◌≡◌}
-use Rattle.xa_orders.specs.declared.outcome.Outcome.{Outcome}
-use Rattle.xa_orders.specs.Orders.{AtMost}
 use Rattle.xa_races.proofs.Law.{came_given, came_outcome}
 use Rattle.xa_races.proofs.counted_laws.race_gives_an_outcome.Goals as goal
 

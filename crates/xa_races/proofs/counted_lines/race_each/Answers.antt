@@ -1,14 +1,9 @@
 use Rattle.std.proofs.Common.{◌≡◌, ℕ, ◌+◌, ◌-◌, ◌≤◌, ◌++◌, List, [], ◌∷◌, length, take, drop, sym, ap, ◌∙◌, subst}
-use Rattle.std.proofs.Common.{append-nil, IsTrue, rules}
-use Rattle.std.proofs.lemmas.Result.{err_from_is_err_and}
-use Rattle.std.specs.List.{All}
-use Rattle.xa_races.specs.CountedBases.{base_of}
-use Rattle.xa_orders.specs.Orders.{Told, IsSession, told_text, told_state}
-use Rattle.xa_races.specs.CountedRaced.{IsReadLine}
-use Rattle.xa_races.specs.CountedHeld.{AreWithin}
-use Rattle.xa_races.specs.HeldRuns.{IsOfOpen}
+use Rattle.std.{proofs.{Common.{append-nil, IsTrue, rules}, lemmas.Result.err_from_is_err_and}, specs.List.All}
+use Rattle.xa_races.specs.{CountedBases.base_of, CountedRaced.IsReadLine, CountedHeld.AreWithin, HeldRuns.IsOfOpen}
 use Rattle.xa_races.proofs.HeldRuns.{of_open, passed_on}
 use Rattle.xa_races.proofs.Whole.{some_at, one_there, all_of_one, one_raced, each_step, state_step, each_end, state_end}
+use Rattle.xa_orders.specs.Orders.{Told, IsSession, told_text, told_state}
 use Rattle.xa_races.proofs.counted_lines.race_each.Goals as goal
 
 pub race_lines-requires-clause-within : goal.race_lines-requires-clause-within

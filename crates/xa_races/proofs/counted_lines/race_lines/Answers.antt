@@ -1,15 +1,9 @@
-use Rattle.std.proofs.Common.{◌≡◌, List, [], length, map, Vec, Global, ap, ◌∙◌}
+use Rattle.std.proofs.{Common.{◌≡◌, List, [], length, map, Vec, Global, ap, ◌∙◌}, lemmas.Result.err_from_is_err_and}
 use Rattle.std.specs.List.{concat}
-use Rattle.std.proofs.lemmas.Result.{err_from_is_err_and}
 use Rattle.xa_session.specs.declared.answer.Answer.{Answer}
 use Rattle.xa_endless.specs.declared.session.EndlessSession.{EndlessSession}
-use Rattle.xa_races.specs.Long.{seen_by_last}
-use Rattle.xa_races.specs.CountedRaced.{laid_texts}
-use Rattle.xa_races.specs.CountedHeld.{answers_of}
-use Rattle.xa_races.specs.CountedBases.{base_of}
-use Rattle.xa_races.specs.HeldRuns.{EndsBeside}
-use Rattle.xa_races.proofs.Entering.{numbered, numbers_are}
-use Rattle.xa_races.proofs.Stores.{runs_mine}
+use Rattle.xa_races.specs.{Long.seen_by_last, CountedRaced.laid_texts, CountedHeld.answers_of, CountedBases.base_of}
+use Rattle.xa_races.{specs.HeldRuns.EndsBeside, proofs.{Entering.{numbered, numbers_are}, Stores.runs_mine}}
 use Rattle.xa_races.proofs.Ended.{ended_mine, ended_long, ended_few, ended_numbers, ended_holds, ended_by}
 use Rattle.xa_races.proofs.HeldRuns.{ends_beside, passed_on}
 use Rattle.xa_races.proofs.counted_lines.race_lines.Goals as goal

@@ -1,10 +1,7 @@
-use Rattle.std.proofs.Common.{◌≡◌, ◌+◌, List, [], length, ap, sym, subst, ◌∙◌, arith}
+use Rattle.std.proofs.{Common.{◌≡◌, ◌+◌, List, [], length, ap, sym, subst, ◌∙◌, arith}, lemmas.List.length_push}
 use Rattle.std.specs.List.{All}
-use Rattle.std.proofs.lemmas.List.{length_push}
 use Rattle.xa_endless.specs.declared.session.EndlessSession.{EndlessSession}
-use Rattle.xa_races.specs.Long.{known_in}
-use Rattle.xa_races.specs.CountedHeld.{AreNumbered}
-use Rattle.xa_races.proofs.Entering.{all_more, numbered_more}
+use Rattle.xa_races.{specs.{Long.known_in, CountedHeld.AreNumbered}, proofs.Entering.{all_more, numbered_more}}
 use Rattle.xa_races.proofs.counted_opened.enter_all.Goals as goal
 
 pub loop-index-preserved : goal.loop-index-preserved

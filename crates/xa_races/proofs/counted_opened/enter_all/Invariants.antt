@@ -1,7 +1,5 @@
-use Rattle.std.proofs.Common.{◌≡◌, [], length}
-use Rattle.std.specs.List.{All}
-use Rattle.xa_races.specs.Long.{known_in}
-use Rattle.xa_races.specs.CountedHeld.{AreNumbered}
+use Rattle.std.{proofs.Common.{◌≡◌, [], length}, specs.List.All}
+use Rattle.xa_races.specs.{Long.known_in, CountedHeld.AreNumbered}
 use Rattle.xa_races.proofs.counted_opened.enter_all.Given as goal
 
 abbrev pub invariant-loop-index : goal.invariant-loop-index

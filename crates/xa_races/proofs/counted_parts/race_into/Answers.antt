@@ -1,15 +1,9 @@
-use Rattle.std.proofs.Common.{◌≡◌, ℕ, ◌++◌, List, ap, ◌∙◌, subst, arith}
-use Rattle.xa_orders.specs.Orders.{Told, told_text, told_state}
-use Rattle.xa_orders.specs.Scripts.{parts_of}
-use Rattle.xa_orders.specs.Kept.{read_kept}
+use Rattle.std.proofs.{Common.{◌≡◌, ℕ, ◌++◌, List, ap, ◌∙◌, subst, arith}, lemmas.Result.err_from_is_err_and}
+use Rattle.xa_orders.specs.{Orders.{Told, told_text, told_state}, Scripts.parts_of, Kept.read_kept}
 use Rattle.xa_endless.specs.declared.store.EndlessStore.{EndlessStore}
-use Rattle.xa_races.specs.CountedRaced.{GivesRaced}
+use Rattle.xa_races.specs.{CountedRaced.GivesRaced, HeldRuns.{GivesRacedBy, EndsBeside}, CountedBases.base_of}
+use Rattle.xa_races.proofs.{HeldRuns.{held_whole, left_in, ends_same, passed_on}, Whole.come_whole}
 use Rattle.xa_server.specs.State.{no_state}
-use Rattle.std.proofs.lemmas.Result.{err_from_is_err_and}
-use Rattle.xa_races.specs.HeldRuns.{GivesRacedBy, EndsBeside}
-use Rattle.xa_races.specs.CountedBases.{base_of}
-use Rattle.xa_races.proofs.HeldRuns.{held_whole, left_in, ends_same, passed_on}
-use Rattle.xa_races.proofs.Whole.{come_whole}
 use Rattle.xa_races.proofs.counted_parts.race_into.Goals as goal
 
 pub returns-clause-come : goal.returns-clause-come

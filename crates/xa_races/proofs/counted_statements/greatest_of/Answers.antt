@@ -1,8 +1,6 @@
-use Rattle.std.proofs.Common.{List, subst, arith}
-use Rattle.std.proofs.lemmas.List.{take_all}
+use Rattle.std.proofs.{Common.{List, subst, arith}, lemmas.List.take_all}
 use Rattle.xa_orders.specs.Orders.{Told, IsSession}
-use Rattle.xa_races.specs.CountedHeld.{AreWithin}
-use Rattle.xa_races.proofs.CountedGiven.{within_more}
+use Rattle.xa_races.{specs.CountedHeld.AreWithin, proofs.CountedGiven.within_more}
 use Rattle.xa_races.proofs.counted_statements.greatest_of.Goals as goal
 
 pub loop-line-preserved : goal.loop-line-preserved

@@ -1,8 +1,7 @@
 use Rattle.std.proofs.Common.{◌≡◌, ◌+◌, ◌<◌, ℕ, List, length, sym, ap, ◌∙◌, subst, Vec, Global}
 use Rattle.std.proofs.lemmas.List.{length_push}
 use Rattle.xa_xid.specs.declared.statement.Statement.{Statement}
-use Rattle.xa_races.specs.CountedRaced.{statements_of}
-use Rattle.xa_races.specs.CountedHeld.{list_at}
+use Rattle.xa_races.specs.{CountedRaced.statements_of, CountedHeld.list_at}
 use Rattle.xa_races.proofs.CountedGiven.{lists_more, items_of}
 use Rattle.xa_races.proofs.counted_statements.lists_of.Goals as goal
 

@@ -1,6 +1,5 @@
 use Rattle.std.proofs.Common.{◌≡◌, ℕ, ◌+◌, ◌<◌, length, map}
-use Rattle.xa_races.specs.CountedRaced.{statements_of}
-use Rattle.xa_races.specs.CountedHeld.{list_at}
+use Rattle.xa_races.specs.{CountedRaced.statements_of, CountedHeld.list_at}
 use Rattle.xa_races.proofs.counted_statements.lists_of.Given as goal
 
 abbrev pub invariant-loop-index : goal.invariant-loop-index

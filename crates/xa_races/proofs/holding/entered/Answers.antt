@@ -1,5 +1,4 @@
-use Rattle.std.proofs.Common.{◌≡◌, ◌≤◌, length, map, max, take, ap, sym, ◌∙◌, arith}
-use Rattle.std.proofs.lemmas.List.{length-take}
+use Rattle.std.proofs.{Common.{◌≡◌, ◌≤◌, length, map, max, take, ap, sym, ◌∙◌, arith}, lemmas.List.length-take}
 use Rattle.std.specs.Prelude.{slice_get}
 use Rattle.xa_store.specs.Passes.{identity_of}
 use Rattle.xa_races.proofs.RaceRuns.{get_taken, passes_of, runs_from, runs_belong, runs_count}

@@ -3,10 +3,8 @@ use Rattle.std.proofs.lemmas.List.{length-take}
 use Rattle.xa_xid.specs.declared.statement.Statement.{Statement}
 use Rattle.xa_session.specs.declared.answer.Answer.{Answer}
 use Rattle.xa_lines.specs.Printed.{converts}
-use Rattle.xa_races.specs.Outcome.{AreLists, AreListsFrom, outcome_text}
-use Rattle.xa_races.specs.Race.{part_at}
-use Rattle.xa_races.proofs.Held.{raced_on, lists_from}
-use Rattle.xa_races.proofs.RaceRuns.{length_mapped, part_at-map}
+use Rattle.xa_races.specs.{Outcome.{AreLists, AreListsFrom, outcome_text}, Race.part_at}
+use Rattle.xa_races.proofs.{Held.{raced_on, lists_from}, RaceRuns.{length_mapped, part_at-map}}
 use Rattle.xa_races.proofs.holding.hold_endless.Goals as goal
 
 pub returns-in-Ok-clause-held : goal.returns-in-Ok-clause-held

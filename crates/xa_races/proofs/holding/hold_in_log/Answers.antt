@@ -3,11 +3,8 @@ use Rattle.xa_xid.specs.declared.statement.Statement.{Statement}
 use Rattle.xa_session.specs.declared.answer.Answer.{Answer}
 use Rattle.xa_server.specs.State.{State}
 use Rattle.xa_lines.specs.Printed.{converts}
-use Rattle.xa_store.specs.Passes.{identity_of}
-use Rattle.xa_store.specs.Legal.{IsOutcome, Blames}
-use Rattle.xa_races.specs.Outcome.{outcome_text}
-use Rattle.xa_races.specs.Race.{part_at}
-use Rattle.xa_races.proofs.Held.{raced_in_log}
+use Rattle.xa_store.specs.{Passes.identity_of, Legal.{IsOutcome, Blames}}
+use Rattle.xa_races.{specs.{Outcome.outcome_text, Race.part_at}, proofs.Held.raced_in_log}
 use Rattle.xa_races.proofs.RaceRuns.{have_room, own_room, own_sessions, part_at-map}
 use Rattle.xa_races.proofs.holding.hold_in_log.Goals as goal
 

@@ -1,9 +1,6 @@
-use Rattle.std.proofs.Common.{◌≡◌, length, sym, ◌∙◌, rules}
-use Rattle.std.proofs.lemmas.Iterator.{YieldsList-from_zip}
-use Rattle.std.proofs.lemmas.Iterator.Adapters.{YieldsList-from_vec}
-use Rattle.std.proofs.lemmas.Iterator.Consumers.{YieldsList-end}
-use Rattle.std.specs.Iterator.Adapters.{zip_first, zip_second}
-use Rattle.std.specs.Vec.Iter.{into_iter_items, into_iter_len}
+use Rattle.std.proofs.{Common.{◌≡◌, length, sym, ◌∙◌, rules}, lemmas.Iterator.YieldsList-from_zip}
+use Rattle.std.proofs.lemmas.Iterator.{Adapters.YieldsList-from_vec, Consumers.YieldsList-end}
+use Rattle.std.specs.{Iterator.Adapters.{zip_first, zip_second}, Vec.Iter.{into_iter_items, into_iter_len}}
 use Rattle.xa_races.proofs.RaceRuns.{map_same}
 use Rattle.xa_races.proofs.holding.runs_of.Goals as goal
 

@@ -1,8 +1,7 @@
 use Rattle.std.proofs.Common.{ℕ, ◌-◌, ◌++◌, List, [], map, take, Vec, Global, refl, sym, ap, ◌∙◌, append-nil}
 use Rattle.std.specs.List.{concat}
 use Rattle.xa_session.specs.declared.answer.Answer.{Answer}
-use Rattle.xa_races.specs.CountedRaced.{laid_texts}
-use Rattle.xa_races.specs.CountedHeld.{list_at, answers_of}
+use Rattle.xa_races.specs.{CountedRaced.laid_texts, CountedHeld.{list_at, answers_of}}
 use Rattle.xa_races.proofs.Whole.{laid_step, laid_end}
 use Rattle.xa_races.proofs.laying.laid_text.Goals as goal
 

@@ -1,7 +1,5 @@
-use Rattle.std.proofs.Common.{◌≡◌, ◌++◌, [], map, take, drop}
-use Rattle.std.specs.List.{concat}
-use Rattle.xa_races.specs.CountedRaced.{laid_texts}
-use Rattle.xa_races.specs.CountedHeld.{answers_of}
+use Rattle.std.{proofs.Common.{◌≡◌, ◌++◌, [], map, take, drop}, specs.List.concat}
+use Rattle.xa_races.specs.{CountedRaced.laid_texts, CountedHeld.answers_of}
 use Rattle.xa_races.proofs.laying.laid_text.Given as goal
 
 abbrev pub invariant-loop-place : goal.invariant-loop-place

@@ -1,9 +1,7 @@
 use Rattle.std.proofs.Common.{List, [], ◌∷◌, ◌++◌, map, sym, subst, arith}
 use Rattle.std.proofs.lemmas.List.{length-append, length-map, map-append}
 use Rattle.xa_xid.specs.declared.statement.Statement.{Statement}
-use Rattle.xa_races.specs.LongRace.{AreNewRuns}
-use Rattle.xa_races.specs.declared.long_run.LongRun.{LongRun}
-use Rattle.xa_races.proofs.NewRuns.{new_more}
+use Rattle.xa_races.{specs.{LongRace.AreNewRuns, declared.long_run.LongRun.LongRun}, proofs.NewRuns.new_more}
 use Rattle.xa_races.proofs.long_entering.enter_all.Goals as goal
 
 pub loop-lines-preserved : goal.loop-lines-preserved

@@ -1,8 +1,7 @@
-use Rattle.std.proofs.lemmas.Result.{err_from_is_err_and}
-use Rattle.std.proofs.Common.{None, rules}
+use Rattle.std.proofs.{lemmas.Result.err_from_is_err_and, Common.{None, rules}}
 use Rattle.xa_lines.specs.Limits.{script_bytes, script_reads}
-use Rattle.xa_races.specs.Outcome.{IsRaceText, IsOfText}
 use Rattle.xa_lines.proofs.Calls.{completed, stopped_writing, stopped_reading, stopped_making}
+use Rattle.xa_races.specs.Outcome.{IsRaceText, IsOfText}
 use Rattle.xa_races.proofs.long_race.race_script_in_rounds.Goals as goal
 
 pub returns-in_err-script-clause-cause : goal.returns-in_err-script-clause-cause

@@ -1,5 +1,4 @@
-use Rattle.std.proofs.Common.{map}
-use Rattle.std.proofs.lemmas.Result.{IfOk-weaker, IfErr-weaker}
+use Rattle.std.proofs.{Common.map, lemmas.Result.{IfOk-weaker, IfErr-weaker}}
 use Rattle.xa_races.proofs.NewRuns.{new_mine, long_race, blames_race}
 use Rattle.xa_races.proofs.long_racing.hold_long_race.Goals as goal
 

@@ -1,9 +1,6 @@
-use Rattle.std.proofs.Common.{◌≡◌, [], ◌∷◌, ◌++◌, sym, subst, arith}
-use Rattle.std.specs.List.{AllZip}
-use Rattle.std.proofs.lemmas.List.{length-append}
-use Rattle.std.proofs.lemmas.Slice.Zip.{all_zipped_more}
-use Rattle.xa_races.specs.declared.long_run.LongRun.{LongRun}
-use Rattle.xa_races.specs.declared.racer.Racer.{Racer}
+use Rattle.std.proofs.{Common.{◌≡◌, [], ◌∷◌, ◌++◌, sym, subst, arith}, lemmas.List.length-append}
+use Rattle.std.{proofs.lemmas.Slice.Zip.all_zipped_more, specs.List.AllZip}
+use Rattle.xa_races.specs.declared.{long_run.LongRun.LongRun, racer.Racer.Racer}
 use Rattle.xa_races.proofs.long_racing.line_up.Goals as goal
 
 pub loop-run-preserved : goal.loop-run-preserved

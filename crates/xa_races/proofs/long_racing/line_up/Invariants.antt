@@ -1,5 +1,4 @@
-use Rattle.std.proofs.Common.{◌≡◌, ◌≤◌, length, vec_len, vec_capacity}
-use Rattle.std.specs.List.{AllZip}
+use Rattle.std.{proofs.Common.{◌≡◌, ◌≤◌, length, vec_len, vec_capacity}, specs.List.AllZip}
 use Rattle.xa_races.proofs.long_racing.line_up.Given as goal
 
 abbrev pub invariant-loop-run : goal.invariant-loop-run

@@ -1,12 +1,8 @@
-use Rattle.std.proofs.Common.{◌≡◌, List, None, ap, sym, subst, ◌∙◌}
-use Rattle.std.specs.Prelude.{slice_get}
-use Rattle.std.specs.List.{All, AllZip}
+use Rattle.std.{proofs.Common.{◌≡◌, List, None, ap, sym, subst, ◌∙◌}, specs.{Prelude.slice_get, List.{All, AllZip}}}
 use Rattle.xa_xid.specs.declared.statement.Statement.{Statement}
 use Rattle.xa_endless.specs.declared.session.EndlessSession.{EndlessSession}
 use Rattle.xa_store.proofs.Spreading.{zip_chain}
-use Rattle.xa_races.specs.Long.{HasRaced}
-use Rattle.xa_races.specs.declared.racer.Raced.{Raced}
-use Rattle.xa_races.proofs.Ends.{of_one, is_outcome, blames_one}
+use Rattle.xa_races.{specs.{Long.HasRaced, declared.racer.Raced.Raced}, proofs.Ends.{of_one, is_outcome, blames_one}}
 use Rattle.xa_races.proofs.long_racing.race_on.Goals as goal
 
 pub returns-in-Some-clause-fault : goal.returns-in-Some-clause-fault

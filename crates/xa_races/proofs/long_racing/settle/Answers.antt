@@ -1,11 +1,8 @@
 use Rattle.std.proofs.Common.{◌≡◌, ◌-◌, List, length, drop, ap, sym, subst, ◌∙◌, Vec, Global}
 use Rattle.std.specs.List.{All, AllZip}
 use Rattle.xa_endless.specs.declared.session.EndlessSession.{EndlessSession}
-use Rattle.xa_store.specs.Gathered.{IsTakenIn}
-use Rattle.xa_store.proofs.Spreading.{zip_unmapped}
-use Rattle.xa_races.specs.Long.{known_in, Keeps, seen_by_last}
-use Rattle.xa_races.specs.Assembled.{IsWithin}
-use Rattle.xa_races.specs.declared.added.Added.{Added}
+use Rattle.xa_store.{specs.Gathered.IsTakenIn, proofs.Spreading.zip_unmapped}
+use Rattle.xa_races.specs.{Long.{known_in, Keeps, seen_by_last}, Assembled.IsWithin, declared.added.Added.Added}
 use Rattle.xa_races.proofs.Ends.{all_mapped, all_of_mapped, length_drop, lists_within}
 use Rattle.xa_races.proofs.long_racing.settle.Goals as goal
 

@@ -1,15 +1,12 @@
 use Rattle.std.proofs.Common.{◌≡◌, [], ◌∷◌, ◌++◌, List, length, map, vec_len, ap, sym, subst, ◌∙◌, Some, arith}
-use Rattle.std.specs.List.{All}
-use borrow.Author.Tests.{eqb-true}
-use Rattle.std.proofs.lemmas.List.Elements.{All-pop, All-push, AllZip-push, length_all_zip}
+use Rattle.std.{proofs.lemmas.List.Elements.{All-pop, All-push, AllZip-push, length_all_zip}, specs.List.All}
 use Rattle.xa_words.specs.Entry.{Entry}
 use Rattle.chain_log.specs.RingPass.{log_of}
 use Rattle.xa_endless.specs.declared.session.EndlessSession.{EndlessSession}
-use Rattle.xa_store.specs.Gathered.{IsTakenIn, last_known}
-use Rattle.xa_store.proofs.Gathering.{zip_itself, last_known_of}
-use Rattle.xa_races.specs.Long.{known_in, Keeps, HoldsAll}
-use Rattle.xa_races.proofs.Gathering.{stays_itself, others_keep, last_keeps, others_taken, last_taken, others_hold}
-use Rattle.xa_races.proofs.Gathering.{last_holds}
+use Rattle.xa_store.{specs.Gathered.{IsTakenIn, last_known}, proofs.Gathering.{zip_itself, last_known_of}}
+use Rattle.xa_races.{specs.Long.{known_in, Keeps, HoldsAll}, proofs.Gathering.{stays_itself, others_keep, last_keeps}}
+use Rattle.xa_races.proofs.Gathering.{others_taken, last_taken, others_hold, last_holds}
+use borrow.Author.Tests.{eqb-true}
 use Rattle.xa_races.proofs.meeting.gather.Goals as goal
 
 pub meet_each-requires : goal.meet_each-requires

@@ -1,13 +1,10 @@
-use Rattle.std.proofs.Common.{◌≡◌, ◌<◌, length, refl, ap, sym, subst, ◌∙◌, arith}
+use Rattle.std.proofs.{Common.{◌≡◌, ◌<◌, length, refl, ap, sym, subst, ◌∙◌, arith}, lemmas.List.length-set}
 use Rattle.std.proofs.lemmas.List.Elements.{All-set}
-use Rattle.std.proofs.lemmas.List.{length-set}
 use Rattle.decision_log.specs.Calls.{MeetsSecond}
 use Rattle.chain_log.specs.RingPass.{log_of}
 use Rattle.xa_endless.specs.declared.session.EndlessSession.{EndlessSession}
 use Rattle.xa_store.proofs.Gathering.{no_round, next_round}
-use Rattle.xa_races.specs.Long.{known_in}
-use Rattle.xa_races.proofs.Statements.{same_log}
-use Rattle.xa_races.proofs.Gathering.{Meets, meets_itself, meets_through}
+use Rattle.xa_races.{specs.Long.known_in, proofs.{Statements.same_log, Gathering.{Meets, meets_itself, meets_through}}}
 use Rattle.xa_races.proofs.meeting.meet_each.Goals as goal
 
 pub loop-index-init : goal.loop-index-init

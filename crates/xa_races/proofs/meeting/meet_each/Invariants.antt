@@ -1,9 +1,7 @@
-use Rattle.std.proofs.Common.{◌≡◌, length, vec_capacity}
-use Rattle.std.specs.List.{All}
+use Rattle.std.{proofs.Common.{◌≡◌, length, vec_capacity}, specs.List.All}
 use Rattle.chain_log.specs.RingPass.{log_of}
 use Rattle.xa_store.proofs.Gathering.{Round}
-use Rattle.xa_races.specs.Long.{known_in}
-use Rattle.xa_races.proofs.Gathering.{Meets}
+use Rattle.xa_races.{specs.Long.known_in, proofs.Gathering.Meets}
 use Rattle.xa_races.proofs.meeting.meet_each.Given as goal
 
 abbrev pub invariant-loop-index : goal.invariant-loop-index

@@ -1,12 +1,10 @@
-use Rattle.std.proofs.Common.{◌≡◌, ◌<◌, length, get_or, refl, ap, sym, subst, ◌∙◌, arith}
+use Rattle.std.proofs.{Common.{◌≡◌, ◌<◌, length, get_or, refl, ap, sym, subst, ◌∙◌, arith}, lemmas.List.length-set}
 use Rattle.std.proofs.lemmas.List.Elements.{All-set, AllWithin-more_set, AllWithin-none}
-use Rattle.std.proofs.lemmas.List.{length-set}
 use Rattle.decision_log.specs.History.{Begins}
 use Rattle.chain_log.specs.RingPass.{log_of}
 use Rattle.xa_endless.specs.declared.session.EndlessSession.{EndlessSession}
 use Rattle.xa_store.proofs.Gathering.{meets_nobody, meets_again, zip_itself}
-use Rattle.xa_races.specs.Long.{known_in, Keeps}
-use Rattle.xa_races.proofs.Statements.{same_log}
+use Rattle.xa_races.{specs.Long.{known_in, Keeps}, proofs.Statements.same_log}
 use Rattle.xa_races.proofs.Gathering.{stays_itself, stays_through, zip_set}
 use Rattle.xa_races.proofs.meeting.tell_each.Goals as goal
 

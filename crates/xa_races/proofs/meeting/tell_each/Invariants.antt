@@ -1,7 +1,5 @@
-use Rattle.std.proofs.Common.{◌≡◌, length, vec_capacity}
-use Rattle.std.specs.List.{All, AllZip, AllWithin}
-use Rattle.decision_log.specs.History.{Begins}
-use Rattle.decision_log.specs.Calls.{MeetsFirst}
+use Rattle.std.{proofs.Common.{◌≡◌, length, vec_capacity}, specs.List.{All, AllZip, AllWithin}}
+use Rattle.decision_log.specs.{History.Begins, Calls.MeetsFirst}
 use Rattle.chain_log.specs.RingPass.{log_of}
 use Rattle.xa_races.specs.Long.{known_in, Keeps}
 use Rattle.xa_races.proofs.meeting.tell_each.Given as goal

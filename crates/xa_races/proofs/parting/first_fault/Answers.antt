@@ -1,5 +1,4 @@
-use Rattle.std.proofs.Common.{length, refl}
-use Rattle.std.proofs.lemmas.Option.{slice_get_read}
+use Rattle.std.proofs.{Common.{length, refl}, lemmas.Option.slice_get_read}
 use Rattle.xa_races.proofs.parting.first_fault.Goals as goal
 
 pub returns-in-Some-clause-some : goal.returns-in-Some-clause-some

@@ -1,7 +1,6 @@
 use Rattle.std.proofs.Common.{◌≡◌, ◌+◌, refl, ◌++◌, ◌∙◌, ap, sym, append-nil, map}
 use Rattle.xa_lines.specs.Printed.{converts}
-use Rattle.xa_races.specs.Race.{statements_of}
-use Rattle.xa_races.specs.Outcome.{session_text}
+use Rattle.xa_races.specs.{Race.statements_of, Outcome.session_text}
 use Rattle.xa_races.proofs.Race.{answers_text-more, answers_text-none, grown}
 use Rattle.xa_races.proofs.race_text.push_answers.Goals as goal
 

@@ -1,6 +1,5 @@
 use Rattle.std.proofs.Common.{arith, ◌++◌, ◌∙◌, ap, sym, append-nil}
-use Rattle.xa_races.proofs.Race.{session_text-more, session_text-none, session_text-whole, grown}
-use Rattle.xa_races.proofs.RaceRuns.{get_or-any}
+use Rattle.xa_races.proofs.{Race.{session_text-more, session_text-none, session_text-whole, grown}, RaceRuns.get_or-any}
 use Rattle.xa_races.proofs.race_text.push_session.Goals as goal
 
 pub loop-index-init : goal.loop-index-init

@@ -1,14 +1,10 @@
-use Rattle.std.proofs.Common.{List, ℕ, subst, rules}
-use Rattle.std.proofs.lemmas.Result.{err_from_is_err_and}
+use Rattle.std.proofs.{Common.{List, ℕ, subst, rules}, lemmas.Result.err_from_is_err_and}
 use Rattle.xa_lines.proofs.Calls.{completed, stopped_writing, stopped_reading, stopped_making}
 use Rattle.xa_lines.specs.Limits.{script_bytes, script_reads}
-use Rattle.xa_races.specs.Came.{IsRunsText, IsSomeRunsText, IsOfRuns}
-use Rattle.xa_orders.specs.Scripts.{script_read, parts_of}
-use Rattle.xa_races.specs.Came.{IsWellRead}
-use Rattle.xa_races.specs.Course.{held_in}
-use Rattle.xa_races.specs.HeldRuns.{AreHeld, IsSeenOf}
-use Rattle.xa_races.proofs.HeldRuns.{held_written, ends_read}
+use Rattle.xa_races.specs.{Came.{IsRunsText, IsSomeRunsText, IsOfRuns, IsWellRead}, Course.held_in}
+use Rattle.xa_races.{specs.HeldRuns.{AreHeld, IsSeenOf}, proofs.HeldRuns.{held_written, ends_read}}
 use Rattle.xa_races.proofs.Written.{runs_written, runs_cut, runs_failed}
+use Rattle.xa_orders.specs.Scripts.{script_read, parts_of}
 use Rattle.xa_races.proofs.running.runs_script.Goals as goal
 
 pub returns-clause-written : goal.returns-clause-written

@@ -1,9 +1,6 @@
 use Rattle.std.proofs.Common.{List, ap, ◌∙◌}
-use Rattle.xa_orders.specs.Scripts.{parts_of}
-use Rattle.xa_orders.specs.Kept.{read_kept}
-use Rattle.xa_races.specs.Course.{held_in}
-use Rattle.xa_races.specs.Tallied.{counted_text}
-use Rattle.xa_races.specs.declared.came_tally.CameTally.{CameTally}
+use Rattle.xa_orders.specs.{Scripts.parts_of, Kept.read_kept}
+use Rattle.xa_races.specs.{Course.held_in, Tallied.counted_text, declared.came_tally.CameTally.CameTally}
 use Rattle.xa_races.proofs.Counted.{come_either, seen_either}
 use Rattle.xa_races.proofs.runs.came_of.Goals as goal
 

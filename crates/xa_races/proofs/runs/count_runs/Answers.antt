@@ -1,12 +1,7 @@
 use Rattle.std.proofs.Common.{◌+◌, ◌≤◌, ◌++◌, ◌∷◌, [], List, ℕ, sym, subst, ap, ◌∙◌, arith}
-use Rattle.xa_orders.specs.Scripts.{parts_of}
-use Rattle.xa_orders.specs.Kept.{read_kept}
-use Rattle.xa_races.specs.CountedRaced.{HasCome}
-use Rattle.xa_races.specs.Tallied.{IsCounted}
-use Rattle.xa_races.specs.Course.{held_in}
-use Rattle.xa_races.specs.HeldRuns.{AreHeld}
-use Rattle.xa_races.proofs.Counted.{counted_none, counted_next, counted_within}
-use Rattle.xa_races.proofs.HeldRuns.{held_none, held_next}
+use Rattle.xa_orders.specs.{Scripts.parts_of, Kept.read_kept}
+use Rattle.xa_races.specs.{CountedRaced.HasCome, Tallied.IsCounted, Course.held_in, HeldRuns.AreHeld}
+use Rattle.xa_races.proofs.{Counted.{counted_none, counted_next, counted_within}, HeldRuns.{held_none, held_next}}
 use Rattle.xa_races.proofs.runs.count_runs.Goals as goal
 
 pub loop-init : goal.loop-init

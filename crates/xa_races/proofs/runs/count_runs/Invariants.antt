@@ -1,8 +1,5 @@
-use Rattle.xa_orders.specs.Scripts.{parts_of}
-use Rattle.xa_orders.specs.Kept.{read_kept}
-use Rattle.xa_races.specs.Tallied.{IsCounted}
-use Rattle.xa_races.specs.Course.{held_in}
-use Rattle.xa_races.specs.HeldRuns.{AreHeld}
+use Rattle.xa_orders.specs.{Scripts.parts_of, Kept.read_kept}
+use Rattle.xa_races.specs.{Tallied.IsCounted, Course.held_in, HeldRuns.AreHeld}
 use Rattle.xa_races.proofs.runs.count_runs.Given as goal
 
 abbrev pub invariant-loop : goal.invariant-loop

@@ -1,7 +1,6 @@
 use Rattle.std.proofs.Common.{sym, subst}
 use Rattle.xa_orders.specs.Scripts.{Reading, parts_of}
-use Rattle.xa_races.specs.CountedRaced.{AreRead}
-use Rattle.xa_races.proofs.Reading.{script_well}
+use Rattle.xa_races.{specs.CountedRaced.AreRead, proofs.Reading.script_well}
 use Rattle.xa_races.proofs.runs.read_well.Goals as goal
 
 pub returns-clause-well : goal.returns-clause-well

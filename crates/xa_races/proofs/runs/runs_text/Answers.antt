@@ -1,9 +1,8 @@
 use Rattle.std.proofs.Common.{◌≡◌, List, ℕ, [], ◌∷◌, length, vec_len, refl, sym, ap, ◌∙◌, arith}
 use Rattle.std.proofs.lemmas.Result.{err_from_is_err_and}
-use borrow.Author.Tests.{eqb-true}
 use Rattle.xa_orders.specs.Scripts.{Reading}
-use Rattle.xa_races.specs.Came.{IsWellRead}
-use Rattle.xa_races.proofs.Written.{of_runs_failed}
+use Rattle.xa_races.{specs.Came.IsWellRead, proofs.Written.of_runs_failed}
+use borrow.Author.Tests.{eqb-true}
 use Rattle.xa_races.proofs.runs.runs_text.Goals as goal
 
 none_left : (faults : List ℕ) → length faults ≡ 0 → faults ≡ []

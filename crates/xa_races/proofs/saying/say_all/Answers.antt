@@ -1,15 +1,10 @@
-use Rattle.std.proofs.Common.{◌≡◌, ◌+◌, ◌<◌, List, [], ◌∷◌, ◌++◌, true, length, take, refl, ap, sym, ◌∙◌, subst}
-use Rattle.std.proofs.Common.{rules, arith}
-use Rattle.std.specs.List.{All}
-use Rattle.std.proofs.lemmas.List.{take_more, length-append}
-use Rattle.std.proofs.lemmas.List.Elements.{All-nil, All-append}
-use Rattle.std.proofs.lemmas.Option.{slice_get_read}
+use Rattle.std.proofs.Common.{◌≡◌, ◌+◌, ◌<◌, List, [], ◌∷◌, ◌++◌, true, length, take, refl, ap, sym, ◌∙◌, subst, rules}
+use Rattle.std.proofs.{Common.arith, lemmas.List.{take_more, length-append, Elements.{All-nil, All-append}}}
+use Rattle.std.{proofs.lemmas.Option.slice_get_read, specs.List.All}
 use Rattle.xa_server.specs.State.{no_state}
 use Rattle.xa_session.specs.declared.answer.Answer.{Answer}
 use Rattle.xa_store.proofs.Legality.{IsOnTheWay, sets_out, goes_on, lets_in_more}
-use Rattle.xa_races.specs.Long.{known_in, IsAddedBy, StopsAt}
-use Rattle.xa_races.specs.declared.added.Added.{Added}
-use Rattle.xa_races.specs.declared.said.Said.{Said}
+use Rattle.xa_races.specs.{Long.{known_in, IsAddedBy, StopsAt}, declared.{added.Added.Added, said.Said.Said}}
 use Rattle.xa_races.proofs.Statements.{added_longer, own_part, stops_at, halts_begins}
 use Rattle.xa_races.proofs.saying.say_all.Goals as goal
 

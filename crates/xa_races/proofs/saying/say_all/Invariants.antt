@@ -1,8 +1,6 @@
-use Rattle.std.proofs.Common.{◌≡◌, ◌≤◌, take, length, vec_capacity}
-use Rattle.std.specs.List.{All}
+use Rattle.std.{proofs.Common.{◌≡◌, ◌≤◌, take, length, vec_capacity}, specs.List.All}
 use Rattle.xa_server.specs.State.{no_state}
-use Rattle.xa_store.specs.Legal.{LetsIn}
-use Rattle.xa_store.proofs.Legality.{IsOnTheWay}
+use Rattle.xa_store.{specs.Legal.LetsIn, proofs.Legality.IsOnTheWay}
 use Rattle.xa_races.specs.Long.{known_in, IsAddedBy}
 use Rattle.xa_races.proofs.saying.say_all.Given as goal
 

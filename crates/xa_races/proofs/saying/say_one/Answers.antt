@@ -1,13 +1,10 @@
 use Rattle.std.proofs.Common.{ap, ◌∙◌, arith, rules, [], ◌∷◌, refl}
 use Rattle.xa_words.specs.Entry.{may_be_entry}
 use Rattle.xa_server.specs.State.{no_state}
-use Rattle.xa_session.proofs.Entering.{entering_makes_entry}
-use Rattle.xa_session.specs.Replay.{state_at}
-use Rattle.xa_races.specs.Long.{known_in}
-use Rattle.xa_races.proofs.Statements.{entered_where_longer}
-use Rattle.xa_races.specs.Long.{SaysOne}
-use Rattle.xa_races.proofs.saying.say_one.Goals as goal
+use Rattle.xa_session.{proofs.Entering.entering_makes_entry, specs.Replay.state_at}
+use Rattle.xa_races.{specs.Long.{known_in, SaysOne}, proofs.Statements.entered_where_longer}
 use Rattle.xa_races.proofs.saying.say_one.Goals.{then-seen-place, else-seen-place}
+use Rattle.xa_races.proofs.saying.say_one.Goals as goal
 
 pub entering-entry-requires : goal.entering-entry-requires
 entering-entry-requires g c =

@@ -1,8 +1,6 @@
 use Rattle.std.proofs.Common.{◌≡◌, ◌+◌, ◌<◌, ◌++◌, List, length, map, take, drop, get_or, slice_set, sym, ap, ◌∙◌}
-use Rattle.std.proofs.Common.{arith}
-use Rattle.std.proofs.lemmas.List.{get_or_read}
-use Rattle.xa_races.specs.declared.came_tally.CameTally.{CameTally}
-use Rattle.xa_races.specs.Tallied.{once_if, counted_up}
+use Rattle.std.proofs.{Common.arith, lemmas.List.get_or_read}
+use Rattle.xa_races.specs.{declared.came_tally.CameTally.CameTally, Tallied.{once_if, counted_up}}
 use Rattle.xa_races.proofs.Counting.{set_next, get_next, half_long}
 use Rattle.xa_races.proofs.tallies.count_up.Goals as goal
 

@@ -1,9 +1,7 @@
 use Rattle.std.proofs.Common.{◌≡◌, ◌≢◌, ℕ, ◌<◌, List, length, take, get_or, refl, sym, subst}
 use Rattle.std.specs.List.{All, Contains}
 use Rattle.xa_orders.specs.Orders.{Pairwise}
-use Rattle.xa_races.specs.declared.came_tally.CameTally.{CameTally}
-use Rattle.xa_races.specs.Came.{ComesBefore}
-use Rattle.xa_races.specs.Tallied.{texts_of, Tallied}
+use Rattle.xa_races.specs.{declared.came_tally.CameTally.CameTally, Came.ComesBefore, Tallied.{texts_of, Tallied}}
 use Rattle.xa_races.proofs.Counting.{apart_listed, tallied_inserted, ascending_inserted, texts_insert, all_inserted}
 use Rattle.xa_races.proofs.tallies.enlist.Goals as goal
 

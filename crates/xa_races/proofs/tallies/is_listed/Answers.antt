@@ -1,8 +1,6 @@
 use Rattle.std.proofs.Common.{◌≡◌, ◌≢◌, ℕ, ◌<◌, List, [], ◌∷◌, length, get_or, sym, ap, ◌∙◌, subst, zero, suc, arith}
-use Rattle.std.specs.List.{All, Contains}
-use Rattle.std.proofs.lemmas.List.{take_all}
-use Rattle.xa_races.specs.declared.came_tally.CameTally.{CameTally}
-use Rattle.xa_races.specs.Tallied.{texts_of}
+use Rattle.std.{proofs.lemmas.List.take_all, specs.List.{All, Contains}}
+use Rattle.xa_races.specs.{declared.came_tally.CameTally.CameTally, Tallied.texts_of}
 use Rattle.xa_races.proofs.tallies.is_listed.Goals as goal
 
 listed_at : (xs : List CameTally) (n : ℕ) (one : CameTally) (text : List ℕ) → n < length xs → one ≡ get_or xs n one

@@ -1,9 +1,7 @@
-use Rattle.std.proofs.Common.{ℕ, List, [], ◌∷◌, ◌++◌, sym, ap, ◌∙◌, subst}
-use Rattle.std.specs.List.{All, Contains}
+use Rattle.std.{proofs.Common.{ℕ, List, [], ◌∷◌, ◌++◌, sym, ap, ◌∙◌, subst}, specs.List.{All, Contains}}
 use Rattle.std.proofs.lemmas.List.Elements.{All-weaker, Contains-push, Contains-append_left}
 use Rattle.xa_orders.specs.Orders.{Pairwise}
-use Rattle.xa_races.specs.Came.{ComesBefore}
-use Rattle.xa_races.specs.Tallied.{texts_of, Tallied}
+use Rattle.xa_races.specs.{Came.ComesBefore, Tallied.{texts_of, Tallied}}
 use Rattle.xa_races.proofs.Counting.{texts_counted, tallied_counted}
 use Rattle.xa_races.proofs.tallies.note.Goals as goal
 

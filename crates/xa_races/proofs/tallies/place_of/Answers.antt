@@ -1,7 +1,5 @@
-use Rattle.std.proofs.Common.{get_or, List, ℕ, subst, arith}
-use Rattle.std.proofs.lemmas.List.Elements.{All-more}
-use Rattle.xa_races.specs.declared.came_tally.CameTally.{CameTally}
-use Rattle.xa_races.specs.Came.{ComesBefore}
+use Rattle.std.proofs.{Common.{get_or, List, ℕ, subst, arith}, lemmas.List.Elements.All-more}
+use Rattle.xa_races.specs.{declared.came_tally.CameTally.CameTally, Came.ComesBefore}
 use Rattle.xa_races.proofs.tallies.place_of.Goals as goal
 
 pub loop-place-preserved : goal.loop-place-preserved

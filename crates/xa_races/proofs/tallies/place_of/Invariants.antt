@@ -1,5 +1,4 @@
-use Rattle.std.proofs.Common.{◌≤◌, ◌-◌, length, take}
-use Rattle.std.specs.List.{All}
+use Rattle.std.{proofs.Common.{◌≤◌, ◌-◌, length, take}, specs.List.All}
 use Rattle.xa_races.specs.Came.{ComesBefore}
 use Rattle.xa_races.proofs.tallies.place_of.Given as goal
 

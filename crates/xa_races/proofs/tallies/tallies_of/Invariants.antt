@@ -1,5 +1,4 @@
-use Rattle.std.proofs.Common.{◌≡◌, map}
-use Rattle.std.specs.List.{All}
+use Rattle.std.{proofs.Common.{◌≡◌, map}, specs.List.All}
 use Rattle.xa_races.specs.Tallied.{texts_of}
 use Rattle.xa_races.proofs.tallies.tallies_of.Given as goal
 

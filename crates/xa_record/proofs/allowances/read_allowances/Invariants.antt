@@ -1,7 +1,6 @@
 use Rattle.std.proofs.Common.{◌≡◌, ◌+◌, ◌≤◌, length}
 use Rattle.xa_lines.specs.Script.{lines_of}
-use Rattle.xa_record.specs.Allowances.{allowances_in, allowances_of}
-use Rattle.xa_record.proofs.AllowanceLists.{prepended}
+use Rattle.xa_record.{specs.Allowances.{allowances_in, allowances_of}, proofs.AllowanceLists.prepended}
 use Rattle.xa_record.proofs.allowances.read_allowances.Given as goal
 
 abbrev pub invariant-loop-rest : goal.invariant-loop-rest

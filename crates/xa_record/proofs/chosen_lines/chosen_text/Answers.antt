@@ -1,7 +1,6 @@
 use Rattle.std.proofs.Common.{sym, ◌∙◌, drop, arith}
 use Rattle.xa_lines.specs.Script.{lines_of}
-use Rattle.xa_record.specs.Shrinking.{chosen_text}
-use Rattle.xa_record.proofs.Chosen.{chosen_more, chosen_end, chosen_out, no_bytes}
+use Rattle.xa_record.{specs.Shrinking.chosen_text, proofs.Chosen.{chosen_more, chosen_end, chosen_out, no_bytes}}
 use Rattle.xa_record.proofs.chosen_lines.chosen_text.Goals as goal
 
 pub returns-then-is_empty : goal.returns-then-is_empty

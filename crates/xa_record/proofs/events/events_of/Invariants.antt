@@ -1,7 +1,5 @@
 use Rattle.std.proofs.Common.{◌≡◌, map, take}
-use Rattle.xa_record.specs.Allowances.{no_kinds}
-use Rattle.xa_record.specs.Events.{AreEvents}
-use Rattle.xa_record.specs.Kept.{numbered_kept}
+use Rattle.xa_record.specs.{Allowances.no_kinds, Events.AreEvents, Kept.numbered_kept}
 use Rattle.xa_record.proofs.EventLists.{kinds_through}
 use Rattle.xa_record.proofs.events.events_of.Given as goal
 

@@ -1,8 +1,5 @@
-use Rattle.std.proofs.Common.{None, map, take, get_or, ap, sym, ◌∙◌}
-use Rattle.std.specs.Option.{option_map}
-use Rattle.xa_record.specs.Exchanges.{last_call}
-use Rattle.xa_record.specs.Kept.{numbered_kept}
-use Rattle.xa_record.proofs.Exchanged.{shown_there}
+use Rattle.std.{proofs.Common.{None, map, take, get_or, ap, sym, ◌∙◌}, specs.Option.option_map}
+use Rattle.xa_record.{specs.{Exchanges.last_call, Kept.numbered_kept}, proofs.Exchanged.shown_there}
 use Rattle.xa_record.proofs.exchanging.exchange_in.Goals as goal
 
 pub returns : goal.returns

@@ -1,8 +1,5 @@
-use Rattle.std.proofs.Common.{None, map, arith}
-use Rattle.std.specs.Option.{option_map}
-use Rattle.xa_record.specs.Exchanges.{last_call}
-use Rattle.xa_record.specs.Kept.{numbered_kept}
-use Rattle.xa_record.proofs.Exchanged.{call_last}
+use Rattle.std.{proofs.Common.{None, map, arith}, specs.Option.option_map}
+use Rattle.xa_record.{specs.{Exchanges.last_call, Kept.numbered_kept}, proofs.Exchanged.call_last}
 use Rattle.xa_record.proofs.exchanging.last_call_in.Goals as goal
 
 pub returns : goal.returns

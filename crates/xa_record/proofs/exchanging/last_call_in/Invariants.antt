@@ -1,7 +1,5 @@
-use Rattle.std.proofs.Common.{◌≡◌, None, map, drop}
-use Rattle.std.specs.Option.{option_map}
-use Rattle.xa_record.specs.Exchanges.{last_call}
-use Rattle.xa_record.specs.Kept.{numbered_kept}
+use Rattle.std.{proofs.Common.{◌≡◌, None, map, drop}, specs.Option.option_map}
+use Rattle.xa_record.specs.{Exchanges.last_call, Kept.numbered_kept}
 use Rattle.xa_record.proofs.exchanging.last_call_in.Given as goal
 
 abbrev pub invariant-loop-one : goal.invariant-loop-one

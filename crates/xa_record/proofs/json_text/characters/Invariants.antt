@@ -1,5 +1,4 @@
-use Rattle.std.proofs.Common.{◌≡◌, take}
-use Rattle.std.specs.Prelude.{string_bytes, encode_utf8_all}
+use Rattle.std.{proofs.Common.{◌≡◌, take}, specs.Prelude.{string_bytes, encode_utf8_all}}
 use Rattle.xa_record.proofs.json_text.characters.Given as goal
 
 abbrev pub invariant-loop-byte : goal.invariant-loop-byte

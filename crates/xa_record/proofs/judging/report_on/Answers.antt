@@ -2,13 +2,9 @@ use Rattle.std.proofs.Common.{◌≡◌, ◌==◌, false, [], IfOk, List, length
 use Rattle.std.proofs.lemmas.Grind.{common_steps}
 use Rattle.xa_judge.specs.declared.event.Event.{Event}
 use Rattle.xa_lines.specs.Script.{lines_of}
-use Rattle.xa_record.specs.Events.{AreEvents, AreCalls}
-use Rattle.xa_record.specs.Judged.{IsJudgement, IsReportedOfNotes}
-use Rattle.xa_record.specs.Kept.{numbered_kept, report_kept}
-use Rattle.xa_record.specs.Reading.{NumberedEvent, Notes, notes_of}
-use Rattle.xa_record.proofs.BareTexts.{notes-bare}
-use Rattle.xa_record.proofs.Reported.{reported, no_fault}
-use Rattle.xa_record.proofs.StrictNotes.{told-same, clean-too}
+use Rattle.xa_record.specs.{Events.{AreEvents, AreCalls}, Judged.{IsJudgement, IsReportedOfNotes}}
+use Rattle.xa_record.specs.{Kept.{numbered_kept, report_kept}, Reading.{NumberedEvent, Notes, notes_of}}
+use Rattle.xa_record.proofs.{BareTexts.notes-bare, Reported.{reported, no_fault}, StrictNotes.{told-same, clean-too}}
 use Rattle.xa_record.proofs.judging.report_on.Goals as goal
 
 pub returns : goal.returns

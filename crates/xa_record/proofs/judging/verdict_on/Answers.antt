@@ -1,6 +1,5 @@
 use Rattle.xa_lines.specs.Script.{lines_of}
-use Rattle.xa_record.specs.Reading.{notes_of}
-use Rattle.xa_record.proofs.Reported.{judgement_of}
+use Rattle.xa_record.{specs.Reading.notes_of, proofs.Reported.judgement_of}
 use Rattle.xa_record.proofs.judging.verdict_on.Goals as goal
 
 pub returns : goal.returns

@@ -1,5 +1,4 @@
-use Rattle.xa_record.proofs.ReplayedEffects.{order_gives}
-use Rattle.xa_record.proofs.RunAnswers.{line_answered, line_followed, order_joined}
+use Rattle.xa_record.proofs.{ReplayedEffects.order_gives, RunAnswers.{line_answered, line_followed, order_joined}}
 use Rattle.xa_record.proofs.laws.order_is_replayed.Goals as goal
 
 pub returns : goal.returns

@@ -1,8 +1,5 @@
-use Rattle.std.proofs.Common.{◌≡◌, IfOk, List, sym, subst}
-use Rattle.std.proofs.lemmas.List.{take-map}
-use Rattle.xa_record.specs.Kept.{numbered_kept}
-use Rattle.xa_record.specs.Reading.{NumberedEvent}
-use Rattle.xa_record.specs.VerdictText.{order_text, no_calls}
+use Rattle.std.proofs.{Common.{◌≡◌, IfOk, List, sym, subst}, lemmas.List.take-map}
+use Rattle.xa_record.specs.{Kept.numbered_kept, Reading.NumberedEvent, VerdictText.{order_text, no_calls}}
 use Rattle.xa_record.proofs.Reasons.{place_within, events_before}
 use Rattle.xa_record.proofs.lines_again.order_up_to.Goals as goal
 

@@ -1,6 +1,5 @@
 use Rattle.std.proofs.Common.{◌≡◌, ◌≤◌, map, take, length}
-use Rattle.xa_record.specs.Reading.{up_to_return}
-use Rattle.xa_record.specs.Kept.{numbered_kept}
+use Rattle.xa_record.specs.{Reading.up_to_return, Kept.numbered_kept}
 use Rattle.xa_record.proofs.notes.up_to_return.Given as goal
 
 abbrev pub invariant-loop-place : goal.invariant-loop-place

@@ -1,7 +1,5 @@
 use Rattle.std.proofs.Common.{◌++◌, ap, sym, ◌∙◌}
-use Rattle.xa_record.specs.declared.line_event.LineEvent.{LineEvent}
-use Rattle.xa_record.specs.Kept.{told_kept, text_told}
-use Rattle.xa_record.specs.VerdictText.{call_text}
+use Rattle.xa_record.specs.{declared.line_event.LineEvent.LineEvent, Kept.{told_kept, text_told}, VerdictText.call_text}
 use Rattle.xa_record.proofs.CallTexts.{append-call_text-none}
 use Rattle.xa_record.proofs.order.push_called.Goals as goal
 

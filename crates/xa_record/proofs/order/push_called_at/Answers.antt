@@ -1,10 +1,7 @@
 use Rattle.std.proofs.Common.{◌≡◌, ℕ, ◌<◌, Option, List, ◌++◌, length, map, OnOk, ap, sym, ◌∙◌, subst, arith}
-use Rattle.xa_record.specs.declared.line_event.NumberedEvent.{NumberedEvent}
-use Rattle.xa_record.specs.Events.{IsCallOf}
-use Rattle.xa_record.specs.Kept.{told_kept, text_told, text_at, numbered_kept}
-use Rattle.xa_record.specs.VerdictText.{call_text}
-use Rattle.xa_record.proofs.CallTexts.{append-call_text-none}
-use Rattle.xa_record.proofs.Pairs.{calls-length, IsCallOf-at}
+use Rattle.xa_record.specs.{declared.line_event.NumberedEvent.NumberedEvent, Events.IsCallOf}
+use Rattle.xa_record.specs.{Kept.{told_kept, text_told, text_at, numbered_kept}, VerdictText.call_text}
+use Rattle.xa_record.proofs.{CallTexts.append-call_text-none, Pairs.{calls-length, IsCallOf-at}}
 use Rattle.xa_record.proofs.Places.{text_at-kept, text_at-kept_past}
 use Rattle.xa_record.proofs.order.push_called_at.Goals as goal
 

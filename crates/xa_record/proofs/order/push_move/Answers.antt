@@ -1,8 +1,7 @@
 use Rattle.std.proofs.Common.{◌∷◌, ◌++◌, map, drop, ap, sym, ◌∙◌, arith}
 use Rattle.xa_judge.specs.declared.moves.Move.{Move}
 use Rattle.xa_record.specs.declared.line_event.NumberedEvent.{NumberedEvent}
-use Rattle.xa_record.specs.Kept.{told_kept, numbered_kept, calls_kept, with_place}
-use Rattle.xa_record.specs.VerdictText.{order_text}
+use Rattle.xa_record.specs.{Kept.{told_kept, numbered_kept, calls_kept, with_place}, VerdictText.order_text}
 use Rattle.xa_record.proofs.Effects.{moved_effect, moved_over_at, moved_event_at}
 use Rattle.xa_record.proofs.order.push_move.Goals as goal
 

@@ -1,6 +1,5 @@
 use Rattle.std.proofs.Common.{◌+◌, ◌++◌, map, drop, ap, ◌∙◌, arith}
-use Rattle.xa_record.specs.Kept.{numbered_kept, calls_kept}
-use Rattle.xa_record.specs.VerdictText.{order_text}
+use Rattle.xa_record.specs.{Kept.{numbered_kept, calls_kept}, VerdictText.order_text}
 use Rattle.xa_record.proofs.Effects.{dropped, moved_whole}
 use Rattle.xa_record.proofs.order.push_order.Goals as goal
 

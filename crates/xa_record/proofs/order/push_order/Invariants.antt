@@ -1,6 +1,5 @@
 use Rattle.std.proofs.Common.{◌≡◌, ◌++◌, map, drop}
-use Rattle.xa_record.specs.Kept.{numbered_kept, calls_kept}
-use Rattle.xa_record.specs.VerdictText.{order_text, no_calls}
+use Rattle.xa_record.specs.{Kept.{numbered_kept, calls_kept}, VerdictText.{order_text, no_calls}}
 use Rattle.xa_record.proofs.order.push_order.Given as goal
 
 abbrev pub invariant-loop-step : goal.invariant-loop-step

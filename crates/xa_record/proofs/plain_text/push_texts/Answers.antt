@@ -1,8 +1,6 @@
-use Rattle.std.proofs.Common.{ℕ, Vec, Global, List, ◌++◌, map, ap, ◌∙◌}
+use Rattle.std.proofs.{Common.{ℕ, Vec, Global, List, ◌++◌, map, ap, ◌∙◌}, lemmas.Map.Iter.{rest_more, rest_all}}
 use Rattle.std.specs.Map.Iter.{deref}
-use Rattle.std.proofs.lemmas.Map.Iter.{rest_more, rest_all}
-use Rattle.xa_record.specs.VerdictText.{answers_text}
-use Rattle.xa_record.proofs.Texts.{written-text, written-whole}
+use Rattle.xa_record.{specs.VerdictText.answers_text, proofs.Texts.{written-text, written-whole}}
 use Rattle.xa_record.proofs.plain_text.push_texts.Goals as goal
 
 pub loop-text-preserved : goal.loop-text-preserved

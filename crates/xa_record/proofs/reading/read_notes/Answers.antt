@@ -1,7 +1,6 @@
 use Rattle.std.proofs.Common.{◌+◌, ap, sym, ◌∙◌, arith}
 use Rattle.xa_lines.specs.Script.{lines_of}
-use Rattle.xa_record.specs.Reading.{Notes, noted_lines, notes_by, ended_by}
-use Rattle.xa_record.specs.Kept.{notes_kept}
+use Rattle.xa_record.specs.{Reading.{Notes, noted_lines, notes_by, ended_by}, Kept.notes_kept}
 use Rattle.xa_record.proofs.NotedLines.{noted_lines-line, noted_lines-end}
 use Rattle.xa_record.proofs.reading.read_notes.Goals as goal
 

@@ -1,7 +1,6 @@
 use Rattle.std.proofs.Common.{◌≡◌, ◌+◌, ◌≤◌, length}
 use Rattle.xa_lines.specs.Script.{lines_of}
-use Rattle.xa_record.specs.Reading.{no_notes, noted_lines}
-use Rattle.xa_record.specs.Kept.{notes_kept}
+use Rattle.xa_record.specs.{Reading.{no_notes, noted_lines}, Kept.notes_kept}
 use Rattle.xa_record.proofs.reading.read_notes.Given as goal
 
 abbrev pub invariant-loop-rest : goal.invariant-loop-rest

@@ -1,12 +1,7 @@
-use Rattle.std.proofs.Common.{◌≡◌, [], List, map, ap, sym, ◌∙◌, subst, arith}
-use Rattle.std.proofs.lemmas.Grind.{common_steps}
+use Rattle.std.proofs.{Common.{◌≡◌, [], List, map, ap, sym, ◌∙◌, subst, arith}, lemmas.Grind.common_steps}
 use Rattle.xa_judge.specs.declared.event.Event.{Event}
-use Rattle.xa_record.specs.Events.{AreEvents}
-use Rattle.xa_record.specs.Kept.{numbered_kept}
-use Rattle.xa_record.specs.Reading.{NumberedEvent, Notes, notes_of}
-use Rattle.xa_record.proofs.Reported.{no_fault}
-use Rattle.xa_record.proofs.StrictNotes.{told-same}
-use Rattle.xa_record.proofs.Unexplained.{text-unexplained}
+use Rattle.xa_record.specs.{Events.AreEvents, Kept.numbered_kept, Reading.{NumberedEvent, Notes, notes_of}}
+use Rattle.xa_record.proofs.{Reported.no_fault, StrictNotes.told-same, Unexplained.text-unexplained}
 use Rattle.xa_record.proofs.shrinking.is_unexplained.Goals as goal
 
 pub returns : goal.returns

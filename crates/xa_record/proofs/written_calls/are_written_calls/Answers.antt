@@ -1,7 +1,5 @@
-use Rattle.std.proofs.Common.{[], ◌∷◌, ◌++◌, take, ap, sym, ◌∙◌, subst, arith}
-use Rattle.std.specs.List.{All}
-use Rattle.std.proofs.lemmas.List.{take_more, take_all}
-use Rattle.std.proofs.lemmas.List.Elements.{All-push}
+use Rattle.std.proofs.{Common.{[], ◌∷◌, ◌++◌, take, ap, sym, ◌∙◌, subst, arith}, lemmas.List.{take_more, take_all}}
+use Rattle.std.{proofs.lemmas.List.Elements.All-push, specs.List.All}
 use Rattle.xa_record.specs.Replaying.{IsWrittenCall}
 use Rattle.xa_record.proofs.written_calls.are_written_calls.Goals as goal
 

@@ -1,5 +1,4 @@
-use Rattle.std.proofs.Common.{take}
-use Rattle.std.specs.List.{All}
+use Rattle.std.{proofs.Common.take, specs.List.All}
 use Rattle.xa_record.specs.Replaying.{IsWrittenCall}
 use Rattle.xa_record.proofs.written_calls.are_written_calls.Given as goal
 

@@ -1,7 +1,5 @@
-use Rattle.std.proofs.Common.{subst}
-use Rattle.std.specs.Option.{option_map}
-use Rattle.xa_script.specs.Status.{IsAllowedBy}
-use Rattle.xa_script.proofs.Allowed.{read_whole}
+use Rattle.std.{proofs.Common.subst, specs.Option.option_map}
+use Rattle.xa_script.{specs.Status.IsAllowedBy, proofs.Allowed.read_whole}
 use Rattle.xa_script.proofs.allowing.allowances_in.Goals as goal
 
 pub returns : goal.returns

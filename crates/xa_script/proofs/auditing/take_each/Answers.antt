@@ -1,5 +1,4 @@
-use Rattle.std.proofs.Common.{◌∙◌, ◌∷◌, [], length-append, arith}
-use Rattle.std.proofs.lemmas.Iterator.Adapters.{YieldsList-from_vec}
+use Rattle.std.proofs.{Common.{◌∙◌, ◌∷◌, [], length-append, arith}, lemmas.Iterator.Adapters.YieldsList-from_vec}
 use Rattle.std.proofs.lemmas.Iterator.Consumers.{YieldsList-turn, YieldsList-end}
 use Rattle.xa_audit.specs.Audits.{IsAuditOf}
 use Rattle.xa_script.proofs.Audited.{none_known, taken_more, taken_all}

@@ -1,10 +1,7 @@
-use Rattle.std.proofs.Common.{map, refl, inl, inr, subst, Option}
-use Rattle.std.specs.Prelude.{IfSome}
-use Rattle.std.specs.Option.{IsSomeAnd}
-use Rattle.std.proofs.lemmas.Result.{err_from_is_err_and}
+use Rattle.std.proofs.{Common.{map, refl, inl, inr, subst, Option}, lemmas.Result.err_from_is_err_and}
+use Rattle.std.specs.{Prelude.IfSome, Option.IsSomeAnd}
 use Rattle.clap.specs.Words.{subcommand_rows_of}
-use Rattle.xa_script.specs.Manner.{IsLine, Says}
-use Rattle.xa_script.specs.declared.command_line.CommandLine.{CommandLine}
+use Rattle.xa_script.specs.{Manner.{IsLine, Says}, declared.command_line.CommandLine.CommandLine}
 use Rattle.xa_script.proofs.CommandFaults.{kind_of_script, no_fault_of_script, refused_as, found_as_named, found, said}
 use Rattle.xa_script.proofs.command_line.line_by.Goals as goal
 

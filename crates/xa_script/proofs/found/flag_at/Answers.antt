@@ -1,5 +1,4 @@
-use Rattle.std.proofs.Common.{◌∙◌, sym}
-use Rattle.std.specs.Str.Parse.{ParsesBool}
+use Rattle.std.{proofs.Common.{◌∙◌, sym}, specs.Str.Parse.ParsesBool}
 use Rattle.clap.specs.Words.{found_of, one_text}
 use Rattle.xa_script.proofs.Values.{flag_read, no_flag_read, flag_of}
 use Rattle.xa_script.proofs.found.flag_at.Goals as goal

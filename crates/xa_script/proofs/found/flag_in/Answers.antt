@@ -1,6 +1,5 @@
 use Rattle.std.proofs.Common.{subst, Option}
-use Rattle.clap.specs.Words.{Text, found_of}
-use Rattle.clap.proofs.WalkLemmas.{one_text-rows}
+use Rattle.clap.{specs.Words.{Text, found_of}, proofs.WalkLemmas.one_text-rows}
 use Rattle.xa_script.specs.CommandLine.{IsFlagOf}
 use Rattle.xa_script.proofs.found.flag_in.Goals as goal
 

@@ -1,8 +1,5 @@
-use Rattle.std.proofs.Common.{subst, sym, Option}
-use Rattle.std.specs.Prelude.{IfSome}
-use Rattle.std.specs.Option.{IsSomeAnd}
-use Rattle.clap.specs.Words.{Text, found_of}
-use Rattle.clap.proofs.WalkLemmas.{one_text-rows}
+use Rattle.std.{proofs.Common.{subst, sym, Option}, specs.{Prelude.IfSome, Option.IsSomeAnd}}
+use Rattle.clap.{specs.Words.{Text, found_of}, proofs.WalkLemmas.one_text-rows}
 use Rattle.xa_script.specs.CommandLine.{IsNumberText}
 use Rattle.xa_script.proofs.found.number_in.Goals as goal
 

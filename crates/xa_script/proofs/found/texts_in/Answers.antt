@@ -1,7 +1,5 @@
-use Rattle.std.proofs.Common.{subst, Option, List, [], ◌≡◌, map}
-use Rattle.std.specs.Prelude.{IfOk, unwrap_or}
-use Rattle.clap.specs.Words.{Text, found_of}
-use Rattle.clap.proofs.WalkLemmas.{raw_values-rows}
+use Rattle.std.{proofs.Common.{subst, Option, List, [], ◌≡◌, map}, specs.Prelude.{IfOk, unwrap_or}}
+use Rattle.clap.{specs.Words.{Text, found_of}, proofs.WalkLemmas.raw_values-rows}
 use Rattle.xa_script.proofs.found.texts_in.Goals as goal
 
 pub returns : goal.returns

@@ -1,5 +1,4 @@
-use Rattle.std.proofs.Common.{subst}
-use Rattle.std.specs.Io.Buffered.{writer_contents}
+use Rattle.std.{proofs.Common.subst, specs.Io.Buffered.writer_contents}
 use Rattle.xa_script.specs.Jobs.{HasDone}
 use Rattle.xa_script.proofs.from_reader.carry_out_to.Goals as goal
 

@@ -1,7 +1,5 @@
-use Rattle.std.proofs.Common.{◌≡◌, Some, map}
-use Rattle.std.specs.Io.Buffered.{writer_contents}
-use Rattle.xa_script.specs.Status.{AppendsAuditBy, AfterAuditing}
-use Rattle.xa_script.proofs.JobEnds.{of_histories}
+use Rattle.std.{proofs.Common.{◌≡◌, Some, map}, specs.Io.Buffered.writer_contents}
+use Rattle.xa_script.{specs.Status.{AppendsAuditBy, AfterAuditing}, proofs.JobEnds.of_histories}
 use Rattle.xa_script.proofs.jobs.audit.Goals as goal
 
 pub returns : goal.returns

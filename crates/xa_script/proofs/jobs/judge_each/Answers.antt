@@ -1,8 +1,6 @@
-use Rattle.std.proofs.Common.{◌≡◌, Some, map, []}
-use Rattle.std.specs.Prelude.{option_map, unwrap_or}
+use Rattle.std.{proofs.Common.{◌≡◌, Some, map, []}, specs.Prelude.{option_map, unwrap_or}}
 use Rattle.std.specs.Io.Buffered.{writer_contents}
-use Rattle.xa_script.specs.Several.{ListsAll, AfterListing}
-use Rattle.xa_script.proofs.JobEnds.{of_histories}
+use Rattle.xa_script.{specs.Several.{ListsAll, AfterListing}, proofs.JobEnds.of_histories}
 use Rattle.xa_script.proofs.jobs.judge_each.Goals as goal
 
 pub returns : goal.returns

@@ -1,5 +1,4 @@
-use Rattle.std.proofs.lemmas.Result.{MatchResult-from_both}
-use Rattle.std.specs.Io.Buffered.{writer_contents}
+use Rattle.std.{proofs.lemmas.Result.MatchResult-from_both, specs.Io.Buffered.writer_contents}
 use Rattle.xa_script.proofs.jobs.run.Goals as goal
 
 pub returns : goal.returns

@@ -1,10 +1,7 @@
 use Rattle.std.proofs.Common.{◌∙◌, ◌∷◌, [], ap, refl, List, ℕ, length, length-append, arith}
+use Rattle.std.proofs.lemmas.Iterator.{Adapters.YieldsList-from_vec, Consumers.{YieldsList-turn, YieldsList-end}}
 use Rattle.std.specs.Prelude.{option_map, unwrap_or}
-use Rattle.std.proofs.lemmas.Iterator.Adapters.{YieldsList-from_vec}
-use Rattle.std.proofs.lemmas.Iterator.Consumers.{YieldsList-turn, YieldsList-end}
-use Rattle.xa_script.specs.Listing.{heading}
-use Rattle.xa_script.specs.Several.{IsListing}
-use Rattle.xa_script.proofs.Audited.{none_known}
+use Rattle.xa_script.{specs.{Listing.heading, Several.IsListing}, proofs.Audited.none_known}
 use Rattle.xa_script.proofs.SeveralListed.{none_listed, list_more, list_all}
 use Rattle.xa_script.proofs.judging_each.list_each.Goals as goal
 

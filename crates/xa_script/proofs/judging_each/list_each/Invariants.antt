@@ -1,7 +1,5 @@
-use Rattle.std.proofs.Common.{◌≡◌, ℕ, List, [], length, map, Some}
-use Rattle.std.specs.Prelude.{option_map, unwrap_or}
-use Rattle.xa_script.specs.Listing.{heading}
-use Rattle.xa_script.specs.Several.{IsListing}
+use Rattle.std.{proofs.Common.{◌≡◌, ℕ, List, [], length, map, Some}, specs.Prelude.{option_map, unwrap_or}}
+use Rattle.xa_script.specs.{Listing.heading, Several.IsListing}
 use Rattle.xa_script.proofs.judging_each.list_each.Given as goal
 
 abbrev pub invariant-loop-input : goal.invariant-loop-input

@@ -1,8 +1,6 @@
-use Rattle.std.proofs.Common.{subst, Some, List, ℕ}
-use Rattle.std.specs.Prelude.{IfOk, IfErr}
+use Rattle.std.{proofs.Common.{subst, Some, List, ℕ}, specs.Prelude.{IfOk, IfErr}}
 use Rattle.xa_record.specs.Judged.{AfterJudgeFaultFrom}
-use Rattle.xa_script.specs.Status.{AppendsVerdict}
-use Rattle.xa_script.proofs.RecordsRead.{judged_whole, faulted_whole}
+use Rattle.xa_script.{specs.Status.AppendsVerdict, proofs.RecordsRead.{judged_whole, faulted_whole}}
 use Rattle.xa_script.proofs.judging_read.judge_read.Goals as goal
 
 pub returns-clause-judged : goal.returns-clause-judged

@@ -1,6 +1,5 @@
 use Rattle.std.proofs.Common.{Bool, sym, subst}
-use Rattle.xa_script.specs.Jobs.{HasRaced}
-use Rattle.xa_script.proofs.JobEnds.{ends_with_none}
+use Rattle.xa_script.{specs.Jobs.HasRaced, proofs.JobEnds.ends_with_none}
 use Rattle.xa_script.proofs.racing.race_as.Goals as goal
 
 pub returns-then-json : goal.returns-then-json

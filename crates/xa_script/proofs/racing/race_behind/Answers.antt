@@ -1,5 +1,4 @@
-use Rattle.std.proofs.Common.{Bool, sym, subst}
-use Rattle.std.specs.Prelude.{OnOk, IfSome}
+use Rattle.std.{proofs.Common.{Bool, sym, subst}, specs.Prelude.{OnOk, IfSome}}
 use Rattle.xa_script.specs.Status.{AppendsRaceBy}
 use Rattle.xa_script.proofs.racing.race_behind.Goals as goal
 

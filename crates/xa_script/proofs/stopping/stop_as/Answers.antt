@@ -1,5 +1,4 @@
-use Rattle.std.proofs.Common.{Bool, sym, subst}
-use Rattle.std.proofs.lemmas.Result.{MatchResult-from_both}
+use Rattle.std.proofs.{Common.{Bool, sym, subst}, lemmas.Result.MatchResult-from_both}
 use Rattle.xa_script.specs.Jobs.{HasStopped}
 use Rattle.xa_script.proofs.stopping.stop_as.Goals as goal
 

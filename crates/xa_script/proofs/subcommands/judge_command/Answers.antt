@@ -1,5 +1,4 @@
-use Rattle.std.proofs.Common.{◌≡◌, ◌∙◌, ◌||◌, Bool, false, ap₂}
-use Rattle.std.proofs.lemmas.Result.{IfOk-weaker}
+use Rattle.std.proofs.{Common.{◌≡◌, ◌∙◌, ◌||◌, Bool, false, ap₂}, lemmas.Result.IfOk-weaker}
 use Rattle.clap.specs.Words.{with_rule}
 use Rattle.xa_script.proofs.subcommands.judge_command.Goals as goal
 

@@ -1,5 +1,4 @@
-use Rattle.std.proofs.Common.{◌∙◌, ap, codes}
-use Rattle.std.proofs.lemmas.Result.{IfOk-weaker}
+use Rattle.std.proofs.{Common.{◌∙◌, ap, codes}, lemmas.Result.IfOk-weaker}
 use Rattle.clap.specs.Words.{App, with_subcommand}
 use Rattle.xa_script.specs.CommandLine.{plain_app, race_app, coordinate_app, stops_app, judge_app, explore_app}
 use Rattle.xa_script.specs.CommandLine.{audit_app, common_app}

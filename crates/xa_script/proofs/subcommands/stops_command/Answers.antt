@@ -1,5 +1,4 @@
-use Rattle.std.proofs.Common.{ap₂, ◌∙◌, rules}
-use Rattle.std.proofs.lemmas.Result.{IfOk-weaker}
+use Rattle.std.proofs.{Common.{ap₂, ◌∙◌, rules}, lemmas.Result.IfOk-weaker}
 use Rattle.clap.specs.Words.{with_rule}
 use Rattle.xa_script.proofs.subcommands.stops_command.Goals as goal
 

@@ -1,5 +1,4 @@
-use Rattle.std.proofs.Common.{◌∙◌}
-use Rattle.std.specs.Cmp.Lexicographic.{texts_ties}
+use Rattle.std.{proofs.Common.◌∙◌, specs.Cmp.Lexicographic.texts_ties}
 use Rattle.xa_server.proofs.association.is_same_bytes.Goals as goal
 
 pub returns : goal.returns

@@ -1,6 +1,5 @@
 use Rattle.std.proofs.Common.{ap, ◌∙◌}
-use Rattle.xa_server.specs.Tables.{opened_at}
-use Rattle.xa_server.proofs.Index.{one_place_more}
+use Rattle.xa_server.{specs.Tables.opened_at, proofs.Index.one_place_more}
 use Rattle.xa_server.proofs.branch_table.make_place.Goals as goal
 
 pub loop-session-preserved : goal.loop-session-preserved

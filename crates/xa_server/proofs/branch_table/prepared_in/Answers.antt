@@ -1,6 +1,5 @@
 use Rattle.std.proofs.Common.{[], ◌∷◌, ◌++◌, ap, sym, ◌∙◌, append-nil}
-use Rattle.xa_server.specs.Tables.{prepared_keys}
-use Rattle.xa_server.proofs.Sorted.{goes_in, stays_out}
+use Rattle.xa_server.{specs.Tables.prepared_keys, proofs.Sorted.{goes_in, stays_out}}
 use Rattle.xa_server.proofs.branch_table.prepared_in.Goals as goal
 
 pub loop-xid-init : goal.loop-xid-init

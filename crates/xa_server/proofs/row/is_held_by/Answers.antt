@@ -1,5 +1,4 @@
-use Rattle.std.proofs.Common.{ap, None}
-use Rattle.std.specs.Prelude.{is_some}
+use Rattle.std.{proofs.Common.{ap, None}, specs.Prelude.is_some}
 use Rattle.xa_server.proofs.Holders.{mode_of-lock}
 use Rattle.xa_server.proofs.row.is_held_by.Goals as goal
 

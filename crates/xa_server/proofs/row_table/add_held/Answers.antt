@@ -1,6 +1,5 @@
 use Rattle.std.proofs.Common.{sym, ◌∙◌}
-use Rattle.xa_server.specs.Layers.{held_as_below}
-use Rattle.xa_server.proofs.Layers.{put_one}
+use Rattle.xa_server.{specs.Layers.held_as_below, proofs.Layers.put_one}
 use Rattle.xa_server.proofs.row_table.add_held.Goals as goal
 
 pub returns : goal.returns

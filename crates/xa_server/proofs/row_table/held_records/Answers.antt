@@ -1,6 +1,5 @@
 use Rattle.std.proofs.Common.{rules}
-use Rattle.xa_server.specs.Layers.{held_as_below}
-use Rattle.xa_server.proofs.Layers.{puts_next, all_put}
+use Rattle.xa_server.{specs.Layers.held_as_below, proofs.Layers.{puts_next, all_put}}
 use Rattle.xa_server.proofs.row_table.held_records.Goals as goal
 
 pub loop-key-preserved : goal.loop-key-preserved

@@ -1,8 +1,6 @@
 use Rattle.std.proofs.Common.{sym, ap, ◌∙◌}
-use Rattle.xa_xid.specs.Xid.{bytes_cmp}
-use Rattle.xa_xid.proofs.Orders.{bytes_total, exact_texts}
-use Rattle.xa_server.proofs.Merging.{search_front, search_here, search_back}
-use Rattle.xa_server.specs.Packed.{seen}
+use Rattle.xa_xid.{specs.Xid.bytes_cmp, proofs.Orders.{bytes_total, exact_texts}}
+use Rattle.xa_server.{proofs.Merging.{search_front, search_here, search_back}, specs.Packed.seen}
 use Rattle.xa_server.proofs.run.find_in.Goals as goal
 
 pub loop-left-preserved-in-Less : goal.loop-left-preserved-in-Less

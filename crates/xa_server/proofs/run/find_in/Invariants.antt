@@ -1,5 +1,4 @@
-use Rattle.std.proofs.Common.{◌≡◌, true, length}
-use Rattle.std.specs.FinMap.{find, is_sorted}
+use Rattle.std.{proofs.Common.{◌≡◌, true, length}, specs.FinMap.{find, is_sorted}}
 use Rattle.xa_xid.specs.Xid.{bytes_cmp}
 use Rattle.xa_server.proofs.run.find_in.Given as goal
 

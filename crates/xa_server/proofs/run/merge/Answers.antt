@@ -1,7 +1,6 @@
 use Rattle.std.proofs.Common.{sym}
 use Rattle.xa_xid.specs.Xid.{bytes_cmp}
-use Rattle.xa_server.specs.Layers.{kept_write}
-use Rattle.xa_server.proofs.Merging.{adds_newer, adds_both, adds_older}
+use Rattle.xa_server.{specs.Layers.kept_write, proofs.Merging.{adds_newer, adds_both, adds_older}}
 use Rattle.xa_server.proofs.run.merge.Goals as goal
 
 pub loop-older-preserved-in-Less : goal.loop-older-preserved-in-Less

@@ -1,7 +1,6 @@
 use Rattle.std.proofs.Common.{◌≡◌, ◌++◌, ◌+◌, length}
 use Rattle.xa_xid.specs.Xid.{bytes_cmp}
-use Rattle.xa_server.specs.Layers.{kept_write, gathered}
-use Rattle.xa_server.specs.Merging.{merged}
+use Rattle.xa_server.specs.{Layers.{kept_write, gathered}, Merging.merged}
 use Rattle.xa_server.proofs.run.merge.Given as goal
 
 -- the rows so far, and those of what is left of both lists, are those of both

@@ -1,5 +1,4 @@
-use Rattle.std.proofs.Common.{◌≡◌, ◌++◌, map}
-use Rattle.std.specs.Vec.Iter.{into_iter_items}
+use Rattle.std.{proofs.Common.{◌≡◌, ◌++◌, map}, specs.Vec.Iter.into_iter_items}
 use Rattle.xa_server.specs.Parts.{all_rewritten, AllAscend}
 use Rattle.xa_server.proofs.runs.all_rewritten.Given as goal
 

@@ -1,5 +1,4 @@
-use Rattle.xa_server.proofs.Outcomes.{if_ok}
-use Rattle.xa_server.proofs.Parted.{part_with}
+use Rattle.xa_server.proofs.{Outcomes.if_ok, Parted.part_with}
 use Rattle.xa_server.proofs.runs.rewritten.Goals as goal
 
 pub returns : goal.returns

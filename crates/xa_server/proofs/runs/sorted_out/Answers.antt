@@ -1,7 +1,5 @@
-use Rattle.std.proofs.Common.{map, sym, ap, ◌∙◌, rules}
-use Rattle.std.proofs.lemmas.List.{length-map}
-use Rattle.xa_server.specs.Parts.{sorted_out}
-use Rattle.xa_server.proofs.Parted.{adds_row, joined, joined-none, none_left}
+use Rattle.std.proofs.{Common.{map, sym, ap, ◌∙◌, rules}, lemmas.List.length-map}
+use Rattle.xa_server.{specs.Parts.sorted_out, proofs.Parted.{adds_row, joined, joined-none, none_left}}
 use Rattle.xa_server.proofs.runs.sorted_out.Goals as goal
 
 pub loop-row-preserved-in-Continue-branch-2 : goal.loop-row-preserved-in-Continue-branch-2

@@ -1,7 +1,5 @@
-use Rattle.std.proofs.Common.{◌≡◌, length, map}
-use Rattle.std.specs.Vec.Iter.{into_iter_items}
-use Rattle.xa_server.specs.Parts.{sorted_out}
-use Rattle.xa_server.proofs.Parted.{joined}
+use Rattle.std.{proofs.Common.{◌≡◌, length, map}, specs.Vec.Iter.into_iter_items}
+use Rattle.xa_server.{specs.Parts.sorted_out, proofs.Parted.joined}
 use Rattle.xa_server.proofs.runs.sorted_out.Given as goal
 
 -- the lists so far, and what is left sorted out, are all

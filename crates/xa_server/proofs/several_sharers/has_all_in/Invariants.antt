@@ -1,6 +1,5 @@
-use Rattle.std.proofs.Common.{◌≡◌}
+use Rattle.std.{proofs.Common.◌≡◌, specs.List.list_all}
 use Rattle.std.specs.FinSet as set
-use Rattle.std.specs.List.{list_all}
 use Rattle.xa_server.proofs.several_sharers.has_all_in.Given as goal
 
 -- whether all that is left is here is whether all is

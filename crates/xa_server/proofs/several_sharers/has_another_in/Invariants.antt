@@ -1,5 +1,4 @@
-use Rattle.std.proofs.Common.{◌≡◌}
-use Rattle.std.specs.List.{list_any}
+use Rattle.std.{proofs.Common.◌≡◌, specs.List.list_any}
 use Rattle.xa_server.specs.Locks.{is_another}
 use Rattle.xa_server.proofs.several_sharers.has_another_in.Given as goal
 

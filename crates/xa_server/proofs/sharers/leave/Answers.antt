@@ -1,9 +1,7 @@
-use Rattle.std.proofs.Common.{ap, sym, ◌∙◌, [], ◌∷◌}
-use Rattle.std.specs.Prelude.{cond}
-use Rattle.std.specs.FinSet as set
+use Rattle.std.{proofs.Common.{ap, sym, ◌∙◌, [], ◌∷◌}, specs.Prelude.cond}
 use Rattle.xa_xid.specs.Xid.{same_xid}
-use Rattle.xa_server.specs.Sharers.{set_of}
-use Rattle.xa_server.proofs.Sharing.{listed, listed_left, one_left}
+use Rattle.xa_server.{specs.Sharers.set_of, proofs.Sharing.{listed, listed_left, one_left}}
+use Rattle.std.specs.FinSet as set
 use Rattle.xa_server.proofs.sharers.leave.Goals as goal
 
 pub returns-in-Nobody : goal.returns-in-Nobody

@@ -1,6 +1,6 @@
 use Rattle.std.proofs.Common.{◌≡◌}
-use Rattle.xa_session.proofs.whole.replayed.Given as goal
 use Rattle.xa_session.specs.Replay.{Stands}
+use Rattle.xa_session.proofs.whole.replayed.Given as goal
 
 abbrev pub invariant-loop-at : goal.invariant-loop-at
 invariant-loop-at g l =

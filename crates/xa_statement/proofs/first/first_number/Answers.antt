@@ -1,6 +1,5 @@
 use Rattle.xa_xid.specs.Literal.{literal_ahead}
-use Rattle.xa_statement.specs.Token.{part_of}
-use Rattle.xa_statement.proofs.Ways.{takes}
+use Rattle.xa_statement.{specs.Token.part_of, proofs.Ways.takes}
 use Rattle.xa_statement.proofs.first.first_number.Goals as goal
 
 pub returns : goal.returns

@@ -1,5 +1,4 @@
-use Rattle.xa_statement.specs.declared.token.Token.TheVariants.{Word}
-use Rattle.xa_statement.proofs.Ways.{takes}
+use Rattle.xa_statement.{specs.declared.token.Token.TheVariants.Word, proofs.Ways.takes}
 use Rattle.xa_statement.proofs.first.first_word.Goals as goal
 
 pub returns : goal.returns

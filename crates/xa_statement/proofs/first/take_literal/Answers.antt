@@ -1,6 +1,5 @@
 use Rattle.std.proofs.Common.{Some, None}
-use Rattle.xa_statement.specs.declared.token.Token.TheVariants.{Value}
-use Rattle.xa_statement.proofs.Ways.{takes}
+use Rattle.xa_statement.{specs.declared.token.Token.TheVariants.Value, proofs.Ways.takes}
 use Rattle.xa_statement.proofs.first.take_literal.Goals as goal
 
 pub returns-in-Some : goal.returns-in-Some

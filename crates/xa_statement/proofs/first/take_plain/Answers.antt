@@ -1,6 +1,5 @@
 use Rattle.std.proofs.Common.{ap, ◌∙◌}
-use Rattle.xa_statement.specs.Token.{token_at}
-use Rattle.xa_statement.proofs.Ways.{single_first, double_first}
+use Rattle.xa_statement.{specs.Token.token_at, proofs.Ways.{single_first, double_first}}
 use Rattle.xa_statement.proofs.first.take_plain.Goals as goal
 
 pub returns-in_ok-rest-in-Some-clause-token : goal.returns-in_ok-rest-in-Some-clause-token

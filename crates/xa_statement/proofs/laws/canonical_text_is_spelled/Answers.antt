@@ -1,6 +1,5 @@
 use Rattle.xa_statement.proofs.Canon.{start_spelled, end_spelled, prepare_spelled, commit_spelled, rollback_spelled}
-use Rattle.xa_statement.proofs.Canon.{recover_spelled, get_spelled, put_spelled}
-use Rattle.xa_statement.proofs.Canon.{del_spelled, disconnect_spelled}
+use Rattle.xa_statement.proofs.Canon.{recover_spelled, get_spelled, put_spelled, del_spelled, disconnect_spelled}
 use Rattle.xa_statement.proofs.laws.canonical_text_is_spelled.Goals as goal
 
 pub returns-in-Start : goal.returns-in-Start

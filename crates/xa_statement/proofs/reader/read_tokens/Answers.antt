@@ -1,7 +1,6 @@
 use Rattle.std.proofs.Common.{◌≡◌, ◌∙◌, sym, ap, length, ok_or}
 use Rattle.xa_xid.specs.Bytes.{unblank}
-use Rattle.xa_statement.specs.Token.{token_at}
-use Rattle.xa_statement.specs.Machine.{after_token}
+use Rattle.xa_statement.specs.{Token.token_at, Machine.after_token}
 use Rattle.xa_statement.proofs.Run.{read_start, read_step, read_stop, read_finish, rest-short, some_left, none_left}
 use Rattle.xa_statement.proofs.reader.read_tokens.Goals as goal
 

@@ -1,6 +1,4 @@
-use Rattle.xa_statement.specs.declared.state.State.TheVariants.{WantsGtrid}
-use Rattle.xa_statement.specs.Machine.{statement_of}
-use Rattle.xa_statement.proofs.Ways.{told_so}
+use Rattle.xa_statement.{specs.{declared.state.State.TheVariants.WantsGtrid, Machine.statement_of}, proofs.Ways.told_so}
 use Rattle.xa_statement.proofs.usual.read_branch.Goals as goal
 
 pub returns-in-Some : goal.returns-in-Some

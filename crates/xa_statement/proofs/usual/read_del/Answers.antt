@@ -1,7 +1,6 @@
 use Rattle.std.proofs.Common.{◌<◌, length, ap, rules}
 use Rattle.xa_xid.specs.declared.statement.Statement.TheVariants.{Del}
-use Rattle.xa_statement.specs.declared.state.State.TheVariants.{WantsKey}
-use Rattle.xa_statement.specs.declared.state.RowVerb.TheVariants.{Deletes}
+use Rattle.xa_statement.specs.declared.state.{State.TheVariants.WantsKey, RowVerb.TheVariants.Deletes}
 use Rattle.xa_statement.proofs.Ways.{told_so, del_leads}
 use Rattle.xa_statement.proofs.usual.read_del.Goals as goal
 

@@ -1,6 +1,5 @@
 use Rattle.std.proofs.Common.{◌∙◌}
-use Rattle.xa_statement.specs.declared.state.State.TheVariants.{AfterXa, WantsGtrid}
-use Rattle.xa_statement.proofs.Ways.{goes_word}
+use Rattle.xa_statement.{specs.declared.state.State.TheVariants.{AfterXa, WantsGtrid}, proofs.Ways.goes_word}
 use Rattle.xa_statement.proofs.usual.read_xa.Goals as goal
 
 pub read_branch-requires : goal.read_branch-requires

@@ -1,7 +1,6 @@
 use Rattle.std.proofs.Common.{ap}
 use Rattle.xa_xid.specs.declared.xid.Xid.{Xid}
-use Rattle.xa_statement.specs.declared.state.State.TheVariants.{WantsBqual, WantsFormatId}
-use Rattle.xa_statement.specs.Machine.{statement_of}
+use Rattle.xa_statement.specs.{declared.state.State.TheVariants.{WantsBqual, WantsFormatId}, Machine.statement_of}
 use Rattle.xa_statement.proofs.Ways.{bqual_goes, bqual_said, goes_then}
 use Rattle.xa_statement.proofs.usual.take_bqual.Goals as goal
 

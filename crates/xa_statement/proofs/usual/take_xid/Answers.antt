@@ -1,7 +1,6 @@
 use Rattle.std.proofs.Common.{ap}
 use Rattle.xa_xid.specs.declared.xid.Xid.{Xid}
-use Rattle.xa_statement.specs.declared.state.State.TheVariants.{WantsGtrid, WantsBqual}
-use Rattle.xa_statement.specs.Machine.{statement_of}
+use Rattle.xa_statement.specs.{declared.state.State.TheVariants.{WantsGtrid, WantsBqual}, Machine.statement_of}
 use Rattle.xa_statement.proofs.Ways.{gtrid_goes, gtrid_said, goes_then}
 use Rattle.xa_statement.proofs.usual.take_xid.Goals as goal
 

@@ -1,9 +1,6 @@
 use Rattle.std.proofs.Common.{◌+◌, ◌<◌, ◌≤◌, true, List, [], ◌∷◌, ◌++◌, length, take, refl, ap, sym, ◌∙◌, subst, rules}
-use Rattle.std.proofs.Common.{arith}
-use Rattle.std.proofs.lemmas.List.{take_all, take_more}
-use Rattle.std.proofs.lemmas.Option.{slice_get_read}
-use Rattle.xa_session.specs.Answer.{IsAnswered}
-use Rattle.xa_session.specs.declared.answer.Answer.{Answer}
+use Rattle.std.proofs.{Common.arith, lemmas.{List.{take_all, take_more}, Option.slice_get_read}}
+use Rattle.xa_session.specs.{Answer.IsAnswered, declared.answer.Answer.Answer}
 use Rattle.xa_store.proofs.Legality.{IsOnTheWay, sets_out, goes_on, lets_in_more, no_further, stops}
 use Rattle.xa_store.specs.Legal.{IsLegal, Halts, GoesNoFurther, Stops}
 use Rattle.xa_store.proofs.answering.answers_to.Goals as goal

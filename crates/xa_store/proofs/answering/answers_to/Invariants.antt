@@ -1,6 +1,5 @@
 use Rattle.std.proofs.Common.{◌≡◌, ◌≤◌, take, length, vec_len, vec_capacity}
-use Rattle.xa_store.specs.Legal.{LetsIn}
-use Rattle.xa_store.proofs.Legality.{IsOnTheWay}
+use Rattle.xa_store.{specs.Legal.LetsIn, proofs.Legality.IsOnTheWay}
 use Rattle.xa_store.proofs.answering.answers_to.Given as goal
 
 abbrev pub invariant-loop-index : goal.invariant-loop-index

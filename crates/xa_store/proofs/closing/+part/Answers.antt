@@ -1,7 +1,5 @@
 use Rattle.std.proofs.Common.{◌≡◌, ◌∙◌, [], ◌∷◌, ◌++◌, length, map, refl, ap, sym, Option, Some, None, arith}
-use Rattle.std.specs.Prelude.{MatchOption}
-use Rattle.std.proofs.lemmas.List.{map-append, nil_from_length}
-use Rattle.std.proofs.lemmas.Result.{IfOk-weaker}
+use Rattle.std.{proofs.lemmas.{List.{map-append, nil_from_length}, Result.IfOk-weaker}, specs.Prelude.MatchOption}
 use Rattle.xa_store.proofs.Spreading.{when_ok}
 use Rattle.xa_store.proofs.closing.+part.Goals as goal
 

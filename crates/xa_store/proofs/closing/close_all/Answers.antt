@@ -1,9 +1,5 @@
-use Rattle.std.proofs.Common.{◌≡◌, ◌∙◌, map, ap, sym, subst}
-use Rattle.std.specs.List.{All}
-use Rattle.std.proofs.lemmas.List.Elements.{All-map}
-use Rattle.xa_store.specs.Closed.{HasClosed}
-use Rattle.xa_store.specs.Passes.{identity_of, log_of}
-use Rattle.xa_store.proofs.Leaves.{closes}
+use Rattle.std.{proofs.{Common.{◌≡◌, ◌∙◌, map, ap, sym, subst}, lemmas.List.Elements.All-map}, specs.List.All}
+use Rattle.xa_store.{specs.{Closed.HasClosed, Passes.{identity_of, log_of}}, proofs.Leaves.closes}
 use Rattle.xa_store.proofs.Spreading.{map_twice}
 use Rattle.xa_store.proofs.closing.close_all.Goals as goal
 

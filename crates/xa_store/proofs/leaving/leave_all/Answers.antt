@@ -1,5 +1,4 @@
-use Rattle.std.proofs.Common.{◌≡◌, ◌<◌, ◌∙◌, length, get_or, arith}
-use Rattle.std.proofs.lemmas.Iterator.Adapters.{YieldsList-from_vec}
+use Rattle.std.proofs.{Common.{◌≡◌, ◌<◌, ◌∙◌, length, get_or, arith}, lemmas.Iterator.Adapters.YieldsList-from_vec}
 use Rattle.std.proofs.lemmas.Iterator.Consumers.{YieldsList-turn}
 use Rattle.xa_store.proofs.leaving.leave_all.Goals as goal
 

@@ -1,6 +1,5 @@
 use Rattle.std.proofs.Common.{◌≡◌, ◌∙◌, sym, arith}
-use Rattle.decision_log.specs.Calls.{MeetsFirst}
-use Rattle.decision_log.proofs.Histories.{begins_itself}
+use Rattle.decision_log.{specs.Calls.MeetsFirst, proofs.Histories.begins_itself}
 use Rattle.xa_store.proofs.Gathering.{meets_again, keeps_again, looks_keeps, zip_through, all_kept}
 use Rattle.xa_store.proofs.meeting.meet_all.Goals as goal
 

@@ -1,6 +1,5 @@
-use Rattle.std.proofs.Common.{◌≡◌, ◌<◌, length, refl, ap, sym, subst, ◌∙◌, arith}
+use Rattle.std.proofs.{Common.{◌≡◌, ◌<◌, length, refl, ap, sym, subst, ◌∙◌, arith}, lemmas.List.length-set}
 use Rattle.std.proofs.lemmas.List.Elements.{All-set}
-use Rattle.std.proofs.lemmas.List.{length-set}
 use Rattle.decision_log.specs.Calls.{MeetsFirst, MeetsSecond}
 use Rattle.xa_store.proofs.Gathering.{meets_nobody, meets_again, no_round, next_round}
 use Rattle.xa_store.proofs.meeting.meet_each.Goals as goal

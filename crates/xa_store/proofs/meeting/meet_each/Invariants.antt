@@ -1,5 +1,4 @@
-use Rattle.std.proofs.Common.{◌≡◌, length, vec_capacity}
-use Rattle.std.specs.List.{All}
+use Rattle.std.{proofs.Common.{◌≡◌, length, vec_capacity}, specs.List.All}
 use Rattle.decision_log.specs.Calls.{MeetsFirst}
 use Rattle.xa_store.proofs.Gathering.{Round}
 use Rattle.xa_store.proofs.meeting.meet_each.Given as goal

@@ -1,9 +1,6 @@
-use Rattle.std.proofs.Common.{◌≡◌, Some, rules}
-use Rattle.std.proofs.lemmas.List.Elements.{All-pop}
-use Rattle.std.proofs.lemmas.Result.{IfOk-weaker}
+use Rattle.std.proofs.{Common.{◌≡◌, Some, rules}, lemmas.{List.Elements.All-pop, Result.IfOk-weaker}}
 use Rattle.std.proofs.lemmas.Slice.Zip.{all_zipped_more}
-use Rattle.xa_store.specs.Passes.{identity_of, log_of}
-use Rattle.xa_store.proofs.Spreading.{when_ok}
+use Rattle.xa_store.{specs.Passes.{identity_of, log_of}, proofs.Spreading.when_ok}
 use Rattle.xa_store.proofs.racing.+start_all.Goals as goal
 
 pub start-requires : goal.start-requires

@@ -1,14 +1,8 @@
 use Rattle.std.proofs.Common.{◌≡◌, length, map, refl, ap, sym, subst, ◌∙◌, ⊎_elim, rules}
-use Rattle.std.specs.List.{AllZip}
-use Rattle.std.proofs.lemmas.List.Elements.{All-from_recursion, recursion_from_All}
-use Rattle.xa_store.specs.Passes.{identity_of, log_of, known_of}
-use Rattle.xa_store.specs.Closed.{HasLeft}
-use Rattle.xa_store.specs.Legal.{IsLegal, IsReturned, LetsIn, Stops, Blames}
-use Rattle.xa_store.specs.Spread.{HasAnswered}
-use Rattle.xa_store.specs.declared.run.Run.{Run}
-use Rattle.xa_store.specs.Lowest.{TellsLowest}
-use Rattle.xa_store.proofs.Races.{legal_in, blames}
-use Rattle.xa_store.proofs.Telling.{tells}
+use Rattle.std.{proofs.lemmas.List.Elements.{All-from_recursion, recursion_from_All}, specs.List.AllZip}
+use Rattle.xa_store.specs.{Passes.{identity_of, log_of, known_of}, Closed.HasLeft, Lowest.TellsLowest}
+use Rattle.xa_store.specs.{Legal.{IsLegal, IsReturned, LetsIn, Stops, Blames}, Spread.HasAnswered, declared.run.Run.Run}
+use Rattle.xa_store.proofs.{Races.{legal_in, blames}, Telling.tells}
 use Rattle.xa_store.proofs.Spreading.{zip_chain, zip_ended, zip_first, zip_all, zip_unmapped, zip_get, map_twice}
 use Rattle.xa_store.proofs.racing.race.Goals as goal
 

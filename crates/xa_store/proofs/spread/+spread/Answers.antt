@@ -1,10 +1,7 @@
-use Rattle.std.proofs.Common.{◌≡◌, Err, refl, ap, sym, ◌∙◌, subst, inl, inr, ⊎_elim}
-use Rattle.std.specs.Result.{IfOk, IfErr}
-use Rattle.std.proofs.lemmas.Result.{IfOk-weaker, IfErr-weaker}
-use Rattle.std.proofs.lemmas.Slice.Zip.{all_zipped_more}
-use Rattle.xa_store.proofs.Spreading.{when_ok, when_err, stopped_before, stopped_last}
+use Rattle.std.{proofs.Common.{◌≡◌, Err, refl, ap, sym, ◌∙◌, subst, inl, inr, ⊎_elim}, specs.Result.{IfOk, IfErr}}
+use Rattle.std.proofs.lemmas.{Result.{IfOk-weaker, IfErr-weaker}, Slice.Zip.all_zipped_more}
+use Rattle.xa_store.proofs.{Spreading.{when_ok, when_err, stopped_before, stopped_last}, Telling.told_more}
 use Rattle.xa_store.specs.declared.race_fault.RaceFault.TheVariants.{ThreadRefused}
-use Rattle.xa_store.proofs.Telling.{told_more}
 use Rattle.xa_store.proofs.spread.+spread.Goals as goal
 
 pub returns-in-Ok-clause-ok : goal.returns-in-Ok-clause-ok

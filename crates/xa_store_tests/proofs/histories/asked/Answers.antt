@@ -1,6 +1,5 @@
 use Rattle.std.proofs.Common.{◌≡◌, ◌∙◌}
-use Rattle.xa_store.specs.Passes.{identity_of, log_of, known_of}
-use Rattle.xa_store.specs.Gathered.{AddsNothing}
+use Rattle.xa_store.specs.{Passes.{identity_of, log_of, known_of}, Gathered.AddsNothing}
 use Rattle.xa_store_tests.proofs.Kept.{all_kept}
 use Rattle.xa_store_tests.proofs.histories.asked.Goals as goal
 

@@ -1,7 +1,5 @@
-use Rattle.std.proofs.Common.{◌≡◌, ◌∙◌, arith}
-use Rattle.std.proofs.lemmas.List.Elements.{length_all_zip}
-use Rattle.xa_store.specs.Passes.{identity_of, log_of, known_of}
-use Rattle.xa_store.specs.Gathered.{AddsNothing}
+use Rattle.std.proofs.{Common.{◌≡◌, ◌∙◌, arith}, lemmas.List.Elements.length_all_zip}
+use Rattle.xa_store.specs.{Passes.{identity_of, log_of, known_of}, Gathered.AddsNothing}
 use Rattle.xa_store_tests.proofs.Kept.{all_kept}
 use Rattle.xa_store_tests.proofs.renewal.leaving.Goals as goal
 

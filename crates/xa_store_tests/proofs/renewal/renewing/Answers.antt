@@ -1,5 +1,4 @@
-use Rattle.std.proofs.Common.{◌≡◌, ◌∙◌, sym, subst}
-use Rattle.std.specs.List.{All}
+use Rattle.std.{proofs.Common.{◌≡◌, ◌∙◌, sym, subst}, specs.List.All}
 use Rattle.xa_store.specs.Passes.{identity_of, log_of, known_of}
 use Rattle.xa_store_tests.proofs.Kept.{all_kept}
 use Rattle.xa_store_tests.proofs.renewal.renewing.Goals as goal

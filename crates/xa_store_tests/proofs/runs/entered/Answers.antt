@@ -1,6 +1,5 @@
 use Rattle.std.proofs.Common.{◌≡◌, List, [], ◌∷◌, map, sym, subst}
-use Rattle.std.specs.List.{All}
-use Rattle.std.proofs.lemmas.List.Elements.{All-head, All-tail, All-cons, All-nil}
+use Rattle.std.{proofs.lemmas.List.Elements.{All-head, All-tail, All-cons, All-nil}, specs.List.All}
 use Rattle.xa_store.specs.Passes.{identity_of, log_of}
 use Rattle.xa_store_tests.proofs.runs.entered.Goals as goal
 

@@ -1,5 +1,4 @@
-use Rattle.std.proofs.Common.{◌≡◌, Some}
-use Rattle.std.proofs.lemmas.List.Elements.{All-pop}
+use Rattle.std.proofs.{Common.{◌≡◌, Some}, lemmas.List.Elements.All-pop}
 use Rattle.xa_store.specs.Passes.{identity_of, log_of}
 use Rattle.xa_store_tests.proofs.stores.last_pass.Goals as goal
 

@@ -1,5 +1,4 @@
-use Rattle.std.proofs.Common.{arith}
-use Rattle.std.proofs.lemmas.Bool.{leb-true}
+use Rattle.std.proofs.{Common.arith, lemmas.Bool.leb-true}
 use Rattle.xa_words.proofs.Behind.{behind_first, behind_second}
 use Rattle.xa_words.proofs.layout.is_behind_text.Goals as goal
 

@@ -1,6 +1,5 @@
 use Rattle.std.proofs.Common.{◌≡◌, rules, arith, sym, ap}
-use Rattle.xa_words.specs.Words.{text_word}
-use Rattle.xa_words.proofs.Texts.{past_the_end}
+use Rattle.xa_words.{specs.Words.text_word, proofs.Texts.past_the_end}
 use Rattle.xa_words.proofs.layout.text_word.Goals as goal
 
 pub returns-then-text-place : goal.returns-then-text-place

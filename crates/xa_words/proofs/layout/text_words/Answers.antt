@@ -1,6 +1,5 @@
 use Rattle.std.proofs.Common.{◌≡◌, ◌≤◌, ℕ, List, [], ◌∷◌, length, arith}
-use Rattle.xa_words.specs.Words.{text_word, text_words}
-use Rattle.xa_words.proofs.Texts.{past_the_end}
+use Rattle.xa_words.{specs.Words.{text_word, text_words}, proofs.Texts.past_the_end}
 use Rattle.xa_words.proofs.layout.text_words.Goals as goal
 
 -- a text of at most eight bytes fills one word

@@ -1,6 +1,5 @@
 use Rattle.std.proofs.Common.{◌≡◌, ap, sym, ◌∙◌, arith, Some}
-use Rattle.xa_words.specs.Words.{parts_of}
-use Rattle.xa_words.proofs.KindTable.{within, one_statement}
+use Rattle.xa_words.{specs.Words.parts_of, proofs.KindTable.{within, one_statement}}
 use Rattle.xa_words.proofs.Spelling.{pieces_of, parts_read, entry_by}
 use Rattle.xa_words.proofs.reading.read_back.Goals as goal
 

@@ -1,6 +1,5 @@
 use Rattle.std.proofs.Common.{◌≡◌, ◌<◌, ◌+◌, ◌*◌, ◌++◌, ℕ, ap, sym, ◌∙◌, arith, length, get_or}
-use Rattle.std.proofs.lemmas.List.{length-append, take_all}
-use Rattle.std.specs.Int.{w64, to_be_bytes}
+use Rattle.std.{proofs.lemmas.List.{length-append, take_all}, specs.Int.{w64, to_be_bytes}}
 use Rattle.xa_words.proofs.Texts.{one_word_more}
 use Rattle.xa_words.proofs.reading.whole_words.Goals as goal
 

@@ -1,6 +1,5 @@
 use Rattle.xa_xid.proofs.Identifiers.{read_faulty_xid, faulty_xid_read}
-use Rattle.xa_xid.proofs.Numerals.{read_faulty_number, faulty_number_read}
-use Rattle.xa_xid.proofs.Spelled.{read_faulty, faulty_read}
+use Rattle.xa_xid.proofs.{Numerals.{read_faulty_number, faulty_number_read}, Spelled.{read_faulty, faulty_read}}
 use Rattle.xa_xid.proofs.laws.faults_are_the_table.Goals as goal
 
 pub returns : goal.returns

@@ -1,6 +1,4 @@
-use Rattle.xa_xid.proofs.Identifiers.{one_text}
-use Rattle.xa_xid.proofs.Spelled.{read_spelled}
-use Rattle.xa_xid.proofs.Spelling.{spelled_read}
+use Rattle.xa_xid.proofs.{Identifiers.one_text, Spelled.read_spelled, Spelling.spelled_read}
 use Rattle.xa_xid.proofs.laws.literals_are_read_as_spelled.Goals as goal
 
 pub returns : goal.returns

@@ -1,5 +1,4 @@
-use Rattle.xa_xid.specs.Xid.{bytes_cmp}
-use Rattle.xa_xid.proofs.Orders.{bytes_total, exact_texts, ties_exactly}
+use Rattle.xa_xid.{specs.Xid.bytes_cmp, proofs.Orders.{bytes_total, exact_texts, ties_exactly}}
 use Rattle.xa_xid.proofs.laws.order_of_keys.Goals as goal
 
 pub returns-clause-ties : goal.returns-clause-ties

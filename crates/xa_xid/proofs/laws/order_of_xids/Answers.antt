@@ -1,5 +1,4 @@
-use Rattle.xa_xid.specs.Xid.{xid_cmp}
-use Rattle.xa_xid.proofs.Orders.{xids_total, exact_xids, ties_exactly}
+use Rattle.xa_xid.{specs.Xid.xid_cmp, proofs.Orders.{xids_total, exact_xids, ties_exactly}}
 use Rattle.xa_xid.proofs.laws.order_of_xids.Goals as goal
 
 pub returns-clause-ties : goal.returns-clause-ties

@@ -1,5 +1,4 @@
-use Rattle.std.proofs.Common.{◌+◌, ◌*◌, ◌≤◌, ◌<◌, get_or, arith, ◌≡◌, ◌∙◌, refl}
-use Rattle.std.specs.Char.{digit_value}
+use Rattle.std.{proofs.Common.{◌+◌, ◌*◌, ◌≤◌, ◌<◌, get_or, arith, ◌≡◌, ◌∙◌, refl}, specs.Char.digit_value}
 use Rattle.xa_xid.proofs.Numbers.{Reached, reached_none, reached_more, reached_all, reached_past}
 use Rattle.xa_xid.proofs.number.value_in.Goals as goal
 

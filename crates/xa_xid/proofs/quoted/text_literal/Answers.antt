@@ -1,16 +1,11 @@
-use Rattle.std.proofs.Common.{get_or, ◌∷◌, [], ap, inl, inr}
-use Rattle.std.proofs.Math.Nat.{le_refl}
-use Rattle.std.proofs.lemmas.List.{drop_all}
-use Rattle.xa_xid.specs.Literal.{text_literal_of}
-use Rattle.xa_xid.specs.Quoted.{escaped}
-use Rattle.xa_xid.specs.declared.quoted.Mode.TheVariants.{Plain, Escape, Quote}
-use Rattle.xa_xid.proofs.Reading.{read_none, read_mark, read_more, read_closed, read_ended, read_plain_end}
-use Rattle.xa_xid.proofs.Reading.{read_escape_end, plain_quote, plain_backslash}
-use Rattle.xa_xid.proofs.Reading.{plain_byte, escape_letter, quote_again}
-use Rattle.xa_xid.proofs.quoted.text_literal.Goals as goal
+use Rattle.std.proofs.{Common.{get_or, ◌∷◌, [], ap, inl, inr}, Math.Nat.le_refl, lemmas.List.drop_all}
+use Rattle.xa_xid.{specs.{Literal.text_literal_of, Quoted.escaped, declared.quoted.Mode.Mode}, proofs.Reading.read_none}
+use Rattle.xa_xid.proofs.Reading.{read_mark, read_more, read_closed, read_ended, read_plain_end, read_escape_end}
+use Rattle.xa_xid.proofs.Reading.{plain_quote, plain_backslash, plain_byte, escape_letter, quote_again}
 use Rattle.xa_xid.proofs.quoted.text_literal.Goals.{in-Plain+then-byte-quote, in-Plain+else-byte-quote+then-byte-eq92}
-use Rattle.xa_xid.proofs.quoted.text_literal.Goals.{in-Plain+else-byte-quote+else-byte-eq92}
-use Rattle.xa_xid.proofs.quoted.text_literal.Goals.{in-Escape, in-Quote+else-byte-quote-2}
+use Rattle.xa_xid.proofs.quoted.text_literal.Goals.{in-Plain+else-byte-quote+else-byte-eq92, in-Escape}
+use Rattle.xa_xid.proofs.quoted.text_literal.Goals.{in-Quote+else-byte-quote-2}
+use Rattle.xa_xid.proofs.quoted.text_literal.Goals as goal
 
 pub loop-i-init : goal.loop-i-init
 loop-i-init c = read_none c.args.quote c.args.body.now c.new-kept.result.bytes c.new-kept.ensures
@@ -24,27 +19,27 @@ loop-i-preserved c =
     elim c.match-mode.branch [
       | in-Plain+then-byte-quote w ↦
           rw (w.mode-is, w.kept-is)
-          (read_mark quote body Plain Quote _ place c.loop-i-test.true
+          (read_mark quote body Mode.Plain Mode.Quote _ place c.loop-i-test.true
           (λ rest. plain_quote quote byte rest w.if-byte-quote.true)
           (rw w.in-Plain.is at c.loop-i.invariant))
       | in-Plain+else-byte-quote+then-byte-eq92 w ↦
           rw (w.mode-is, w.kept-is)
-          (read_mark quote body Plain Escape _ place c.loop-i-test.true
+          (read_mark quote body Mode.Plain Mode.Escape _ place c.loop-i-test.true
           (λ rest. plain_backslash quote byte rest w.if-byte-quote.false w.if-byte-eq92.true)
           (rw w.in-Plain.is at c.loop-i.invariant))
       | in-Plain+else-byte-quote+else-byte-eq92 w ↦
           rw (w.mode-is, w.in-Plain.is, w.kept-is)
-          (read_more quote body Plain Plain _ _ place (byte ∷ []) c.loop-i-test.true
+          (read_more quote body Mode.Plain Mode.Plain _ _ place (byte ∷ []) c.loop-i-test.true
           (λ rest. plain_byte quote byte rest w.if-byte-quote.false w.if-byte-eq92.false) w.add.ensures
           (rw w.in-Plain.is at c.loop-i.invariant))
       | in-Escape w ↦
           rw (w.mode-is, w.kept-is)
-          (read_more quote body Escape Plain _ _ place (escaped byte) c.loop-i-test.true
+          (read_more quote body Mode.Escape Mode.Plain _ _ place (escaped byte) c.loop-i-test.true
           (λ rest. escape_letter quote byte rest) w.add_escaped.ensures
           (rw w.in-Escape.is at c.loop-i.invariant))
       | in-Quote+else-byte-quote-2 w ↦
           rw (w.mode-is, w.kept-is)
-          (read_more quote body Quote Plain _ _ place (quote ∷ []) c.loop-i-test.true
+          (read_more quote body Mode.Quote Mode.Plain _ _ place (quote ∷ []) c.loop-i-test.true
           (λ rest. quote_again quote byte rest w.if-byte-quote-2.false) w.add-in-Quote.ensures
           (rw w.in-Quote.is at c.loop-i.invariant))
     ]

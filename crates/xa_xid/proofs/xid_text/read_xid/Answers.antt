@@ -1,6 +1,5 @@
 use Rattle.std.proofs.Common.{◌∙◌, ap, Ok, Err}
-use Rattle.xa_xid.specs.Bytes.{unblank}
-use Rattle.xa_xid.proofs.Places.{xid_between, between_xid, xid_fault_between, between_xid_fault}
+use Rattle.xa_xid.{specs.Bytes.unblank, proofs.Places.{xid_between, between_xid, xid_fault_between, between_xid_fault}}
 use Rattle.xa_xid.proofs.xid_text.read_xid.Goals as goal
 
 pub returns-in-Ok-clause-spelled : goal.returns-in-Ok-clause-spelled

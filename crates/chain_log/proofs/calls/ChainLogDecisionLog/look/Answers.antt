@@ -1,7 +1,6 @@
 use Rattle.std.proofs.Common.{refl}
 use Rattle.decision_log.specs.Seats.{pass_view}
-use Rattle.chain_log.specs.ChainTransitions.{with_look}
-use Rattle.chain_log.proofs.PassColumns.{own_count, kept_before}
+use Rattle.chain_log.{specs.ChainTransitions.with_look, proofs.PassColumns.{own_count, kept_before}}
 use Rattle.chain_log.proofs.calls.ChainLogDecisionLog.look.Goals as goal
 
 pub fill-requires-clause-kept : goal.fill-requires-clause-kept

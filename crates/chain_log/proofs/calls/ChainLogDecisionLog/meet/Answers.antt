@@ -1,8 +1,6 @@
 use Rattle.std.proofs.Common.{refl}
-use Rattle.decision_log.specs.Seats.{pass_view}
-use Rattle.decision_log.specs.Observed.{met}
-use Rattle.chain_log.proofs.PassColumns.{own_count, kept_before}
-use Rattle.chain_log.proofs.ChainSeats.{keeps_seats}
+use Rattle.decision_log.specs.{Seats.pass_view, Observed.met}
+use Rattle.chain_log.proofs.{PassColumns.{own_count, kept_before}, ChainSeats.keeps_seats}
 use Rattle.chain_log.proofs.calls.ChainLogDecisionLog.meet.Goals as goal
 
 pub meet-newest-requires-clause-rule : goal.meet-newest-requires-clause-rule

@@ -1,8 +1,6 @@
 use Rattle.std.proofs.Common.{ap, sym, subst, ◌∙◌}
-use Rattle.decision_log.specs.History.{Begins}
-use Rattle.decision_log.specs.Seats.{pass_view}
-use Rattle.chain_log.specs.ChainTransitions.{lost}
-use Rattle.chain_log.proofs.PassColumns.{own_count, kept_before, kept_after}
+use Rattle.decision_log.specs.{History.Begins, Seats.pass_view}
+use Rattle.chain_log.{specs.ChainTransitions.lost, proofs.PassColumns.{own_count, kept_before, kept_after}}
 use Rattle.chain_log.proofs.calls.ChainLogDecisionLog.try_add.Goals as goal
 
 pub fill-requires-clause-kept : goal.fill-requires-clause-kept

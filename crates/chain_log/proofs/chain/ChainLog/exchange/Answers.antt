@@ -1,8 +1,6 @@
 use Rattle.std.proofs.Common.{length, ap, ◌∙◌, sym}
 use Rattle.decision_log.specs.Seats.{pass_view_of}
-use Rattle.chain_log.specs.Cells.{name_at}
-use Rattle.chain_log.specs.ChainRule.{newest_for}
-use Rattle.chain_log.proofs.ChainStores.{exchange_step}
+use Rattle.chain_log.{specs.{Cells.name_at, ChainRule.newest_for}, proofs.ChainStores.exchange_step}
 use Rattle.chain_log.proofs.Names.{newest_added}
 use Rattle.chain_log.proofs.chain.ChainLog.exchange.Goals as goal
 

@@ -1,13 +1,8 @@
 use Rattle.std.proofs.Common.{◌≡◌, ℕ, ◌+◌, ◌-◌, ◌<◌, ◌≤◌, List, length, ap, ◌∙◌, arith, sym, subst, refl}
 use Rattle.xa_words.specs.Entry.{Entry}
-use Rattle.decision_log.specs.Known.{AllOf}
-use Rattle.decision_log.specs.declared.view.PassView.{PassView}
-use Rattle.decision_log.specs.Seats.{pass_view}
-use Rattle.chain_log.specs.declared.chain.ChainLog.{ChainLog}
-use Rattle.chain_log.specs.Cells.{name_at, session_at, name_before, newest_of}
-use Rattle.chain_log.specs.ChainSeat.{IsOurs}
-use Rattle.decision_log.proofs.Histories.{there}
-use Rattle.chain_log.proofs.Names.{name_low}
+use Rattle.decision_log.{specs.{Known.AllOf, declared.view.PassView.PassView, Seats.pass_view}, proofs.Histories.there}
+use Rattle.chain_log.specs.{declared.chain.ChainLog.ChainLog, Cells.{name_at, session_at, name_before, newest_of}}
+use Rattle.chain_log.{specs.ChainSeat.IsOurs, proofs.Names.name_low}
 use Rattle.chain_log.proofs.KeptColumns.{column_here, filling_first, filling_next, filling_last}
 use Rattle.chain_log.proofs.chain.ChainLog.fill.Goals as goal
 

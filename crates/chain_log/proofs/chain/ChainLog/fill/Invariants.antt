@@ -1,8 +1,6 @@
 use Rattle.std.proofs.Common.{◌≡◌, length}
 use Rattle.decision_log.specs.Seats.{pass_view}
-use Rattle.chain_log.specs.Cells.{name_before}
-use Rattle.chain_log.specs.ChainSeat.{IsSeat}
-use Rattle.chain_log.proofs.KeptColumns.{IsFilling}
+use Rattle.chain_log.{specs.{Cells.name_before, ChainSeat.IsSeat}, proofs.KeptColumns.IsFilling}
 use Rattle.chain_log.proofs.chain.ChainLog.fill.Given as goal
 
 abbrev pub invariant-loop-row : goal.invariant-loop-row

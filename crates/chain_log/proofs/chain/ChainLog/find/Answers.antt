@@ -1,9 +1,6 @@
-use Rattle.std.proofs.Common.{◌≡◌, ℕ, ◌<◌, length, get_or, ap, ◌∙◌, arith}
-use Rattle.std.proofs.lemmas.List.{get_or_read}
-use Rattle.decision_log.specs.Known.{LogIdentity}
-use Rattle.decision_log.specs.Seats.{pass_view}
-use Rattle.chain_log.specs.declared.pass.ChainPass.{ChainPass}
-use Rattle.chain_log.specs.Cells.{session_at}
+use Rattle.std.proofs.{Common.{◌≡◌, ℕ, ◌<◌, length, get_or, ap, ◌∙◌, arith}, lemmas.List.get_or_read}
+use Rattle.decision_log.specs.{Known.LogIdentity, Seats.pass_view}
+use Rattle.chain_log.specs.{declared.pass.ChainPass.ChainPass, Cells.session_at}
 use Rattle.chain_log.proofs.KeptColumns.{name_by_column, session_ranged}
 use Rattle.chain_log.proofs.chain.ChainLog.find.Goals as goal
 

@@ -1,8 +1,6 @@
 use Rattle.std.proofs.Common.{◌+◌, ap, ◌∙◌, arith}
 use Rattle.decision_log.specs.Seats.{pass_view_of}
-use Rattle.chain_log.specs.Cells.{cell_at}
-use Rattle.chain_log.proofs.ChainStores.{find_step}
-use Rattle.chain_log.proofs.Ours.{own_name}
+use Rattle.chain_log.{specs.Cells.cell_at, proofs.{ChainStores.find_step, Ours.own_name}}
 use Rattle.chain_log.proofs.chain.ChainLog.find_blank.Goals as goal
 
 pub load-requires-clause-word : goal.load-requires-clause-word

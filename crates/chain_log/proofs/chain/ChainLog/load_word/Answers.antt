@@ -1,9 +1,6 @@
 use Rattle.std.proofs.Common.{◌+◌, ap, ◌∙◌, arith}
 use Rattle.decision_log.specs.Seats.{pass_view_of}
-use Rattle.chain_log.specs.Cells.{cell_at}
-use Rattle.chain_log.proofs.ChainSteps.{read_step}
-use Rattle.chain_log.proofs.Names.{name_next_one}
-use Rattle.chain_log.proofs.Ours.{seen_name}
+use Rattle.chain_log.{specs.Cells.cell_at, proofs.{ChainSteps.read_step, Names.name_next_one, Ours.seen_name}}
 use Rattle.chain_log.proofs.chain.ChainLog.load_word.Goals as goal
 
 pub cell_start-requires-clause-low : goal.cell_start-requires-clause-low

@@ -1,10 +1,7 @@
 use Rattle.std.proofs.Common.{◌≡◌, ℕ, ◌+◌, ◌<◌, List, ◌∷◌, Some, length, get_or, arith, one-add, sym, ap, ◌∙◌, subst}
-use Rattle.std.specs.Prelude.{slice_get, slice_index}
-use Rattle.std.proofs.lemmas.List.{length-set, ext_get_or}
-use Rattle.xa_words.specs.Words.{words_of}
-use Rattle.xa_words.proofs.Spelling.{length-words_of}
-use Rattle.decision_log.specs.Seats.{pass_view}
-use Rattle.decision_log.proofs.Drafts.{one_more}
+use Rattle.std.{proofs.lemmas.List.{length-set, ext_get_or}, specs.Prelude.{slice_get, slice_index}}
+use Rattle.xa_words.{specs.Words.words_of, proofs.Spelling.length-words_of}
+use Rattle.decision_log.{specs.Seats.pass_view, proofs.Drafts.one_more}
 use Rattle.chain_log.specs.Cells.{name_before}
 use Rattle.chain_log.proofs.chain.ChainLog.read_cell.Goals as goal
 

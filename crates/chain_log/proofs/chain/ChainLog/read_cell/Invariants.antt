@@ -1,10 +1,7 @@
-use Rattle.std.proofs.Common.{◌≡◌, ◌+◌, ◌<◌, ℕ, Some, get_or, length}
-use Rattle.std.specs.Prelude.{slice_get}
-use Rattle.xa_words.specs.Entry.{Entry, IsEntry}
-use Rattle.xa_words.specs.Words.{words_of}
+use Rattle.std.{proofs.Common.{◌≡◌, ◌+◌, ◌<◌, ℕ, Some, get_or, length}, specs.Prelude.slice_get}
+use Rattle.xa_words.specs.{Entry.{Entry, IsEntry}, Words.words_of}
 use Rattle.decision_log.specs.Seats.{pass_view}
-use Rattle.chain_log.specs.Cells.{name_before}
-use Rattle.chain_log.specs.ChainSeat.{IsSeat}
+use Rattle.chain_log.specs.{Cells.name_before, ChainSeat.IsSeat}
 use Rattle.chain_log.proofs.chain.ChainLog.read_cell.Given as goal
 
 abbrev pub invariant-loop-index : goal.invariant-loop-index

@@ -1,5 +1,4 @@
-use Rattle.std.proofs.Common.{◌≡◌, ℕ, ◌+◌, List, ◌∷◌, get_or, one-add, sym, ap, ◌∙◌, arith}
-use Rattle.std.specs.Prelude.{slice_index}
+use Rattle.std.{proofs.Common.{◌≡◌, ℕ, ◌+◌, List, ◌∷◌, get_or, one-add, sym, ap, ◌∙◌, arith}, specs.Prelude.slice_index}
 use Rattle.xa_words.specs.Words.{words_of}
 use Rattle.decision_log.specs.Seats.{pass_view}
 use Rattle.chain_log.specs.Cells.{name_before}

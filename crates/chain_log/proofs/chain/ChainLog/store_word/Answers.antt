@@ -1,8 +1,6 @@
 use Rattle.std.proofs.Common.{◌+◌, ap, ◌∙◌, arith}
 use Rattle.decision_log.specs.Seats.{pass_view_of}
-use Rattle.chain_log.specs.Cells.{cell_at}
-use Rattle.chain_log.proofs.ChainStores.{draft_step}
-use Rattle.chain_log.proofs.Ours.{own_name}
+use Rattle.chain_log.{specs.Cells.cell_at, proofs.{ChainStores.draft_step, Ours.own_name}}
 use Rattle.chain_log.proofs.chain.ChainLog.store_word.Goals as goal
 
 pub store-requires-clause-word : goal.store-requires-clause-word

@@ -1,6 +1,5 @@
 use Rattle.std.proofs.Common.{◌≡◌, ◌∷◌, take}
-use Rattle.decision_log.specs.Draft.{with_draft}
-use Rattle.decision_log.specs.Seats.{pass_view}
+use Rattle.decision_log.specs.{Draft.with_draft, Seats.pass_view}
 use Rattle.chain_log.specs.ChainSeat.{IsSeat}
 use Rattle.chain_log.proofs.chain.ChainLog.write_cell.Given as goal
 

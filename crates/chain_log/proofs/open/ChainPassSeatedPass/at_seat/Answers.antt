@@ -1,6 +1,5 @@
 use Rattle.std.proofs.Common.{[], sym, ap, ◌∙◌}
-use Rattle.chain_log.specs.Cells.{newest_of}
-use Rattle.chain_log.proofs.Names.{name_zero}
+use Rattle.chain_log.{specs.Cells.newest_of, proofs.Names.name_zero}
 use Rattle.chain_log.proofs.open.ChainPassSeatedPass.at_seat.Goals as goal
 
 pub invariant_of-result-clause-named : goal.invariant_of-result-clause-named

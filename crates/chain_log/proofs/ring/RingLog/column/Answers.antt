@@ -1,14 +1,8 @@
-use Rattle.std.proofs.Common.{◌≡◌, ℕ, ◌+◌, ◌%◌, ◌<◌, ◌≤◌, length, get_or, ap, sym, ◌∙◌, arith}
-use Rattle.std.proofs.Math.Nat.{mod-lt}
+use Rattle.std.proofs.{Common.{◌≡◌, ℕ, ◌+◌, ◌%◌, ◌<◌, ◌≤◌, length, get_or, ap, sym, ◌∙◌, arith}, Math.Nat.mod-lt}
 use Rattle.std.proofs.lemmas.List.{get_or_read}
-use Rattle.decision_log.specs.Known.{LogIdentity}
-use Rattle.decision_log.specs.Seats.{pass_view}
-use Rattle.chain_log.specs.Cells.{session_at}
-use Rattle.chain_log.proofs.KeptColumns.{session_ranged}
-use Rattle.chain_log.specs.declared.ring.RingLog.{RingLog}
-use Rattle.chain_log.specs.declared.ring_pass.RingPass.{RingPass}
-use Rattle.chain_log.specs.Places.{rows_of}
-use Rattle.chain_log.specs.RingPass.{identity_of, log_of}
+use Rattle.decision_log.specs.{Known.LogIdentity, Seats.pass_view}
+use Rattle.chain_log.specs.{Cells.session_at, declared.{ring.RingLog.RingLog, ring_pass.RingPass.RingPass}}
+use Rattle.chain_log.{specs.{Places.rows_of, RingPass.{identity_of, log_of}}, proofs.KeptColumns.session_ranged}
 use Rattle.chain_log.proofs.ring.RingLog.column.Goals as goal
 
 -- what is read in the table is whose entry stands at the place

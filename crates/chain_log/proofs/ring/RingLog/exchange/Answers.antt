@@ -1,9 +1,6 @@
 use Rattle.std.proofs.Common.{length, ap, ◌∙◌, sym}
 use Rattle.decision_log.specs.Seats.{pass_view_of}
-use Rattle.chain_log.specs.Cells.{name_at}
-use Rattle.chain_log.proofs.Names.{newest_added}
-use Rattle.chain_log.specs.RingRule.{newest_for}
-use Rattle.chain_log.proofs.RingStores.{exchange_step}
+use Rattle.chain_log.{specs.{Cells.name_at, RingRule.newest_for}, proofs.{Names.newest_added, RingStores.exchange_step}}
 use Rattle.chain_log.proofs.ring.RingLog.exchange.Goals as goal
 
 pub compare_exchange_with-requires-clause-allowed : goal.compare_exchange_with-requires-clause-allowed

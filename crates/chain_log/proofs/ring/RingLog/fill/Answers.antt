@@ -1,7 +1,6 @@
 use Rattle.std.proofs.Common.{◌-◌, ◌%◌, ◌<◌, length, set, subst, sym, arith}
 use Rattle.decision_log.specs.Seats.{pass_view}
-use Rattle.chain_log.specs.Windows.{HasWindow}
-use Rattle.chain_log.proofs.Tables.{window_top, window_joined}
+use Rattle.chain_log.{specs.Windows.HasWindow, proofs.Tables.{window_top, window_joined}}
 use Rattle.chain_log.proofs.Walks.{column_is, name_some, newest_is}
 use Rattle.chain_log.proofs.ring.RingLog.fill.Goals as goal
 

@@ -1,7 +1,5 @@
-use Rattle.decision_log.specs.Seats.{pass_view}
-use Rattle.decision_log.specs.Observed.{met}
-use Rattle.chain_log.proofs.Passes.{kept_before}
-use Rattle.chain_log.proofs.RingSeats.{keeps_seats}
+use Rattle.decision_log.specs.{Seats.pass_view, Observed.met}
+use Rattle.chain_log.proofs.{Passes.kept_before, RingSeats.keeps_seats}
 use Rattle.chain_log.proofs.ring.RingLog.meet_at.Goals as goal
 
 pub meet-newest-requires-clause-rule : goal.meet-newest-requires-clause-rule

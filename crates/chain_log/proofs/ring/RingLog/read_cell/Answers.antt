@@ -1,9 +1,7 @@
-use Rattle.std.proofs.Common.{arith}
-use lib.ListN.{replicate}
-use Rattle.std.proofs.lemmas.List.{get_or-replicate}
+use Rattle.std.proofs.{Common.arith, lemmas.List.get_or-replicate}
 use Rattle.decision_log.specs.Seats.{pass_view}
-use Rattle.chain_log.proofs.Watching.{watch_through, watched_on}
-use Rattle.chain_log.proofs.Reading.{all_read}
+use Rattle.chain_log.proofs.{Watching.{watch_through, watched_on}, Reading.all_read}
+use lib.ListN.{replicate}
 use Rattle.chain_log.proofs.ring.RingLog.read_cell.Goals as goal
 
 pub returns-clause-keeps : goal.returns-clause-keeps

@@ -1,11 +1,8 @@
-use Rattle.std.proofs.Common.{◌≡◌, ◌+◌, ◌≤◌, sym, subst, Some}
-use Rattle.std.specs.Prelude.{slice_get, Option, IfSome, IfNone}
+use Rattle.std.{proofs.Common.{◌≡◌, ◌+◌, ◌≤◌, sym, subst, Some}, specs.Prelude.{slice_get, Option, IfSome, IfNone}}
 use Rattle.xa_words.specs.Entry.{Entry}
 use Rattle.decision_log.specs.Seats.{pass_view}
-use Rattle.chain_log.specs.Places.{rows_of}
-use Rattle.chain_log.specs.RingRule.{least}
-use Rattle.chain_log.proofs.Watching.{looked_for, missed, missed_later, won_between, keeps_through, check_keeps}
-use Rattle.chain_log.proofs.Watching.{watch_keeps}
+use Rattle.chain_log.{specs.{Places.rows_of, RingRule.least}, proofs.Watching.{looked_for, missed, missed_later}}
+use Rattle.chain_log.proofs.Watching.{won_between, keeps_through, check_keeps, watch_keeps}
 use Rattle.chain_log.proofs.ring.RingLog.read_entry.Goals as goal
 
 pub returns-then-check_name-name-clause-none : goal.returns-then-check_name-name-clause-none

@@ -1,11 +1,11 @@
 use Rattle.std.proofs.Common.{ℕ, ◌+◌, ◌<◌, List, length, get_or, set, refl, ap, sym, ◌∙◌, arith}
-use mathlib.Core.Logic.{dite}
-use native.Mathlib.Decide.{ℕ_discrete}
 use Rattle.std.proofs.lemmas.List.{length-set, get_or-set_same, get_or-set_other}
+use mathlib.Core.Logic.{dite}
 use Rattle.xa_words.specs.Words.{words_of}
 use Rattle.decision_log.specs.Seats.{pass_view}
 use Rattle.chain_log.specs.Cells.{name_at, name_before}
 use Rattle.chain_log.proofs.Watching.{watch_itself, watch_through, watched_on, word_there, behind_link}
+use native.Mathlib.Decide.{ℕ_discrete}
 use Rattle.chain_log.proofs.ring.RingLog.read_words.Goals as goal
 
 pub loop-index-init : goal.loop-index-init

@@ -1,10 +1,7 @@
 use Rattle.std.proofs.Common.{◌≡◌, ◌<◌, ◌≤◌, ℕ, get_or, length}
-use Rattle.xa_words.specs.Entry.{Entry, IsEntry}
-use Rattle.xa_words.specs.Words.{words_of}
-use Rattle.decision_log.specs.declared.view.Turn.TheVariants.{Won}
-use Rattle.decision_log.specs.Seats.{pass_view}
-use Rattle.chain_log.specs.RingTransitions.{KeepsWatch}
-use Rattle.chain_log.specs.RingSeat.{IsSeat, ReadsCell}
+use Rattle.xa_words.specs.{Entry.{Entry, IsEntry}, Words.words_of}
+use Rattle.decision_log.specs.{declared.view.Turn.TheVariants.Won, Seats.pass_view}
+use Rattle.chain_log.specs.{RingTransitions.KeepsWatch, RingSeat.{IsSeat, ReadsCell}}
 use Rattle.chain_log.proofs.ring.RingLog.read_words.Given as goal
 
 abbrev pub invariant-loop-index : goal.invariant-loop-index

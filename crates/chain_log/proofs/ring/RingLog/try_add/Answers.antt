@@ -1,8 +1,6 @@
 use Rattle.std.proofs.Common.{ap, sym, subst, ◌∙◌}
-use Rattle.decision_log.specs.History.{Begins}
-use Rattle.decision_log.specs.Seats.{pass_view}
-use Rattle.chain_log.specs.RingTransitions.{lost}
-use Rattle.chain_log.proofs.Passes.{kept_before, kept_after}
+use Rattle.decision_log.specs.{History.Begins, Seats.pass_view}
+use Rattle.chain_log.{specs.RingTransitions.lost, proofs.Passes.{kept_before, kept_after}}
 use Rattle.chain_log.proofs.ring.RingLog.try_add.Goals as goal
 
 pub fill-pass-requires-clause-kept : goal.fill-pass-requires-clause-kept

@@ -1,10 +1,7 @@
 use Rattle.std.proofs.Common.{◌≡◌, ℕ, ◌+◌, ◌-◌, ◌<◌, ◌≤◌, length, ap, ◌∙◌, subst, arith}
 use Rattle.decision_log.specs.Seats.{pass_view}
-use Rattle.chain_log.specs.Cells.{session_at}
-use Rattle.chain_log.specs.Windows.{HasWindow}
-use Rattle.chain_log.proofs.Tables.{window_lower, beside_set}
-use Rattle.chain_log.proofs.Walks.{session_fits, column_is, name_some, cell_is, link_is}
-use Rattle.chain_log.proofs.Watching.{keeps_through}
+use Rattle.chain_log.{specs.{Cells.session_at, Windows.HasWindow}, proofs.Tables.{window_lower, beside_set}}
+use Rattle.chain_log.proofs.{Walks.{session_fits, column_is, name_some, cell_is, link_is}, Watching.keeps_through}
 use Rattle.chain_log.proofs.ring.RingLog.walk.Goals as goal
 
 -- the place at hand, from the one above it

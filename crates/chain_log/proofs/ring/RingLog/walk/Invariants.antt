@@ -1,9 +1,6 @@
-use Rattle.std.proofs.Common.{◌≡◌, ◌+◌, ◌%◌, ◌<◌, ◌≤◌, ℕ, length}
-use Rattle.std.specs.Prelude.{slice_index}
+use Rattle.std.{proofs.Common.{◌≡◌, ◌+◌, ◌%◌, ◌<◌, ◌≤◌, ℕ, length}, specs.Prelude.slice_index}
 use Rattle.decision_log.specs.Seats.{pass_view}
-use Rattle.chain_log.specs.Cells.{name_at, session_at}
-use Rattle.chain_log.specs.RingSeat.{IsSeat, KeepsPass}
-use Rattle.chain_log.specs.Windows.{HasWindow}
+use Rattle.chain_log.specs.{Cells.{name_at, session_at}, RingSeat.{IsSeat, KeepsPass}, Windows.HasWindow}
 use Rattle.chain_log.proofs.ring.RingLog.walk.Given as goal
 
 abbrev pub invariant-loop-place : goal.invariant-loop-place

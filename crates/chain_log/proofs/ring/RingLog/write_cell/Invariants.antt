@@ -1,7 +1,6 @@
 use Rattle.std.proofs.Common.{◌≡◌, ◌∷◌, take}
 use Rattle.decision_log.specs.Seats.{pass_view}
-use Rattle.chain_log.specs.RingTransitions.{with_words}
-use Rattle.chain_log.specs.RingSeat.{IsSeat}
+use Rattle.chain_log.specs.{RingTransitions.with_words, RingSeat.IsSeat}
 use Rattle.chain_log.proofs.ring.RingLog.write_cell.Given as goal
 
 abbrev pub invariant-loop-index : goal.invariant-loop-index

@@ -1,8 +1,6 @@
 use Rattle.std.proofs.Common.{◌≡◌, [], length, ap, sym, ◌∙◌, arith, rules}
-use Rattle.decision_log.specs.Seats.{pass_view}
-use Rattle.decision_log.specs.declared.view.PassView.{PassView}
-use Rattle.chain_log.specs.Cells.{newest_of}
-use Rattle.chain_log.proofs.Names.{name_zero}
+use Rattle.decision_log.specs.{Seats.pass_view, declared.view.PassView.PassView}
+use Rattle.chain_log.{specs.Cells.newest_of, proofs.Names.name_zero}
 use Rattle.chain_log.proofs.ring_pass.RingPass.at_seat.Goals as goal
 
 pub invariant_of-result : goal.invariant_of-result

@@ -1,5 +1,4 @@
-use Rattle.decision_log.specs.Seats.{pass_view_of}
-use Rattle.decision_log.proofs.SeatSteps.{at_issue}
+use Rattle.decision_log.{specs.Seats.pass_view_of, proofs.SeatSteps.at_issue}
 use Rattle.decision_log.proofs.log_table.LogTable.issue.Goals as goal
 
 pub split_seat-requires : goal.split_seat-requires

@@ -1,6 +1,5 @@
 use Rattle.std.proofs.Common.{ap}
-use Rattle.decision_log.specs.Seats.{pass_view_of}
-use Rattle.decision_log.proofs.SeatSteps.{at_join}
+use Rattle.decision_log.{specs.Seats.pass_view_of, proofs.SeatSteps.at_join}
 use Rattle.decision_log.proofs.log_table.LogTable.join.Goals as goal
 
 pub join_seat-requires : goal.join_seat-requires

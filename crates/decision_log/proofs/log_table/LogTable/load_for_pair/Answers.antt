@@ -1,5 +1,4 @@
-use Rattle.decision_log.specs.Seats.{pass_view_of, second_of}
-use Rattle.decision_log.proofs.SeatSteps.{at_meet}
+use Rattle.decision_log.{specs.Seats.{pass_view_of, second_of}, proofs.SeatSteps.at_meet}
 use Rattle.decision_log.proofs.log_table.LogTable.load_for_pair.Goals as goal
 
 pub load-requires : goal.load-requires

@@ -1,5 +1,4 @@
-use Rattle.decision_log.specs.Seats.{pass_view_of, second_of}
-use Rattle.decision_log.proofs.SeatSteps.{at_split}
+use Rattle.decision_log.{specs.Seats.{pass_view_of, second_of}, proofs.SeatSteps.at_split}
 use Rattle.decision_log.proofs.log_table.LogTable.split.Goals as goal
 
 pub split_seat-requires : goal.split_seat-requires

@@ -1,5 +1,4 @@
-use Rattle.decision_log.specs.Seats.{pass_view_of}
-use Rattle.decision_log.proofs.TurnStores.{release_step}
+use Rattle.decision_log.{specs.Seats.pass_view_of, proofs.TurnStores.release_step}
 use Rattle.decision_log.proofs.turn_log.TurnLog.give_turn.Goals as goal
 
 pub store-requires-clause-allowed : goal.store-requires-clause-allowed

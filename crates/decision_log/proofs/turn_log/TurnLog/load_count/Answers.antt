@@ -1,5 +1,4 @@
-use Rattle.decision_log.specs.Seats.{pass_view_of}
-use Rattle.decision_log.proofs.TurnSteps.{look_step}
+use Rattle.decision_log.{specs.Seats.pass_view_of, proofs.TurnSteps.look_step}
 use Rattle.decision_log.proofs.turn_log.TurnLog.load_count.Goals as goal
 
 pub load-requires-clause-allowed : goal.load-requires-clause-allowed

@@ -1,6 +1,5 @@
 use Rattle.std.proofs.Common.{arith}
-use Rattle.decision_log.specs.Seats.{pass_view_of}
-use Rattle.decision_log.proofs.TurnSteps.{read_step}
+use Rattle.decision_log.{specs.Seats.pass_view_of, proofs.TurnSteps.read_step}
 use Rattle.decision_log.proofs.turn_log.TurnLog.load_word.Goals as goal
 
 pub load-requires-clause-allowed : goal.load-requires-clause-allowed

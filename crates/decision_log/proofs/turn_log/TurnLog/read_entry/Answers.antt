@@ -1,6 +1,5 @@
 use Rattle.std.proofs.Common.{sym, ◌∙◌, rules}
-use Rattle.decision_log.specs.Seats.{pass_view}
-use Rattle.decision_log.proofs.Histories.{there}
+use Rattle.decision_log.{specs.Seats.pass_view, proofs.Histories.there}
 use Rattle.decision_log.proofs.turn_log.TurnLog.read_entry.Goals as goal
 
 pub unwrap-requires : goal.unwrap-requires

@@ -1,10 +1,7 @@
-use Rattle.std.proofs.Common.{◌≡◌, Some, arith, sym, ap, ◌∙◌, refl}
+use Rattle.std.proofs.{Common.{◌≡◌, Some, arith, sym, ap, ◌∙◌, refl}, lemmas.List.{length-set, ext_get_or}}
 use Rattle.std.specs.Prelude.{slice_get}
-use Rattle.std.proofs.lemmas.List.{length-set, ext_get_or}
-use Rattle.xa_words.specs.Words.{words_of}
-use Rattle.xa_words.proofs.Spelling.{length-words_of}
-use Rattle.decision_log.specs.Seats.{pass_view_of}
-use Rattle.decision_log.proofs.Drafts.{one_more}
+use Rattle.xa_words.{specs.Words.words_of, proofs.Spelling.length-words_of}
+use Rattle.decision_log.{specs.Seats.pass_view_of, proofs.Drafts.one_more}
 use Rattle.decision_log.proofs.turn_log.TurnLog.read_row.Goals as goal
 
 pub loop-index-preserved : goal.loop-index-preserved

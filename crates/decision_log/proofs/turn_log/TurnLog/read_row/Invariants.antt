@@ -1,9 +1,6 @@
-use Rattle.std.proofs.Common.{◌≡◌, ◌<◌, ℕ, Some, get_or, length}
-use Rattle.std.specs.Prelude.{slice_get}
-use Rattle.xa_words.specs.Entry.{Entry, IsEntry}
-use Rattle.xa_words.specs.Words.{words_of}
-use Rattle.decision_log.specs.Seats.{pass_view}
-use Rattle.decision_log.specs.TurnSeat.{IsSeat}
+use Rattle.std.{proofs.Common.{◌≡◌, ◌<◌, ℕ, Some, get_or, length}, specs.Prelude.slice_get}
+use Rattle.xa_words.specs.{Entry.{Entry, IsEntry}, Words.words_of}
+use Rattle.decision_log.specs.{Seats.pass_view, TurnSeat.IsSeat}
 use Rattle.decision_log.proofs.turn_log.TurnLog.read_row.Given as goal
 
 abbrev pub invariant-loop-index : goal.invariant-loop-index

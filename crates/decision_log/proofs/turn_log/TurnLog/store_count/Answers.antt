@@ -1,7 +1,5 @@
 use Rattle.std.proofs.Common.{sym, ap, ◌∙◌}
-use Rattle.decision_log.specs.Seats.{pass_view_of}
-use Rattle.decision_log.specs.TurnTransitions.{published}
-use Rattle.decision_log.proofs.TurnStores.{publish_step}
+use Rattle.decision_log.{specs.{Seats.pass_view_of, TurnTransitions.published}, proofs.TurnStores.publish_step}
 use Rattle.xa_words.proofs.Spelling.{one_entry}
 use Rattle.decision_log.proofs.turn_log.TurnLog.store_count.Goals as goal
 

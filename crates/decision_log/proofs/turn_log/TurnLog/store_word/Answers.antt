@@ -1,5 +1,4 @@
-use Rattle.decision_log.specs.Seats.{pass_view_of}
-use Rattle.decision_log.proofs.TurnStores.{draft_step}
+use Rattle.decision_log.{specs.Seats.pass_view_of, proofs.TurnStores.draft_step}
 use Rattle.std.proofs.Common.{arith}
 use Rattle.decision_log.proofs.turn_log.TurnLog.store_word.Goals as goal
 

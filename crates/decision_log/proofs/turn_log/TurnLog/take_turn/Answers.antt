@@ -1,13 +1,9 @@
-use Rattle.std.proofs.Common.{subst, sym}
-use prog.Atomic.{either}
-use Rattle.std.proofs.Common.{eqb}
+use Rattle.std.proofs.Common.{subst, sym, eqb}
 use mathlib.Core.Option.{none}
 use Rattle.atomic_table.specs.Table.{Allows}
-use Rattle.decision_log.specs.Atomic.{Tells}
-use Rattle.decision_log.specs.Seats.{pass_view_of, seated}
-use Rattle.decision_log.specs.TurnTransitions.{Takes}
-use Rattle.decision_log.proofs.TurnSteps.{Rules}
-use Rattle.decision_log.proofs.TurnStores.{take_step}
+use Rattle.decision_log.specs.{Atomic.Tells, Seats.{pass_view_of, seated}, TurnTransitions.Takes}
+use Rattle.decision_log.proofs.{TurnSteps.Rules, TurnStores.take_step}
+use prog.Atomic.{either}
 use Rattle.decision_log.proofs.turn_log.TurnLog.take_turn.Goals as goal
 
 pub compare_exchange-requires-clause-allowed : goal.compare_exchange-requires-clause-allowed

@@ -1,7 +1,5 @@
 use Rattle.std.proofs.Common.{◌≡◌, take}
-use Rattle.decision_log.specs.Draft.{with_draft}
-use Rattle.decision_log.specs.Seats.{pass_view}
-use Rattle.decision_log.specs.TurnSeat.{IsSeat}
+use Rattle.decision_log.specs.{Draft.with_draft, Seats.pass_view, TurnSeat.IsSeat}
 use Rattle.decision_log.proofs.turn_log.TurnLog.write_entry.Given as goal
 
 abbrev pub invariant-loop-index : goal.invariant-loop-index

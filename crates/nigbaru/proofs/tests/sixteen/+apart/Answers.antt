@@ -1,6 +1,4 @@
-use Rattle.std.proofs.Common.{◌≡◌, sym, subst, Some}
-use Rattle.std.specs.List.{All}
-use Rattle.std.proofs.lemmas.List.Elements.{All-pop, All-push}
+use Rattle.std.{proofs.{Common.{◌≡◌, sym, subst, Some}, lemmas.List.Elements.{All-pop, All-push}}, specs.List.All}
 use Rattle.xa_store.specs.Passes.{identity_of, log_of}
 use Rattle.nigbaru.proofs.tests.sixteen.+apart.Goals as goal
 

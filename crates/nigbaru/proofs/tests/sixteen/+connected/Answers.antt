@@ -1,6 +1,5 @@
-use Rattle.std.proofs.Common.{◌≡◌, ap, sym, subst, ◌∙◌, Some}
+use Rattle.std.proofs.{Common.{◌≡◌, ap, sym, subst, ◌∙◌, Some}, lemmas.List.Elements.{All-pop, All-push}}
 use Rattle.std.specs.List.{All}
-use Rattle.std.proofs.lemmas.List.Elements.{All-pop, All-push}
 use Rattle.xa_store.specs.Passes.{identity_of, log_of}
 use Rattle.nigbaru.proofs.tests.sixteen.+connected.Goals as goal
 

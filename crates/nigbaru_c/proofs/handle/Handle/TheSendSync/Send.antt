@@ -1,8 +1,7 @@
 use denote.Struct.Struct.{exits_of}
 use denote.Struct.Owning.{shape, fields, to}
 use denote.Param.Send.{IsSend, AllSend, owning_send, struct_send, sendable}
-use Rattle.nigbaru_c.proofs.Holding.{keyless, quiet}
-use Rattle.nigbaru_c.specs.contracts.handle.Handle.{the_row, the_type}
+use Rattle.nigbaru_c.{proofs.Holding.{keyless, quiet}, specs.contracts.handle.Handle.{the_row, the_type}}
 
 pub send : IsSend the_row
 send =

@@ -1,6 +1,10 @@
 -- `into_parts` tests the pointer, and what the handle owned is the parts' where it isn't null.
-use Rattle.std.proofs.Common.{◌≡◌, List, [], ◌∷◌, ◌++◌, refl, sym, subst, lit<}
-use Rattle.std.specs.Prelude.{None, Some}
+use Rattle.std.proofs.{Common.{◌≡◌, List, [], ◌∷◌, ◌++◌, refl, sym, subst, lit<}, alloc.Shapes.after}
+use Rattle.std.proofs.{cell.Inside.{Good, one}, option.Made.{Some-of, none_of}, ResultValues.and_tt}
+use Rattle.std.proofs.{BoxSteps.{Form.{D, box_typed}, Steps.box_in}, raw_atomic.Walks.{proved_at, leaves}}
+use Rattle.std.specs.{Prelude.{None, Some}, contracts.impls.GlobalAllocator.TheImpl.ghosts}
+use Rattle.nigbaru_c.proofs.{Holding.{E, word, handle_out, either}, handle.Handle.into_parts.Statement.statement}
+use Rattle.nigbaru_c.specs.contracts.handle.Handle.into_parts.{ended, clauses, Key.name as #self}
 use mir.Val.{Val, vcons, vnil}
 use base.Logic.{SProp, ent, emp, id⊢}
 use prog.Wp.{WpFn}
@@ -20,24 +24,12 @@ use denote.Steps.{nothing}
 use denote.Param.{layout}
 use denote.Triple.Entry.{alive}
 use denote.Triple.Walked.{Stays, stay_dropped, walk_of, Goes-dropped}
-use Rattle.std.proofs.alloc.Shapes.{after}
-use Rattle.std.proofs.cell.Inside.{Good, one}
-use Rattle.std.proofs.option.Made.{Some-of, none_of}
-use Rattle.std.proofs.ResultValues.{and_tt}
 use Rattle.std.proofs.BoxSteps.Form as box
-use Rattle.std.proofs.BoxSteps.Form.{D, box_typed}
-use Rattle.std.proofs.BoxSteps.Steps.{box_in}
-use Rattle.std.proofs.raw_atomic.Walks.{proved_at, leaves}
 use Rattle.std.specs.contracts.alloc.Global as Heap
 use Rattle.std.proofs.alloc.Global.TheLaws as heap
-use Rattle.std.specs.contracts.impls.GlobalAllocator.TheImpl.{ghosts}
 use Rattle.nigbaru_c.specs.contracts.chair.Chair as Chair
 use Rattle.nigbaru_c.specs.contracts.parts.Parts as Parts
 use Rattle.nigbaru_c.specs.contracts.handle.Handle as handle
-use Rattle.nigbaru_c.proofs.Holding.{E, word, handle_out, either}
-use Rattle.nigbaru_c.specs.contracts.handle.Handle.into_parts.{ended, clauses}
-use Rattle.nigbaru_c.specs.contracts.handle.Handle.into_parts.Key.{name as #self}
-use Rattle.nigbaru_c.proofs.handle.Handle.into_parts.Statement.{statement}
 use Rattle.nigbaru_c.proofs.handle.Handle.into_parts.Code as code
 
 pub into_parts_spec : {M : Type 1} → statement M

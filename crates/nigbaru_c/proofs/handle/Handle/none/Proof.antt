@@ -1,6 +1,8 @@
 -- `none` makes the handle at null.
-use Rattle.std.proofs.Common.{◌≡◌, [], ◌∷◌, refl, lit<}
+use Rattle.std.proofs.{Common.{◌≡◌, [], ◌∷◌, refl, lit<}, raw_atomic.Walks.{proved, leaves}}
 use Rattle.std.specs.Prelude.{Option, None}
+use Rattle.nigbaru_c.proofs.{Holding.{word, handle_in}, handle.Handle.none.Statement.statement}
+use Rattle.nigbaru_c.specs.contracts.handle.Handle.none.{ended, clauses, Key.name as #self}
 use mir.Val.{Val}
 use base.Logic.{SProp, emp}
 use base.Fml.{ftrue}
@@ -14,12 +16,7 @@ use denote.RawPtr.{null_ptr}
 use denote.Steps.{nothing}
 use denote.Triple.Entry.{alive}
 use denote.Triple.Walked.{walk_of}
-use Rattle.std.proofs.raw_atomic.Walks.{proved, leaves}
 use Rattle.nigbaru_c.specs.contracts.chair.Chair as Chair
-use Rattle.nigbaru_c.proofs.Holding.{word, handle_in}
-use Rattle.nigbaru_c.specs.contracts.handle.Handle.none.{ended, clauses}
-use Rattle.nigbaru_c.specs.contracts.handle.Handle.none.Key.{name as #self}
-use Rattle.nigbaru_c.proofs.handle.Handle.none.Statement.{statement}
 use Rattle.nigbaru_c.proofs.handle.Handle.none.Code as code
 
 pub none_spec : {M : Type 1} → statement M

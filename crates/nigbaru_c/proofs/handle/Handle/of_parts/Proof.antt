@@ -1,6 +1,9 @@
 -- `of_parts` moves the pointer, and what the parts own goes with it.
-use Rattle.std.proofs.Common.{◌≡◌, List, [], ◌∷◌, ◌++◌, refl, sym, subst}
-use Rattle.std.specs.Prelude.{Option, Some}
+use Rattle.std.proofs.{Common.{◌≡◌, List, [], ◌∷◌, ◌++◌, refl, sym, subst}, BoxSteps.Form.{D, B, box_typed}}
+use Rattle.std.{proofs.{BoxSteps.Steps.box_out, raw_atomic.Walks.{proved_at, leaves}}, specs.Prelude.{Option, Some}}
+use Rattle.std.specs.contracts.impls.GlobalAllocator.TheImpl.{ghosts}
+use Rattle.nigbaru_c.specs.{Held.boxed, contracts.handle.Handle.of_parts.{ended, clauses, Key.name as #self}}
+use Rattle.nigbaru_c.proofs.{Holding.{E, word, handle_in}, handle.Handle.of_parts.Statement.statement}
 use mir.Val.{Val}
 use base.Logic.{SProp, ent, emp, id⊢}
 use base.Fml.{ftrue, fsep}
@@ -17,19 +20,10 @@ use denote.Signature.{plain}
 use denote.Steps.{nothing}
 use denote.Triple.Entry.{alive}
 use denote.Triple.Walked.{Stays, stay_dropped, walk_of, Goes-dropped}
-use Rattle.std.proofs.BoxSteps.Form.{D, B, box_typed}
 use Rattle.std.proofs.BoxSteps.Form as box
-use Rattle.std.proofs.BoxSteps.Steps.{box_out}
-use Rattle.std.proofs.raw_atomic.Walks.{proved_at, leaves}
 use Rattle.std.specs.contracts.alloc.Global as Heap
-use Rattle.std.specs.contracts.impls.GlobalAllocator.TheImpl.{ghosts}
 use Rattle.nigbaru_c.specs.contracts.chair.Chair as Chair
 use Rattle.nigbaru_c.specs.contracts.parts.Parts as Parts
-use Rattle.nigbaru_c.specs.Held.{boxed}
-use Rattle.nigbaru_c.proofs.Holding.{E, word, handle_in}
-use Rattle.nigbaru_c.specs.contracts.handle.Handle.of_parts.{ended, clauses}
-use Rattle.nigbaru_c.specs.contracts.handle.Handle.of_parts.Key.{name as #self}
-use Rattle.nigbaru_c.proofs.handle.Handle.of_parts.Statement.{statement}
 use Rattle.nigbaru_c.proofs.handle.Handle.of_parts.Code as code
 
 pub of_parts_spec : {M : Type 1} → statement M

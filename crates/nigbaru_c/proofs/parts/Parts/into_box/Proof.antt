@@ -1,6 +1,8 @@
 -- `into_box` hands what the parts own to `from_raw`.
-use mathlib.Core.Path.{◌≡◌, refl, sym, subst, ap}
-use mathlib.Core.List.{List, [], ◌∷◌, ◌++◌}
+use mathlib.Core.{Path.{◌≡◌, refl, sym, subst, ap}, List.{List, [], ◌∷◌, ◌++◌}}
+use Rattle.std.proofs.{alloc.Calls.{token, Goes-blank}, BoxSteps.Form.{Bx, D, R, P, B, args, box_ty, word, box_typed}}
+use Rattle.std.{proofs.BoxSteps.Steps.{box_out, box_in}, specs.Box.Ownership.box_owns}
+use Rattle.nigbaru_c.specs.contracts.parts.Parts.into_box.Key.{name as #self}
 use lib.Dec.{T}
 use seplogic.Ra.Ura.{Ura}
 use mir.Syntax.{Fn, Body, place, copy, assign, rv_opd, seq, return}
@@ -32,16 +34,11 @@ use denote.Triple.Spec.{triple_of}
 use denote.Triple.Statement.{Triple, Contract}
 use denote.Triple.Table.{entered}
 use denote.Triple.Walked.{says, Stays, stay_dropped, walk_of, ends_at, walk_Meets}
-use Rattle.std.proofs.alloc.Calls.{token, Goes-blank}
-use Rattle.std.specs.Box.Ownership.{box_owns}
-use Rattle.std.proofs.BoxSteps.Form.{Bx, D, R, P, B, args, box_ty, word, box_typed}
-use Rattle.std.proofs.BoxSteps.Steps.{box_out, box_in}
 use Rattle.nigbaru_c.specs.contracts.parts.Parts as parts
 use Rattle.std.specs.contracts.boxed.Box.from_raw as Fr
 use Rattle.std.proofs.boxed.Box.from_raw.Symbol as raw_sym
 use Rattle.std.proofs.boxed.Box.from_raw.Met as raw_met
 use Rattle.nigbaru_c.specs.contracts.parts.Parts.into_box as F
-use Rattle.nigbaru_c.specs.contracts.parts.Parts.into_box.Key.{name as #self}
 use Rattle.nigbaru_c.proofs.parts.Parts.into_box.Statement as stated
 use Rattle.nigbaru_c.proofs.parts.Parts.into_box.Code as code
 

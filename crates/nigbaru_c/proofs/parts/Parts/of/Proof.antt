@@ -1,6 +1,8 @@
 -- `of` takes the box apart, and the parts own what it owned.
-use mathlib.Core.Path.{◌≡◌, refl, sym, subst, ap, ◌∙◌}
-use mathlib.Core.List.{List, [], ◌∷◌, ◌++◌}
+use mathlib.Core.{Path.{◌≡◌, refl, sym, subst, ap, ◌∙◌}, List.{List, [], ◌∷◌, ◌++◌}}
+use Rattle.std.{proofs.alloc.Calls.{token, handle_tells, Goes-blank}, specs.Box.Ownership.box_owns}
+use Rattle.std.proofs.BoxSteps.{Form.{Bx, D, τ, R, P, B, word, box_typed}, Steps.{box_out, box_in}}
+use Rattle.nigbaru_c.specs.contracts.parts.Parts.of.Key.{name as #self}
 use seplogic.Ra.Ura.{Ura}
 use mir.Syntax.{Fn, Args, Dict, a_type, dcons, dnil}
 use mir.MapTy.{inst_fn}
@@ -34,16 +36,11 @@ use denote.Triple.Spec.{triple_of}
 use denote.Triple.Statement.{Triple, Contract}
 use denote.Triple.Table.{entered}
 use denote.Triple.Walked.{says, Stays, stay_dropped, walk_of, ends_at, walk_Meets}
-use Rattle.std.proofs.alloc.Calls.{token, handle_tells, Goes-blank}
-use Rattle.std.specs.Box.Ownership.{box_owns}
-use Rattle.std.proofs.BoxSteps.Form.{Bx, D, τ, R, P, B, word, box_typed}
-use Rattle.std.proofs.BoxSteps.Steps.{box_out, box_in}
 use Rattle.nigbaru_c.specs.contracts.parts.Parts as parts
 use Rattle.std.specs.contracts.boxed.Box.into_raw_with_allocator as Ra
 use Rattle.std.proofs.boxed.Box.into_raw_with_allocator.Symbol as raw_sym
 use Rattle.std.proofs.boxed.Box.into_raw_with_allocator.Met as raw_met
 use Rattle.nigbaru_c.specs.contracts.parts.Parts.of as F
-use Rattle.nigbaru_c.specs.contracts.parts.Parts.of.Key.{name as #self}
 use Rattle.nigbaru_c.proofs.parts.Parts.of.Statement as stated
 use Rattle.nigbaru_c.proofs.parts.Parts.of.Code as code
 

@@ -1,6 +1,5 @@
 use Rattle.std.proofs.Common.{ap, ◌≡◌, ◌==◌, false, length, ◌+◌, refl, sym, ◌∙◌, map}
-use Rattle.xa_audit.specs.Branches.{branch_in}
-use Rattle.xa_audit.proofs.Stores.{added, blamed}
+use Rattle.xa_audit.{specs.Branches.branch_in, proofs.Stores.{added, blamed}}
 use Rattle.xa_audit.proofs.audit.Audit.add.Goals as goal
 
 pub returns-in_ok-push_lives-clause-audit : goal.returns-in_ok-push_lives-clause-audit

@@ -1,9 +1,6 @@
 use Rattle.std.proofs.Common.{ap, sym, ◌∙◌, subst}
-use Rattle.xa_server.specs.Locks.{LockLaw}
-use Rattle.xa_server.specs.Step.{is_refused}
-use Rattle.xa_server.proofs.Accepted.{after_refused}
-use Rattle.xa_audit.specs.Following.{IsFollowed, owned_at}
-use Rattle.xa_audit.proofs.Following.{refused_notes, accepted_notes}
+use Rattle.xa_server.{specs.{Locks.LockLaw, Step.is_refused}, proofs.Accepted.after_refused}
+use Rattle.xa_audit.{specs.Following.{IsFollowed, owned_at}, proofs.Following.{refused_notes, accepted_notes}}
 use Rattle.xa_audit.proofs.Owning.{followed_then}
 use Rattle.xa_audit.proofs.store.Store.carry_out.Goals as goal
 

@@ -1,7 +1,5 @@
-use Rattle.std.proofs.Common.{[], ◌∙◌, ap}
-use Rattle.std.proofs.Math.Seq.{map-set_same}
-use Rattle.xa_coordinator.specs.Beside.{IsLeftAlone, IsAnsweredSo}
-use Rattle.xa_coordinator.specs.declared.fused.Fused.{Fused}
+use Rattle.std.proofs.{Common.{[], ◌∙◌, ap}, Math.Seq.map-set_same}
+use Rattle.xa_coordinator.specs.{Beside.{IsLeftAlone, IsAnsweredSo}, declared.fused.Fused.Fused}
 use Rattle.xa_coordinator.proofs.Keeping.{at_place, changes_at}
 use Rattle.xa_coordinator.proofs.aside.Coordinator+Fused+S.execute_other.Goals as goal
 

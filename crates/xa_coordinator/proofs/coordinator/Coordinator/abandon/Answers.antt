@@ -1,7 +1,5 @@
 use Rattle.std.proofs.Common.{ℕ, List, subst}
-use Rattle.xa_coordinator.specs.Agreement.{Agrees}
-use Rattle.xa_coordinator.specs.Stores.{EachStore}
-use Rattle.xa_coordinator.specs.declared.closing.Closing.TheVariants.{RollBack}
+use Rattle.xa_coordinator.specs.{Agreement.Agrees, Stores.EachStore, declared.closing.Closing.TheVariants.RollBack}
 use Rattle.xa_coordinator.proofs.Agreeing.{ending_agrees}
 use Rattle.xa_coordinator.proofs.coordinator.Coordinator.abandon.Goals as goal
 

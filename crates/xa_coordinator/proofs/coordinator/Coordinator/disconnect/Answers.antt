@@ -1,11 +1,7 @@
-use Rattle.std.proofs.Common.{None, [], arith}
-use Rattle.std.proofs.lemmas.Result.{err_from_is_err_and}
+use Rattle.std.proofs.{Common.{None, [], arith}, lemmas.Result.err_from_is_err_and}
 use Rattle.xa_xid.specs.declared.statement.Statement.TheVariants.{Disconnect}
-use Rattle.xa_coordinator.specs.Recovery.{IsDisconnected}
-use Rattle.xa_coordinator.specs.Told.{IsUndone}
-use Rattle.xa_coordinator.specs.declared.fault.Cause.TheVariants.{Session}
-use Rattle.xa_coordinator.proofs.Keeping.{marked, unmarked, at_place, changes_at}
-use Rattle.xa_coordinator.proofs.Telling.{association_refused}
+use Rattle.xa_coordinator.specs.{Recovery.IsDisconnected, Told.IsUndone, declared.fault.Cause.TheVariants.Session}
+use Rattle.xa_coordinator.proofs.{Keeping.{marked, unmarked, at_place, changes_at}, Telling.association_refused}
 use Rattle.xa_coordinator.proofs.Adding.{adds_so_many, disconnect_adds, added_next}
 use Rattle.xa_coordinator.proofs.coordinator.Coordinator.disconnect.Goals as goal
 

@@ -1,11 +1,7 @@
-use Rattle.std.proofs.Common.{◌≡◌, ℕ, List, Some, refl, sym, subst}
-use Rattle.std.specs.Prelude.{slice_get}
+use Rattle.std.{proofs.Common.{◌≡◌, ℕ, List, Some, refl, sym, subst}, specs.Prelude.slice_get}
 use Rattle.xa_xid.specs.declared.statement.Statement.TheVariants.{End}
-use Rattle.xa_coordinator.specs.Branch.{branch_xid}
-use Rattle.xa_coordinator.specs.declared.branches.Phase.TheVariants.{Idle}
-use Rattle.xa_coordinator.specs.Stores.{AtStore}
-use Rattle.xa_coordinator.specs.Told.{IsDone}
-use Rattle.xa_coordinator.proofs.Ended.{ended_each}
+use Rattle.xa_coordinator.specs.{Branch.branch_xid, declared.branches.Phase.TheVariants.Idle, Stores.AtStore}
+use Rattle.xa_coordinator.{specs.Told.IsDone, proofs.Ended.ended_each}
 use Rattle.xa_coordinator.proofs.coordinator.Coordinator.end_alone.Goals as goal
 
 pub returns-in-Ok-clause-vote : goal.returns-in-Ok-clause-vote

@@ -1,15 +1,8 @@
 use Rattle.std.proofs.Common.{true, subst}
-use Rattle.xa_xid.specs.Xid.{Text}
-use Rattle.xa_xid.specs.declared.xid.Xid.{Xid}
-use Rattle.xa_xid.specs.declared.statement.Statement.TheVariants.{End}
-use Rattle.xa_coordinator.specs.declared.closing.Closing.TheVariants.{RollBack}
-use Rattle.xa_coordinator.specs.Branch.{branch_xid}
-use Rattle.xa_coordinator.specs.Outcomes.{finish_statement}
-use Rattle.xa_coordinator.specs.Parts.{SaysAs, ClosesAs}
-use Rattle.xa_coordinator.specs.Stores.{AtStore}
-use Rattle.xa_coordinator.specs.Told.{IsDone}
-use Rattle.xa_coordinator.proofs.Walk.{at_then}
-use Rattle.xa_coordinator.proofs.Closings.{said_behind}
+use Rattle.xa_xid.specs.{Xid.Text, declared.{xid.Xid.Xid, statement.Statement.TheVariants.End}}
+use Rattle.xa_coordinator.specs.{declared.closing.Closing.TheVariants.RollBack, Branch.branch_xid}
+use Rattle.xa_coordinator.specs.{Outcomes.finish_statement, Parts.{SaysAs, ClosesAs}, Stores.AtStore, Told.IsDone}
+use Rattle.xa_coordinator.proofs.{Walk.at_then, Closings.said_behind}
 use Rattle.xa_coordinator.proofs.coordinator.Coordinator.end_and_roll_back.Goals as goal
 
 pub returns-clause-closes : goal.returns-clause-closes

@@ -1,8 +1,6 @@
-use Rattle.std.proofs.Common.{[], ◌∷◌, arith}
-use Rattle.std.proofs.lemmas.Result.{err_from_is_err_and}
-use Rattle.xa_coordinator.specs.Told.{IsDone, IsUndone}
+use Rattle.std.proofs.{Common.{[], ◌∷◌, arith}, lemmas.Result.err_from_is_err_and}
+use Rattle.xa_coordinator.{specs.Told.{IsDone, IsUndone}, proofs.Telling.association_refused}
 use Rattle.xa_coordinator.proofs.Keeping.{marked, unmarked, at_place, changes_at, leaves_association}
-use Rattle.xa_coordinator.proofs.Telling.{association_refused}
 use Rattle.xa_coordinator.proofs.Adding.{adds_so_many, added_next}
 use Rattle.xa_coordinator.proofs.coordinator.Coordinator.execute_at.Goals as goal
 

@@ -1,17 +1,10 @@
-use Rattle.std.proofs.Common.{◌≡◌, ap, sym, ◌∙◌, Some, arith}
-use Rattle.std.specs.Prelude.{slice_get}
-use Rattle.std.proofs.lemmas.Option.{slice_get-get_or}
-use Rattle.std.proofs.lemmas.Result.{err_from_is_err_and}
+use Rattle.std.proofs.{Common.{◌≡◌, ap, sym, ◌∙◌, Some, arith}, lemmas.Option.slice_get-get_or}
+use Rattle.std.{proofs.lemmas.Result.err_from_is_err_and, specs.Prelude.slice_get}
 use Rattle.xa_xid.specs.declared.xid.Xid.{Xid}
 use Rattle.xa_server.specs.declared.association.Association.TheVariants.{Active}
-use Rattle.xa_coordinator.specs.declared.fault.Cause.TheVariants.{Session}
-use Rattle.xa_coordinator.specs.declared.branches.Phase.TheVariants.{Active as PhaseActive}
-use Rattle.xa_coordinator.specs.Branch.{branch_xid}
-use Rattle.xa_coordinator.specs.OpenBranches.{association_seen}
-use Rattle.xa_coordinator.specs.Told.{IsUndone}
-use Rattle.xa_coordinator.specs.Work.{IsReplied}
-use Rattle.xa_coordinator.proofs.Keeping.{unmarked, at_place, changes_at}
-use Rattle.xa_coordinator.proofs.Telling.{is_undone}
+use Rattle.xa_coordinator.specs.{declared.fault.Cause.TheVariants.Session, OpenBranches.association_seen, Told.IsUndone}
+use Rattle.xa_coordinator.specs.{declared.branches.Phase.TheVariants.Active as PhaseActive, Branch.branch_xid}
+use Rattle.xa_coordinator.{specs.Work.IsReplied, proofs.{Keeping.{unmarked, at_place, changes_at}, Telling.is_undone}}
 use Rattle.xa_coordinator.proofs.Working.{active_there, active_still}
 use Rattle.xa_coordinator.proofs.coordinator.Coordinator.execute_row.Goals as goal
 

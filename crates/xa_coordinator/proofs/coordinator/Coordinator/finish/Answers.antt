@@ -1,9 +1,6 @@
 use Rattle.std.proofs.Common.{ℕ, List, ap, ◌∙◌, subst}
-use Rattle.xa_coordinator.specs.Agreement.{Agrees}
-use Rattle.xa_coordinator.specs.Decisions.{is_decided}
-use Rattle.xa_coordinator.specs.Stores.{EachStore}
-use Rattle.xa_coordinator.specs.Outcomes.{EndsAs, finish_for}
-use Rattle.xa_coordinator.proofs.Agreeing.{ending_agrees, allows_for}
+use Rattle.xa_coordinator.specs.{Agreement.Agrees, Decisions.is_decided, Stores.EachStore}
+use Rattle.xa_coordinator.{specs.Outcomes.{EndsAs, finish_for}, proofs.Agreeing.{ending_agrees, allows_for}}
 use Rattle.xa_coordinator.proofs.coordinator.Coordinator.finish.Goals as goal
 
 pub returns-clause-agrees : goal.returns-clause-agrees

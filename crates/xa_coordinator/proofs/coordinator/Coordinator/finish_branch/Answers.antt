@@ -1,9 +1,6 @@
 use Rattle.std.proofs.Common.{subst, ap, ◌∙◌}
 use Rattle.xa_xid.specs.declared.statement.Statement.{Statement}
-use Rattle.xa_coordinator.specs.Branch.{branch_xid}
-use Rattle.xa_coordinator.specs.Outcomes.{finish_statement}
-use Rattle.xa_coordinator.specs.Parts.{SaysAs, IsToldAs}
-use Rattle.xa_coordinator.specs.Stores.{AtStore}
+use Rattle.xa_coordinator.specs.{Branch.branch_xid, Outcomes.finish_statement, Parts.{SaysAs, IsToldAs}, Stores.AtStore}
 use Rattle.xa_coordinator.proofs.Walk.{at_weaker}
 use Rattle.xa_coordinator.proofs.coordinator.Coordinator.finish_branch.Goals as goal
 

@@ -1,13 +1,8 @@
-use Rattle.std.proofs.Common.{◌≡◌, ℕ, Bool, List, ap, sym, ◌∙◌, subst, arith, length}
-use Rattle.std.proofs.lemmas.Bool.{eqb-true}
+use Rattle.std.proofs.{Common.{◌≡◌, ℕ, Bool, List, ap, sym, ◌∙◌, subst, arith, length}, lemmas.Bool.eqb-true}
 use Rattle.xa_xid.specs.Xid.{Text}
-use Rattle.xa_coordinator.specs.Branch.{branch_xid}
-use Rattle.xa_coordinator.specs.OpenBranches.{has_working_branch}
-use Rattle.xa_coordinator.specs.Stores.{AtStore}
+use Rattle.xa_coordinator.specs.{Branch.branch_xid, OpenBranches.has_working_branch, Stores.AtStore, Parts.ClosesNext}
 use Rattle.xa_coordinator.specs.Outcomes.{branch_of, finish_statement, ends_first, ends_in, commits, lists_store}
-use Rattle.xa_coordinator.specs.Parts.{ClosesNext}
-use Rattle.xa_coordinator.specs.Told.{IsUnfinished}
-use Rattle.xa_coordinator.proofs.Opening.{working_kept, keeps_next, keeps_farther}
+use Rattle.xa_coordinator.{specs.Told.IsUnfinished, proofs.Opening.{working_kept, keeps_next, keeps_farther}}
 use Rattle.xa_coordinator.proofs.Walk.{ended_at, reached_all, reached_weaker}
 use Rattle.xa_coordinator.proofs.Hazards.{SettledBy, settled_next, settled_none}
 use Rattle.xa_coordinator.proofs.coordinator.Coordinator.finish_each.Goals as goal

@@ -1,7 +1,5 @@
 use Rattle.std.proofs.Common.{◌≡◌}
-use Rattle.xa_coordinator.specs.OpenBranches.{KeepsOpen}
-use Rattle.xa_coordinator.proofs.Walk.{Reached}
-use Rattle.xa_coordinator.proofs.Hazards.{IsListed, SettledBy}
+use Rattle.xa_coordinator.{specs.OpenBranches.KeepsOpen, proofs.{Walk.Reached, Hazards.{IsListed, SettledBy}}}
 use Rattle.xa_coordinator.proofs.coordinator.Coordinator.finish_each.Given as goal
 
 abbrev pub invariant-loop-store : goal.invariant-loop-store

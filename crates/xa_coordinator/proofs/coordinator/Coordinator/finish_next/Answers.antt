@@ -1,9 +1,6 @@
 use Rattle.std.proofs.Common.{inl, inr, refl, subst, Ok}
-use Rattle.xa_coordinator.specs.Branch.{branch_xid}
-use Rattle.xa_coordinator.specs.OpenBranches.{has_working_branch}
-use Rattle.xa_coordinator.specs.Outcomes.{finish_statement, ends_first}
-use Rattle.xa_coordinator.specs.Parts.{ClosesAs}
-use Rattle.xa_coordinator.specs.Stores.{AtStore}
+use Rattle.xa_coordinator.specs.{Branch.branch_xid, OpenBranches.has_working_branch}
+use Rattle.xa_coordinator.specs.{Outcomes.{finish_statement, ends_first}, Parts.ClosesAs, Stores.AtStore}
 use Rattle.xa_coordinator.proofs.coordinator.Coordinator.finish_next.Goals as goal
 
 pub returns-in-Closed-clause-closed : goal.returns-in-Closed-clause-closed

@@ -1,11 +1,8 @@
-use Rattle.std.proofs.Common.{List, Option, ap, subst, inl, arith}
-use Rattle.std.specs.Prelude.{IfOk, IfErr, slice_get}
+use Rattle.std.{proofs.Common.{List, Option, ap, subst, inl, arith}, specs.Prelude.{IfOk, IfErr, slice_get}}
 use Rattle.xa_xid.specs.Xid.{Text}
 use Rattle.xa_session.specs.View.{SessionView}
-use Rattle.xa_coordinator.specs.declared.branches.OpenBranch.{OpenBranch}
-use Rattle.xa_coordinator.specs.Recovery.{IsDisconnected, IsFinished, IsCutOff}
-use Rattle.xa_coordinator.specs.Stores.{AtStore}
-use Rattle.xa_coordinator.proofs.Walk.{changes_then}
+use Rattle.xa_coordinator.{specs.declared.branches.OpenBranch.OpenBranch, proofs.Walk.changes_then}
+use Rattle.xa_coordinator.specs.{Recovery.{IsDisconnected, IsFinished, IsCutOff}, Stores.AtStore}
 use Rattle.xa_coordinator.proofs.Settling.{freed_finished, breaks_freed}
 use Rattle.xa_coordinator.proofs.coordinator.Coordinator.finish_prepared.Goals as goal
 

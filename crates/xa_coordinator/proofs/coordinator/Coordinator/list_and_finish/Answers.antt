@@ -1,15 +1,9 @@
-use Rattle.std.proofs.Common.{ℕ, List, Option, false, ap, ◌∙◌, subst, arith}
-use Rattle.std.specs.Prelude.{slice_get, IfOk, IfErr}
-use Rattle.xa_xid.specs.declared.xid.Xid.{Xid}
+use Rattle.std.{proofs.Common.{ℕ, List, Option, false, ap, ◌∙◌, subst, arith}, specs.Prelude.{slice_get, IfOk, IfErr}}
+use Rattle.xa_xid.specs.{declared.{xid.Xid.Xid, statement.Statement.TheVariants.Recover}, Xid.Text}
 use Rattle.xa_session.specs.View.{SessionView}
-use Rattle.xa_xid.specs.Xid.{Text}
-use Rattle.xa_xid.specs.declared.statement.Statement.TheVariants.{Recover}
-use Rattle.xa_coordinator.specs.declared.fault.Cause.TheVariants.{Session}
-use Rattle.xa_coordinator.specs.declared.branches.OpenBranch.{OpenBranch}
+use Rattle.xa_coordinator.specs.declared.{fault.Cause.TheVariants.Session, branches.OpenBranch.OpenBranch}
 use Rattle.xa_coordinator.specs.Recovery.{IsDisconnected, Settled, StopsAmong, IsCutOff, unlisted}
-use Rattle.xa_coordinator.specs.Stores.{AtStore, ChangesAt}
-use Rattle.xa_coordinator.specs.Told.{IsUndone}
-use Rattle.xa_coordinator.proofs.Walk.{at_weaker, changes_then}
+use Rattle.xa_coordinator.{specs.{Stores.{AtStore, ChangesAt}, Told.IsUndone}, proofs.Walk.{at_weaker, changes_then}}
 use Rattle.xa_coordinator.proofs.Settling.{listed_finished, unsettled_listed}
 use Rattle.xa_coordinator.proofs.coordinator.Coordinator.list_and_finish.Goals as goal
 

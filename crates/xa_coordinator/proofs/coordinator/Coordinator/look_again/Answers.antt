@@ -1,16 +1,9 @@
-use Rattle.std.proofs.Common.{◌≡◌, ℕ, List, Option, false, ap, ◌∙◌, subst, inr}
-use Rattle.std.specs.Prelude.{slice_get}
-use Rattle.std.proofs.Common.{◌<◌, ◌^◌, true}
-use Rattle.std.specs.List.{list_any}
-use Rattle.xa_xid.specs.declared.xid.Xid.{Xid}
-use Rattle.xa_xid.specs.Xid.{Text, same_xid}
-use Rattle.xa_xid.specs.declared.statement.Statement.TheVariants.{Recover}
-use Rattle.xa_coordinator.specs.declared.fault.Cause.TheVariants.{Session}
-use Rattle.xa_coordinator.specs.declared.branches.OpenBranch.{OpenBranch}
-use Rattle.xa_coordinator.specs.Branch.{branch_xid}
+use Rattle.std.proofs.Common.{◌≡◌, ℕ, List, Option, false, ap, ◌∙◌, subst, inr, ◌<◌, ◌^◌, true}
+use Rattle.std.specs.{Prelude.slice_get, List.list_any}
+use Rattle.xa_xid.specs.{declared.{xid.Xid.Xid, statement.Statement.TheVariants.Recover}, Xid.{Text, same_xid}}
+use Rattle.xa_coordinator.specs.declared.{fault.Cause.TheVariants.Session, branches.OpenBranch.OpenBranch}
+use Rattle.xa_coordinator.{specs.{Branch.branch_xid, Told.IsUndone}, proofs.Walk.{at_then, at_weaker}}
 use Rattle.xa_coordinator.specs.Recovery.{ListsPrepared, IsClear, IsSettled, IsCutOff, unlisted_again, IsStillPrepared}
-use Rattle.xa_coordinator.specs.Told.{IsUndone}
-use Rattle.xa_coordinator.proofs.Walk.{at_then, at_weaker}
 use Rattle.xa_coordinator.proofs.Listed.{listed_prepared, none_left_there}
 use Rattle.xa_coordinator.proofs.coordinator.Coordinator.look_again.Goals as goal
 

@@ -1,9 +1,6 @@
-use Rattle.std.proofs.Common.{ℕ, List, subst}
-use Rattle.std.specs.Prelude.{All}
-use Rattle.std.proofs.lemmas.List.{take_all}
+use Rattle.std.{proofs.{Common.{ℕ, List, subst}, lemmas.List.take_all}, specs.Prelude.All}
 use Rattle.xa_xid.specs.Xid.{same_xid}
-use Rattle.xa_coordinator.specs.Branch.{branch_xid}
-use Rattle.xa_coordinator.specs.Recovery.{IsNamed}
+use Rattle.xa_coordinator.specs.{Branch.branch_xid, Recovery.IsNamed}
 use Rattle.xa_coordinator.proofs.Listed.{at_index, any_there, same_branch, none_named_in, none_more}
 use Rattle.xa_coordinator.proofs.coordinator.Coordinator.own_number.Goals as goal
 

@@ -1,5 +1,4 @@
-use Rattle.std.proofs.Common.{take}
-use Rattle.std.specs.Prelude.{All}
+use Rattle.std.{proofs.Common.take, specs.Prelude.All}
 use Rattle.xa_coordinator.specs.Recovery.{IsNamed}
 use Rattle.xa_coordinator.proofs.coordinator.Coordinator.own_number.Given as goal
 

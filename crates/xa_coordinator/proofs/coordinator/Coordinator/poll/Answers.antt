@@ -1,13 +1,7 @@
 use Rattle.std.proofs.Common.{◌≡◌, ℕ, List, ap, sym, ◌∙◌, subst, true, Err, arith}
-use Rattle.xa_xid.specs.Xid.{Text}
-use Rattle.xa_xid.specs.declared.statement.Statement.TheVariants.{Prepare}
-use Rattle.xa_coordinator.specs.Branch.{branch_xid}
-use Rattle.xa_coordinator.specs.Participants.{takes_part}
-use Rattle.xa_coordinator.specs.Stores.{AtStore}
-use Rattle.xa_coordinator.specs.Outcomes.{branch_of, IsVoted}
-use Rattle.xa_coordinator.specs.Parts.{PreparesAs}
-use Rattle.xa_coordinator.specs.Told.{IsStopped}
-use Rattle.xa_coordinator.proofs.Walk.{ended_at}
+use Rattle.xa_xid.specs.{Xid.Text, declared.statement.Statement.TheVariants.Prepare}
+use Rattle.xa_coordinator.{specs.{Branch.branch_xid, Participants.takes_part, Stores.AtStore}, proofs.Walk.ended_at}
+use Rattle.xa_coordinator.specs.{Outcomes.{branch_of, IsVoted}, Parts.PreparesAs, Told.IsStopped}
 use Rattle.xa_coordinator.proofs.Opening.{keeps_next, keeps_farther}
 use Rattle.xa_coordinator.proofs.coordinator.Coordinator.poll.Goals as goal
 

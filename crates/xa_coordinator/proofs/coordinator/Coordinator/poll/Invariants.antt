@@ -1,8 +1,6 @@
 use Rattle.std.proofs.Common.{◌≡◌}
-use Rattle.xa_coordinator.specs.OpenBranches.{KeepsOpen}
+use Rattle.xa_coordinator.specs.{OpenBranches.KeepsOpen, Participants.takes_part, Outcomes.{branch_of, IsVoted}}
 use Rattle.xa_coordinator.proofs.Walk.{Reached}
-use Rattle.xa_coordinator.specs.Participants.{takes_part}
-use Rattle.xa_coordinator.specs.Outcomes.{branch_of, IsVoted}
 use Rattle.xa_coordinator.proofs.coordinator.Coordinator.poll.Given as goal
 
 abbrev pub invariant-loop-store : goal.invariant-loop-store

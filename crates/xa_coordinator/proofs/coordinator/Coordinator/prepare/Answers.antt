@@ -1,7 +1,5 @@
 use Rattle.std.proofs.Common.{ℕ, List, subst}
-use Rattle.xa_coordinator.specs.Agreement.{Agrees}
-use Rattle.xa_coordinator.specs.Stores.{EachStore}
-use Rattle.xa_coordinator.proofs.Agreeing.{vote_agrees}
+use Rattle.xa_coordinator.{specs.{Agreement.Agrees, Stores.EachStore}, proofs.Agreeing.vote_agrees}
 use Rattle.xa_coordinator.proofs.coordinator.Coordinator.prepare.Goals as goal
 
 pub returns-in-Single-clause-agrees : goal.returns-in-Single-clause-agrees

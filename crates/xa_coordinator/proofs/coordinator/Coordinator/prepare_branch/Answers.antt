@@ -1,13 +1,7 @@
 use Rattle.std.proofs.Common.{subst}
-use Rattle.xa_xid.specs.Xid.{Text}
-use Rattle.xa_xid.specs.declared.xid.Xid.{Xid}
-use Rattle.xa_xid.specs.declared.statement.Statement.TheVariants.{End, Prepare}
-use Rattle.xa_coordinator.specs.Branch.{branch_xid}
-use Rattle.xa_coordinator.specs.Parts.{PreparesAs, IsToldAs}
-use Rattle.xa_coordinator.specs.Stores.{AtStore}
-use Rattle.xa_coordinator.specs.Told.{IsDone}
-use Rattle.xa_coordinator.proofs.Walk.{at_then}
-use Rattle.xa_coordinator.proofs.Closings.{prepared_behind}
+use Rattle.xa_xid.specs.{Xid.Text, declared.{xid.Xid.Xid, statement.Statement.TheVariants.{End, Prepare}}}
+use Rattle.xa_coordinator.specs.{Branch.branch_xid, Parts.{PreparesAs, IsToldAs}, Stores.AtStore, Told.IsDone}
+use Rattle.xa_coordinator.proofs.{Walk.at_then, Closings.prepared_behind}
 use Rattle.xa_coordinator.proofs.coordinator.Coordinator.prepare_branch.Goals as goal
 
 pub returns-clause-prepares : goal.returns-clause-prepares

@@ -1,11 +1,7 @@
-use Rattle.std.proofs.Common.{◌≤◌, ◌+◌, false, [], length, arith}
+use Rattle.std.proofs.{Common.{◌≤◌, ◌+◌, false, [], length, arith}, lemmas.Result.{IfOk-weaker, IfErr-weaker}}
 use Rattle.std.specs.Prelude.{slice_set}
-use Rattle.std.proofs.lemmas.Result.{IfOk-weaker, IfErr-weaker}
 use Rattle.xa_xid.specs.declared.statement.Statement.TheVariants.{Recover}
-use Rattle.xa_coordinator.specs.Recovery.{ListsPrepared}
-use Rattle.xa_coordinator.specs.Stores.{AtStore}
-use Rattle.xa_coordinator.specs.Told.{IsUndone}
-use Rattle.xa_coordinator.specs.declared.fault.Cause.TheVariants.{Session}
+use Rattle.xa_coordinator.specs.{Recovery.ListsPrepared, Stores.AtStore, Told.IsUndone, declared.fault.Cause.Cause}
 use Rattle.xa_coordinator.proofs.Keeping.{unmarked, at_place, changes_at}
 use Rattle.xa_coordinator.proofs.Adding.{adds_so_many, either_way, added_next}
 use Rattle.xa_coordinator.proofs.coordinator.Coordinator.prepared_in.Goals as goal
@@ -44,11 +40,11 @@ returns-clause-undone g c =
     let view = g.S.Speak.view in
     let old = c.index_mut.result.now in
     let new = c.list_prepared.new.session in
-    IfErr-weaker c.list_prepared.result (λ fault. IsUndone (Recover false) (Session fault) (view old) (view new))
-    (λ fault. AtStore view c.args.store (IsUndone (Recover false) (Session fault)) me.stores.items
+    IfErr-weaker c.list_prepared.result (λ fault. IsUndone (Recover false) (Cause.Session fault) (view old) (view new))
+    (λ fault. AtStore view c.args.store (IsUndone (Recover false) (Cause.Session fault)) me.stores.items
     (slice_set me.stores.items c.args.store new))
     (λ fault is. at_place view me.name.items (IsUndone (Recover false)
-    (Session fault)) me.stores.items c.args.store old new c.index_mut.ensures.value is)
+    (Cause.Session fault)) me.stores.items c.args.store old new c.index_mut.ensures.value is)
     c.list_prepared.ensures.undone
 
 pub returns-clause-few : goal.returns-clause-few
@@ -60,7 +56,7 @@ returns-clause-few g c =
     let few : length (view new).known.mine ≤ length (view old).known.mine + 0 =
     either_way (length (view new).known.mine ≤ length (view old).known.mine + 0) c.list_prepared.result
     (λ found. ListsPrepared found.0 found.1 (view old) (view new))
-    (λ fault. IsUndone (Recover false) (Session fault) (view old) (view new))
+    (λ fault. IsUndone (Recover false) (Cause.Session fault) (view old) (view new))
     (λ found is. adds_so_many [] (view old) (view new) is.adds)
     (λ fault is. adds_so_many [] (view old) (view new) is.adds)
     c.list_prepared.ensures.listed c.list_prepared.ensures.undone in

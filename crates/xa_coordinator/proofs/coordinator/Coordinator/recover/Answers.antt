@@ -1,14 +1,11 @@
 use Rattle.std.proofs.Common.{◌≢◌, List, Some, ap, sym, ◌∙◌, subst}
-use Rattle.xa_coordinator.specs.declared.decisions.Decision.{Decision}
-use Rattle.xa_coordinator.specs.declared.decisions.Decision.TheVariants.{Undecided}
-use Rattle.xa_coordinator.specs.Decisions.{decision_of, is_decided}
-use Rattle.xa_coordinator.proofs.DecisionsOf.{closed_none, closed_decides}
-use Rattle.xa_coordinator.proofs.Recovering.{ends_as}
+use Rattle.xa_coordinator.specs.{declared.decisions.Decision.Decision, Decisions.{decision_of, is_decided}}
+use Rattle.xa_coordinator.proofs.{DecisionsOf.{closed_none, closed_decides}, Recovering.ends_as}
 use Rattle.xa_coordinator.proofs.coordinator.Coordinator.recover.Goals as goal
 
 pub returns-in_err-fronts-clause-none_undecided : goal.returns-in_err-fronts-clause-none_undecided
 returns-in_err-fronts-clause-none_undecided g c = λ number.
-    subst (λ (list : List Decision). decision_of list number ≢ Some Undecided) (sym c.close_all.ensures)
+    subst (λ (list : List Decision). decision_of list number ≢ Some Decision.Undecided) (sym c.close_all.ensures)
     (closed_none c.args.decisions.now number)
 
 pub returns-in_err-fronts-clause-kept : goal.returns-in_err-fronts-clause-kept
@@ -18,7 +15,7 @@ returns-in_err-fronts-clause-kept g c =
 
 pub returns-clause-none_undecided : goal.returns-clause-none_undecided
 returns-clause-none_undecided g c = λ number.
-    subst (λ (list : List Decision). decision_of list number ≢ Some Undecided) (sym c.close_all.ensures)
+    subst (λ (list : List Decision). decision_of list number ≢ Some Decision.Undecided) (sym c.close_all.ensures)
     (closed_none c.args.decisions.now number)
 
 pub returns-clause-kept : goal.returns-clause-kept

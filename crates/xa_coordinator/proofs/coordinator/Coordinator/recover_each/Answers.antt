@@ -1,10 +1,8 @@
-use Rattle.std.proofs.Common.{◌+◌, ℕ, refl, ap, ◌∙◌, subst, arith}
+use Rattle.std.proofs.{Common.{◌+◌, ℕ, refl, ap, ◌∙◌, subst, arith}, lemmas.Result.err_from_is_err_and}
 use Rattle.xa_xid.specs.Xid.{Text}
-use Rattle.std.proofs.lemmas.Result.{err_from_is_err_and}
-use Rattle.xa_coordinator.specs.Recovery.{IsRecovered, BreaksHere}
-use Rattle.xa_coordinator.specs.Stores.{AtStore}
-use Rattle.xa_coordinator.proofs.Recovering.{frees_none, frees_next, frees_below, frees_behind, recovers_none}
-use Rattle.xa_coordinator.proofs.Recovering.{recovers_next, recovers_all, breaks_at}
+use Rattle.xa_coordinator.{specs.{Recovery.{IsRecovered, BreaksHere}, Stores.AtStore}, proofs.Recovering.frees_none}
+use Rattle.xa_coordinator.proofs.Recovering.{frees_next, frees_below, frees_behind, recovers_none, recovers_next}
+use Rattle.xa_coordinator.proofs.Recovering.{recovers_all, breaks_at}
 use Rattle.xa_coordinator.proofs.coordinator.Coordinator.recover_each.Goals as goal
 
 pub loop-store-init : goal.loop-store-init

@@ -1,5 +1,4 @@
-use Rattle.std.proofs.Common.{◌≡◌, ◌≤◌, ◌*◌}
-use Rattle.std.specs.Prelude.{vec_capacity, vec_len}
+use Rattle.std.{proofs.Common.{◌≡◌, ◌≤◌, ◌*◌}, specs.Prelude.{vec_capacity, vec_len}}
 use Rattle.xa_coordinator.proofs.Recovering.{FreesOpen, RecoversBelow}
 use Rattle.xa_coordinator.proofs.coordinator.Coordinator.recover_each.Given as goal
 

@@ -1,11 +1,8 @@
-use Rattle.std.proofs.Common.{ℕ, List, sym, subst, arith}
-use Rattle.std.proofs.lemmas.Result.{err_from_is_err_and}
+use Rattle.std.proofs.{Common.{ℕ, List, sym, subst, arith}, lemmas.Result.err_from_is_err_and}
 use Rattle.xa_xid.specs.Xid.{Text}
 use Rattle.xa_coordinator.specs.Recovery.{IsSettled, IsClear, IsRecovered, BreaksHere}
-use Rattle.xa_coordinator.specs.declared.fault.RecoverFault.{RecoverFault}
-use Rattle.xa_coordinator.specs.Stores.{AtStore}
-use Rattle.xa_coordinator.proofs.Walk.{at_then, changes_then}
-use Rattle.xa_coordinator.proofs.Recovering.{breaks_by}
+use Rattle.xa_coordinator.specs.{declared.fault.RecoverFault.RecoverFault, Stores.AtStore}
+use Rattle.xa_coordinator.proofs.{Walk.{at_then, changes_then}, Recovering.breaks_by}
 use Rattle.xa_coordinator.proofs.coordinator.Coordinator.recover_store.Goals as goal
 
 pub look_again-requires-clause-store : goal.look_again-requires-clause-store

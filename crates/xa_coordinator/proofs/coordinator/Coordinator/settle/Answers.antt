@@ -1,15 +1,8 @@
-use Rattle.std.proofs.Common.{◌≡◌, Bool, Ok, Err, sym, subst, refl}
-use Rattle.std.proofs.lemmas.Result.{err_from_is_err_and}
-use Rattle.xa_coordinator.specs.declared.closing.Closing.{Closing}
-use Rattle.xa_coordinator.specs.declared.report.Tally.{Tally}
-use Rattle.xa_coordinator.specs.Branch.{branch_xid}
-use Rattle.xa_coordinator.specs.Decisions.{is_decided}
-use Rattle.xa_coordinator.specs.Outcomes.{finish_statement}
-use Rattle.xa_coordinator.specs.Parts.{SaysAs, counted}
-use Rattle.xa_coordinator.specs.Recovery.{SettlesOne, foreign, finish_decided, IsUnsettled}
-use Rattle.xa_coordinator.specs.Stores.{AtStore}
-use Rattle.xa_coordinator.proofs.Walk.{at_same, at_weaker}
-use Rattle.xa_coordinator.proofs.Settling.{settles, unsettled_by}
+use Rattle.std.proofs.{Common.{◌≡◌, Bool, Ok, Err, sym, subst, refl}, lemmas.Result.err_from_is_err_and}
+use Rattle.xa_coordinator.specs.{declared.{closing.Closing.Closing, report.Tally.Tally}, Branch.branch_xid}
+use Rattle.xa_coordinator.specs.{Decisions.is_decided, Outcomes.finish_statement, Parts.{SaysAs, counted}}
+use Rattle.xa_coordinator.specs.{Recovery.{SettlesOne, foreign, finish_decided, IsUnsettled}, Stores.AtStore}
+use Rattle.xa_coordinator.proofs.{Walk.{at_same, at_weaker}, Settling.{settles, unsettled_by}}
 use Rattle.xa_coordinator.proofs.coordinator.Coordinator.settle.Goals as goal
 
 pub returns-in_default-clause-settled : goal.returns-in_default-clause-settled

@@ -1,12 +1,8 @@
-use Rattle.std.proofs.Common.{◌++◌, ◌∷◌, [], ℕ, List, take, refl, sym, ◌∙◌, subst, arith}
-use Rattle.std.proofs.lemmas.List.{take_all}
+use Rattle.std.proofs.{Common.{◌++◌, ◌∷◌, [], ℕ, List, take, refl, sym, ◌∙◌, subst, arith}, lemmas.List.take_all}
 use Rattle.std.proofs.lemmas.Result.{err_from_is_err_and}
-use Rattle.xa_xid.specs.Xid.{Text}
-use Rattle.xa_xid.specs.declared.xid.Xid.{Xid}
-use Rattle.xa_coordinator.specs.declared.report.Tally.{Tally}
+use Rattle.xa_xid.specs.{Xid.Text, declared.xid.Xid.Xid}
+use Rattle.xa_coordinator.{specs.{declared.report.Tally.Tally, Stores.AtStore}, proofs.Listed.{take_next, at_index}}
 use Rattle.xa_coordinator.specs.Recovery.{Settled, nothing, one_more, SettlesOne, IsUnsettled, StopsAmong}
-use Rattle.xa_coordinator.specs.Stores.{AtStore}
-use Rattle.xa_coordinator.proofs.Listed.{take_next, at_index}
 use Rattle.xa_coordinator.proofs.Walk.{at_then, at_same, changes_then, unchanged}
 use Rattle.xa_coordinator.proofs.coordinator.Coordinator.settle_each.Goals as goal
 

@@ -1,8 +1,5 @@
-use Rattle.std.proofs.Common.{◌≡◌, ◌≤◌, ◌+◌, Some, None, take}
-use Rattle.std.specs.Prelude.{slice_get}
-use Rattle.xa_coordinator.specs.Stores.{AtStore, ChangesAt}
-use Rattle.xa_coordinator.specs.Recovery.{Settled}
-use Rattle.xa_coordinator.specs.Parts.{added_at, total}
+use Rattle.std.{proofs.Common.{◌≡◌, ◌≤◌, ◌+◌, Some, None, take}, specs.Prelude.slice_get}
+use Rattle.xa_coordinator.specs.{Stores.{AtStore, ChangesAt}, Recovery.Settled, Parts.{added_at, total}}
 use Rattle.xa_coordinator.proofs.coordinator.Coordinator.settle_each.Given as goal
 
 abbrev pub invariant-loop-xid : goal.invariant-loop-xid

@@ -1,11 +1,7 @@
-use Rattle.std.proofs.Common.{ℕ, List, Option, inr, refl, ap, sym, ◌∙◌, subst}
-use Rattle.std.specs.Prelude.{slice_get}
+use Rattle.std.{proofs.Common.{ℕ, List, Option, inr, refl, ap, sym, ◌∙◌, subst}, specs.Prelude.slice_get}
 use Rattle.xa_xid.specs.declared.statement.Statement.TheVariants.{Start}
-use Rattle.xa_coordinator.specs.Branch.{branch_xid}
-use Rattle.xa_coordinator.specs.declared.branches.OpenBranch.{OpenBranch}
-use Rattle.xa_coordinator.specs.Stores.{AtStore}
-use Rattle.xa_coordinator.specs.Told.{IsDone, IsUndone}
-use Rattle.xa_coordinator.proofs.Works.{works_started, never_started, unsaid_adds}
+use Rattle.xa_coordinator.specs.{Branch.branch_xid, declared.branches.OpenBranch.OpenBranch, Stores.AtStore}
+use Rattle.xa_coordinator.{specs.Told.{IsDone, IsUndone}, proofs.Works.{works_started, never_started, unsaid_adds}}
 use Rattle.xa_coordinator.proofs.coordinator.Coordinator.start_and_work.Goals as goal
 
 pub returns-in-Ok-clause-works : goal.returns-in-Ok-clause-works

@@ -1,7 +1,6 @@
 use Rattle.std.proofs.Common.{subst}
 use Rattle.xa_xid.specs.declared.statement.Statement.TheVariants.{Start}
-use Rattle.xa_coordinator.specs.Stores.{AtStore}
-use Rattle.xa_coordinator.specs.Parts.{IsToldAs}
+use Rattle.xa_coordinator.specs.{Stores.AtStore, Parts.IsToldAs}
 use Rattle.xa_coordinator.proofs.coordinator.Coordinator.start_branch.Goals as goal
 
 pub returns-clause-says : goal.returns-clause-says

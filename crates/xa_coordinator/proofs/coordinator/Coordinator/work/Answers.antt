@@ -1,5 +1,4 @@
-use Rattle.xa_coordinator.specs.Outcomes.{branch_of}
-use Rattle.xa_coordinator.proofs.Works.{works_add, work_agrees_each}
+use Rattle.xa_coordinator.{specs.Outcomes.branch_of, proofs.Works.{works_add, work_agrees_each}}
 use Rattle.xa_coordinator.proofs.coordinator.Coordinator.work.Goals as goal
 
 pub returns-clause-adds : goal.returns-clause-adds

@@ -1,13 +1,8 @@
-use Rattle.std.proofs.Common.{◌≡◌, ℕ, List, Option, refl, ap, sym, ◌∙◌, subst}
-use Rattle.std.specs.Prelude.{slice_get}
+use Rattle.std.{proofs.Common.{◌≡◌, ℕ, List, Option, refl, ap, sym, ◌∙◌, subst}, specs.Prelude.slice_get}
 use Rattle.xa_server.specs.declared.association.Association.TheVariants.{Active}
-use Rattle.xa_coordinator.specs.Branch.{branch_xid}
-use Rattle.xa_coordinator.specs.OpenBranches.{association_seen, IsWorking}
-use Rattle.xa_coordinator.specs.Outcomes.{branch_of}
-use Rattle.xa_coordinator.specs.declared.branches.OpenBranch.{OpenBranch}
-use Rattle.xa_coordinator.specs.declared.branches.Phase.TheVariants.{Active as PhaseActive}
-use Rattle.xa_coordinator.proofs.Opening.{working}
-use Rattle.xa_coordinator.proofs.Works.{works_open, within_adds}
+use Rattle.xa_coordinator.specs.{Branch.branch_xid, OpenBranches.{association_seen, IsWorking}, Outcomes.branch_of}
+use Rattle.xa_coordinator.specs.declared.branches.{OpenBranch.OpenBranch, Phase.TheVariants.Active as PhaseActive}
+use Rattle.xa_coordinator.proofs.{Opening.working, Works.{works_open, within_adds}}
 use Rattle.xa_coordinator.proofs.coordinator.Coordinator.work_at.Goals as goal
 
 pub returns-then-is_working-clause-works : goal.returns-then-is_working-clause-works

@@ -1,7 +1,5 @@
 use Rattle.std.proofs.Common.{ℕ, List, sym, subst}
-use Rattle.xa_coordinator.specs.Branch.{branch_xid}
-use Rattle.xa_coordinator.specs.Stores.{AtStore}
-use Rattle.xa_coordinator.specs.Work.{IsReplied}
+use Rattle.xa_coordinator.specs.{Branch.branch_xid, Stores.AtStore, Work.IsReplied}
 use Rattle.xa_coordinator.proofs.coordinator.Coordinator.work_within.Goals as goal
 
 pub returns-in-Ok-clause-works : goal.returns-in-Ok-clause-works

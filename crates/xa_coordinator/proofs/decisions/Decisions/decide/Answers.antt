@@ -1,7 +1,5 @@
-use Rattle.std.proofs.Common.{ap, ◌∙◌}
-use Rattle.std.specs.Prelude.{slice_set}
-use Rattle.xa_coordinator.specs.Decisions.{is_decided}
-use Rattle.xa_coordinator.specs.declared.decisions.Decision.TheVariants.{Decided}
+use Rattle.std.{proofs.Common.{ap, ◌∙◌}, specs.Prelude.slice_set}
+use Rattle.xa_coordinator.specs.{Decisions.is_decided, declared.decisions.Decision.TheVariants.Decided}
 use Rattle.xa_coordinator.proofs.DecisionsOf.{decided_after, decided_kept, with_decided-at}
 use Rattle.xa_coordinator.proofs.decisions.Decisions.decide.Goals as goal
 

@@ -1,7 +1,5 @@
-use Rattle.std.proofs.Common.{◌∙◌, ap}
-use Rattle.std.proofs.Math.Seq.{map-set_same}
-use Rattle.xa_coordinator.specs.declared.fused.Fused.{Fused}
-use Rattle.xa_coordinator.proofs.Keeping.{changes_at}
+use Rattle.std.proofs.{Common.{◌∙◌, ap}, Math.Seq.map-set_same}
+use Rattle.xa_coordinator.{specs.declared.fused.Fused.Fused, proofs.Keeping.changes_at}
 use Rattle.xa_coordinator.proofs.fused.Coordinator+Fused+S.allow.Goals as goal
 
 pub returns-clause-sessions : goal.returns-clause-sessions

@@ -1,5 +1,4 @@
-use Rattle.std.proofs.Common.{inl, inr, arith}
-use Rattle.std.proofs.lemmas.Bool.{cases_lt}
+use Rattle.std.proofs.{Common.{inl, inr, arith}, lemmas.Bool.cases_lt}
 use Rattle.xa_coordinator.proofs.Marks.{beyond}
 use Rattle.xa_coordinator.proofs.participants.Participants.next_from.Goals as goal
 

@@ -1,7 +1,5 @@
-use Rattle.std.proofs.Common.{◌≡◌, ℕ, [], ◌∷◌, refl, ap, subst, map, arith}
-use Rattle.std.specs.Prelude.{IfOk}
-use Rattle.xa_coordinator.specs.Watched.{Serves}
-use Rattle.xa_coordinator.proofs.Served.{after_serving, other_knows, served}
+use Rattle.std.{proofs.Common.{◌≡◌, ℕ, [], ◌∷◌, refl, ap, subst, map, arith}, specs.Prelude.IfOk}
+use Rattle.xa_coordinator.{specs.Watched.Serves, proofs.Served.{after_serving, other_knows, served}}
 use Rattle.xa_coordinator.proofs.store.LastingStore.answer_own.Goals as goal
 
 abbrev number : ℕ

@@ -1,10 +1,8 @@
 use Rattle.std.proofs.Common.{◌≡◌, true, length, sym, ◌∙◌, subst, arith}
-use Rattle.decision_log.specs.Calls.{IsAdded}
-use Rattle.decision_log.specs.declared.known.Known.{Known}
+use Rattle.decision_log.specs.{Calls.IsAdded, declared.known.Known.Known}
 use Rattle.chain_log.specs.RingPass.{known_of}
 use Rattle.xa_server.specs.State.{no_state}
-use Rattle.xa_session.specs.Answer.{entry_of}
-use Rattle.xa_session.specs.declared.answer.Answer.{Answer}
+use Rattle.xa_session.specs.{Answer.entry_of, declared.answer.Answer.Answer}
 use Rattle.xa_session.proofs.Answering.{replied, answered_entered, kept_entered}
 use Rattle.xa_endless.specs.Replicas.{kept_of}
 use Rattle.xa_endless.proofs.replica.Replica.attempt.Goals as goal

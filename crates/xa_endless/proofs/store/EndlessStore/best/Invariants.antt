@@ -1,5 +1,4 @@
-use Rattle.std.proofs.Common.{◌<◌, length}
-use Rattle.std.specs.Prelude.{IfSome}
+use Rattle.std.{proofs.Common.{◌<◌, length}, specs.Prelude.IfSome}
 use Rattle.xa_endless.proofs.store.EndlessStore.best.Given as goal
 
 abbrev pub invariant-loop-index : goal.invariant-loop-index

@@ -1,6 +1,5 @@
 use Rattle.std.proofs.Common.{sym, ap, ◌∙◌, inr, Some}
-use Rattle.xa_judge.specs.Found.{config_of}
-use Rattle.xa_judge.proofs.Waits.{effect_called}
+use Rattle.xa_judge.{specs.Found.config_of, proofs.Waits.effect_called}
 use Rattle.xa_judge.proofs.configuration.Configuration.settled.Goals as goal
 
 pub returns-in_ok-new-in-Some-clause-reach : goal.returns-in_ok-new-in-Some-clause-reach

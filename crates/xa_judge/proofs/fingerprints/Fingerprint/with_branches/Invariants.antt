@@ -1,5 +1,4 @@
-use Rattle.std.proofs.Common.{◌≡◌, take}
-use Rattle.std.specs.Prelude.{fold}
+use Rattle.std.{proofs.Common.{◌≡◌, take}, specs.Prelude.fold}
 use Rattle.xa_judge.specs.Marks.{with_branch}
 use Rattle.xa_judge.proofs.fingerprints.Fingerprint.with_branches.Given as goal
 

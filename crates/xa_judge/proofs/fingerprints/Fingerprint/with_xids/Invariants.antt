@@ -1,5 +1,4 @@
-use Rattle.std.proofs.Common.{◌≡◌, length, take}
-use Rattle.std.specs.Prelude.{fold}
+use Rattle.std.{proofs.Common.{◌≡◌, length, take}, specs.Prelude.fold}
 use Rattle.xa_judge.specs.Marks.{with_word, with_xid}
 use Rattle.xa_judge.proofs.fingerprints.Fingerprint.with_xids.Given as goal
 

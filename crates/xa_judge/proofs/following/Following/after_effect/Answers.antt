@@ -1,7 +1,5 @@
-use Rattle.std.proofs.Common.{ap, sym, ◌∙◌, Some, drop}
-use Rattle.std.specs.Option.{option_map}
-use Rattle.xa_judge.specs.Found.{config_of}
-use Rattle.xa_judge.proofs.Steps.{effect_leads}
+use Rattle.std.{proofs.Common.{ap, sym, ◌∙◌, Some, drop}, specs.Option.option_map}
+use Rattle.xa_judge.{specs.Found.config_of, proofs.Steps.effect_leads}
 use Rattle.xa_judge.proofs.following.Following.after_effect.Goals as goal
 
 pub returns-in-Some : goal.returns-in-Some

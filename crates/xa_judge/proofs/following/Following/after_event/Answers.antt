@@ -1,8 +1,6 @@
-use Rattle.std.proofs.Common.{ap, sym, ◌∙◌, ◌+◌, Some, drop, length, refl}
-use Rattle.std.proofs.lemmas.Option.{slice_get_read}
+use Rattle.std.proofs.{Common.{ap, sym, ◌∙◌, ◌+◌, Some, drop, length, refl}, lemmas.Option.slice_get_read}
 use Rattle.std.specs.Option.{option_map}
-use Rattle.xa_judge.specs.Found.{config_of}
-use Rattle.xa_judge.proofs.Steps.{event_leads, drop_got}
+use Rattle.xa_judge.{specs.Found.config_of, proofs.Steps.{event_leads, drop_got}}
 use Rattle.xa_judge.proofs.following.Following.after_event.Goals as goal
 
 pub returns-in-Some-2 : goal.returns-in-Some-2

@@ -1,6 +1,5 @@
 use Rattle.std.proofs.Common.{◌≡◌, ◌++◌, [], map, ap, sym, ◌∙◌, append_assoc, rules}
-use Rattle.xa_judge.specs.Path.{move_of, moves_of}
-use Rattle.xa_judge.proofs.Paths.{moves_split}
+use Rattle.xa_judge.{specs.Path.{move_of, moves_of}, proofs.Paths.moves_split}
 use Rattle.xa_judge.proofs.path.Path.add_to.Goals as goal
 
 pub returns : goal.returns

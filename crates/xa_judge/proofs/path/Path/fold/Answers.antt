@@ -1,6 +1,5 @@
 use Rattle.std.proofs.Common.{◌≡◌, ◌++◌, ◌∷◌, [], ap, ◌∙◌, rules}
-use Rattle.xa_judge.specs.Path.{moves_of}
-use Rattle.xa_judge.proofs.Paths.{moves_folded}
+use Rattle.xa_judge.{specs.Path.moves_of, proofs.Paths.moves_folded}
 use Rattle.xa_judge.proofs.path.Path.fold.Goals as goal
 
 pub returns : goal.returns

@@ -1,6 +1,5 @@
 use Rattle.std.proofs.Common.{◌++◌, ◌∷◌, [], ap, ◌∙◌}
-use Rattle.xa_judge.specs.Path.{moves_of}
-use Rattle.xa_judge.proofs.Paths.{moves_push}
+use Rattle.xa_judge.{specs.Path.moves_of, proofs.Paths.moves_push}
 use Rattle.xa_judge.proofs.path.Path.push.Goals as goal
 
 pub returns : goal.returns

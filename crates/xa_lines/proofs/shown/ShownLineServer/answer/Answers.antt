@@ -1,6 +1,5 @@
 use Rattle.std.proofs.Common.{refl}
-use Rattle.xa_lines.specs.Answer.{bytes_of}
-use Rattle.xa_lines.proofs.Behind.{comment_shown, line_shown}
+use Rattle.xa_lines.{specs.Answer.bytes_of, proofs.Behind.{comment_shown, line_shown}}
 use Rattle.xa_lines.proofs.shown.ShownLineServer.answer.Goals as goal
 
 pub returns-then-is_comment : goal.returns-then-is_comment

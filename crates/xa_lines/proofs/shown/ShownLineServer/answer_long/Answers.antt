@@ -1,5 +1,4 @@
-use Rattle.xa_lines.specs.Answer.{bytes_of}
-use Rattle.xa_lines.proofs.Behind.{long_shown}
+use Rattle.xa_lines.{specs.Answer.bytes_of, proofs.Behind.long_shown}
 use Rattle.xa_lines.proofs.shown.ShownLineServer.answer_long.Goals as goal
 
 pub returns : goal.returns

@@ -1,7 +1,5 @@
 use Rattle.std.proofs.Common.{inl, subst}
-use Rattle.xa_lines.specs.Answer.{bytes_of}
-use Rattle.xa_lines.specs.Script.{Line, line_of}
-use Rattle.xa_lines.specs.Statements.{IsAnswerTo}
+use Rattle.xa_lines.specs.{Answer.bytes_of, Script.{Line, line_of}, Statements.IsAnswerTo}
 use Rattle.xa_lines.proofs.Told.{blank_answered, bad_answered}
 use Rattle.xa_lines.proofs.statements.ServerLineServer.answer.Goals as goal
 

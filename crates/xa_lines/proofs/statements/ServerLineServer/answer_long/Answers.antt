@@ -1,6 +1,5 @@
 use Rattle.std.proofs.Common.{inl, refl}
-use Rattle.xa_lines.specs.Script.{Bad}
-use Rattle.xa_lines.proofs.Told.{bad_answered}
+use Rattle.xa_lines.{specs.Script.Bad, proofs.Told.bad_answered}
 use Rattle.xa_lines.proofs.statements.ServerLineServer.answer_long.Goals as goal
 
 pub returns : goal.returns

@@ -1,6 +1,5 @@
 use Rattle.std.proofs.Common.{◌≡◌, ◌∙◌, vec_len, refl, inr, sym, rules}
-use Rattle.xa_manager.proofs.States.{same_open}
-use Rattle.xa_manager.proofs.Said.{as_many}
+use Rattle.xa_manager.proofs.{States.same_open, Said.as_many}
 use Rattle.xa_manager.proofs.answer.Manager+Fused+S+T.fail.Goals as goal
 
 pub returns : goal.returns

@@ -1,7 +1,6 @@
 use Rattle.std.proofs.Common.{◌≡◌, ◌∙◌, Vec, Global, vec_len, ap, map, refl, sym, rules}
 use Rattle.xa_coordinator.specs.declared.fused.Fused.{Fused}
-use Rattle.xa_manager.proofs.States.{same_whole}
-use Rattle.xa_manager.proofs.Said.{as_many}
+use Rattle.xa_manager.proofs.{States.same_whole, Said.as_many}
 use Rattle.xa_manager.proofs.answer.Manager+Fused+S+T.stop.Goals as goal
 
 pub returns : goal.returns

@@ -1,9 +1,6 @@
 use Rattle.std.proofs.Common.{sym}
-use Rattle.xa_manager.specs.declared.response.Response.{Response}
-use Rattle.xa_manager.specs.Beside.{PerformsBeside}
-use Rattle.xa_manager.specs.Managed.{whole_of}
-use Rattle.xa_manager.specs.Whole.{Performs}
-use Rattle.xa_manager.proofs.Besides.{performed_beside, if_ok_map}
+use Rattle.xa_manager.specs.{declared.response.Response.Response, Beside.PerformsBeside, Managed.whole_of}
+use Rattle.xa_manager.{specs.Whole.Performs, proofs.Besides.{performed_beside, if_ok_map}}
 use Rattle.xa_manager.proofs.beside.Manager+Fused+S+T.answer_beside.Goals as goal
 
 pub returns-in-At-clause-answers : goal.returns-in-At-clause-answers

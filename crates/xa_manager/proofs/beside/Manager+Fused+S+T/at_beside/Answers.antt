@@ -1,11 +1,7 @@
 use Rattle.std.proofs.Common.{◌≡◌, ◌∙◌, vec_len, ap, refl, sym, subst, inr, rules}
-use Rattle.xa_coordinator.specs.Beside.{IsAnsweredSo}
-use Rattle.xa_coordinator.proofs.Walk.{at_weaker}
-use Rattle.xa_manager.specs.declared.response.Response.TheVariants.{Replied}
-use Rattle.xa_manager.specs.Beside.{within}
-use Rattle.xa_manager.specs.Said.{IsGiven}
-use Rattle.xa_manager.proofs.States.{same_open}
-use Rattle.xa_manager.proofs.Besides.{given_so, leaves_none, leaves_next}
+use Rattle.xa_coordinator.{specs.Beside.IsAnsweredSo, proofs.Walk.at_weaker}
+use Rattle.xa_manager.specs.{declared.response.Response.TheVariants.Replied, Beside.within, Said.IsGiven}
+use Rattle.xa_manager.proofs.{States.same_open, Besides.{given_so, leaves_none, leaves_next}}
 use Rattle.xa_manager.proofs.beside.Manager+Fused+S+T.at_beside.Goals as goal
 
 pub returns : goal.returns

@@ -1,15 +1,11 @@
 use Rattle.std.proofs.Common.{◌≡◌, ◌∙◌, ap, sym, refl, inl, inr}
-use Rattle.xa_manager.specs.Calls.{call_of}
-use Rattle.xa_manager.specs.Texts.{answer_text}
-use Rattle.xa_manager.specs.declared.call.Call.TheVariants.{Silent as SilentCall}
-use Rattle.xa_manager.specs.declared.response.Response.TheVariants.{Silent}
-use Rattle.xa_manager.specs.Managed.{whole_of}
-use Rattle.xa_manager.proofs.Besides.{performed_said}
+use Rattle.xa_manager.{specs.{Calls.call_of, Texts.answer_text, declared.call.Call.Call}, proofs.Besides.performed_said}
+use Rattle.xa_manager.specs.{declared.response.Response.TheVariants.Silent, Managed.whole_of}
 use Rattle.xa_manager.proofs.beside_server.BesideServerFusedLineServer.answer.Goals as goal
 
 pub returns-in-Silent : goal.returns-in-Silent
 returns-in-Silent g c =
-    let said : call_of c.args.line.now ≡ SilentCall = sym c.read_call-call.ensures.call ∙ c.in-Silent.is in
+    let said : call_of c.args.line.now ≡ Call.Silent = sym c.read_call-call.ensures.call ∙ c.in-Silent.is in
     rw said
     (inl (
       Silent,

@@ -1,10 +1,6 @@
 use Rattle.std.proofs.Common.{◌≡◌, ◌∙◌, ap, sym, refl, inl, inr}
-use Rattle.xa_manager.specs.Calls.{call_of}
-use Rattle.xa_manager.specs.Texts.{answer_text}
-use Rattle.xa_manager.specs.declared.call.Call.TheVariants.{Silent as SilentCall}
-use Rattle.xa_manager.specs.declared.response.Response.TheVariants.{Silent}
-use Rattle.xa_manager.specs.Managed.{whole_of}
-use Rattle.xa_manager.proofs.Said.{performed}
+use Rattle.xa_manager.specs.{Calls.call_of, Texts.answer_text, declared.call.Call.TheVariants.Silent as SilentCall}
+use Rattle.xa_manager.{specs.{declared.response.Response.TheVariants.Silent, Managed.whole_of}, proofs.Said.performed}
 use Rattle.xa_manager.proofs.call_server.CallServerFusedLineServer.answer.Goals as goal
 
 pub returns-in-Silent : goal.returns-in-Silent

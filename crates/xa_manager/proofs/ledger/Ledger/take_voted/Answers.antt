@@ -1,6 +1,5 @@
 use Rattle.std.proofs.Common.{sym}
-use Rattle.xa_manager.specs.declared.stage.Stage.TheVariants.{Over}
-use Rattle.xa_manager.proofs.Stages.{put_back}
+use Rattle.xa_manager.{specs.declared.stage.Stage.TheVariants.Over, proofs.Stages.put_back}
 use Rattle.xa_manager.proofs.ledger.Ledger.take_voted.Goals as goal
 
 pub returns-in-Some-clause-kept : goal.returns-in-Some-clause-kept

@@ -1,8 +1,6 @@
 use Rattle.std.proofs.Common.{[], ◌∙◌, length, vec_len, ap, refl, sym, inr}
-use Rattle.xa_manager.specs.declared.stage.Stage.TheVariants.{Working, Over}
-use Rattle.xa_manager.proofs.Stages.{with_stage-length, kept_over, ready_over}
-use Rattle.xa_manager.proofs.States.{same_whole, kept_as, ready_as}
-use Rattle.xa_manager.proofs.Nothing.{none_decided}
+use Rattle.xa_manager.{specs.declared.stage.Stage.TheVariants.{Working, Over}, proofs.Nothing.none_decided}
+use Rattle.xa_manager.proofs.{Stages.{with_stage-length, kept_over, ready_over}, States.{same_whole, kept_as, ready_as}}
 use Rattle.xa_manager.proofs.Said.{agreed_logs}
 use Rattle.xa_manager.proofs.manager.Manager.abandon.Goals as goal
 

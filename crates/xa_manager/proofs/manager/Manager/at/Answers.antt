@@ -1,7 +1,6 @@
 use Rattle.std.proofs.Common.{[], ap, refl, inr, rules}
 use Rattle.xa_coordinator.proofs.Keeping.{at_place, changes_at}
-use Rattle.xa_manager.specs.declared.response.Response.TheVariants.{Replied}
-use Rattle.xa_manager.specs.Said.{IsGiven}
+use Rattle.xa_manager.specs.{declared.response.Response.TheVariants.Replied, Said.IsGiven}
 use Rattle.xa_manager.proofs.manager.Manager.at.Goals as goal
 
 pub returns : goal.returns

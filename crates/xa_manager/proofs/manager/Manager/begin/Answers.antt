@@ -1,9 +1,7 @@
 use Rattle.std.proofs.Common.{◌≡◌, ◌∙◌, ◌+◌, ◌∷◌, [], length, length-append, vec_len, ap, refl, sym, inl}
 use Rattle.xa_coordinator.specs.declared.decisions.Decision.TheVariants.{Undecided}
-use Rattle.xa_manager.specs.declared.stage.Stage.TheVariants.{Working}
-use Rattle.xa_manager.specs.declared.response.Response.TheVariants.{Begun}
-use Rattle.xa_manager.specs.Ledger.{IsTransactionOf}
-use Rattle.xa_manager.proofs.Stages.{kept_more, ready_more}
+use Rattle.xa_manager.specs.declared.{stage.Stage.TheVariants.Working, response.Response.TheVariants.Begun}
+use Rattle.xa_manager.{specs.Ledger.IsTransactionOf, proofs.Stages.{kept_more, ready_more}}
 use Rattle.xa_manager.proofs.States.{same_whole, kept_as, ready_as, working_kept, begun_on}
 use Rattle.xa_manager.proofs.manager.Manager.begin.Goals as goal
 

@@ -1,6 +1,5 @@
 use Rattle.std.proofs.Common.{◌≡◌, ◌∙◌, length, ap, refl, sym, inl, inr}
-use Rattle.xa_manager.specs.declared.stage.Stage.TheVariants.{Ready, Over}
-use Rattle.xa_manager.proofs.Stages.{put_back}
+use Rattle.xa_manager.{specs.declared.stage.Stage.TheVariants.{Ready, Over}, proofs.Stages.put_back}
 use Rattle.xa_manager.proofs.States.{same_whole, kept_as, ready_as, after_decision}
 use Rattle.xa_manager.proofs.manager.Manager.decide.Goals as goal
 

@@ -1,8 +1,6 @@
 use Rattle.std.proofs.Common.{◌∙◌, length, vec_len, ap, refl, sym, inr}
-use Rattle.xa_manager.specs.declared.stage.Stage.TheVariants.{Over}
-use Rattle.xa_manager.proofs.Stages.{with_stage-length, kept_over, ready_over, kept_voted}
-use Rattle.xa_manager.proofs.States.{same_whole, kept_as, ready_as}
-use Rattle.xa_manager.proofs.Said.{agreed_logs}
+use Rattle.xa_manager.{specs.declared.stage.Stage.TheVariants.Over, proofs.States.{same_whole, kept_as, ready_as}}
+use Rattle.xa_manager.proofs.{Stages.{with_stage-length, kept_over, ready_over, kept_voted}, Said.agreed_logs}
 use Rattle.xa_manager.proofs.manager.Manager.finish.Goals as goal
 
 pub finish-requires-clause-name : goal.finish-requires-clause-name

@@ -1,11 +1,8 @@
 use Rattle.std.proofs.Common.{[], ◌≡◌, ◌∙◌, length, vec_len, ap, refl, sym, inr}
-use Rattle.xa_manager.specs.declared.stage.Stage.TheVariants.{Working, Over}
-use Rattle.xa_manager.specs.declared.response.Response.TheVariants.{Voted as Told}
-use Rattle.xa_manager.specs.Ledger.{with_stage}
-use Rattle.xa_manager.specs.Carried.{stage_after}
+use Rattle.xa_manager.specs.{declared.stage.Stage.TheVariants.{Working, Over}, Carried.stage_after}
+use Rattle.xa_manager.specs.{declared.response.Response.TheVariants.Voted as Told, Ledger.with_stage}
 use Rattle.xa_manager.proofs.Stages.{with_stage-length, kept_with, ready_with, put_on}
-use Rattle.xa_manager.proofs.States.{same_whole, kept_as, ready_as, voted_kept, voted_ready}
-use Rattle.xa_manager.proofs.Said.{agreed_logs}
+use Rattle.xa_manager.proofs.{States.{same_whole, kept_as, ready_as, voted_kept, voted_ready}, Said.agreed_logs}
 use Rattle.xa_manager.proofs.manager.Manager.prepare.Goals as goal
 
 pub prepare-vote-requires-clause-name : goal.prepare-vote-requires-clause-name

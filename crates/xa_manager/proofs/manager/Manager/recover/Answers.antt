@@ -1,6 +1,5 @@
 use Rattle.std.proofs.Common.{◌∙◌, sym, refl}
-use Rattle.xa_manager.proofs.States.{same_whole}
-use Rattle.xa_manager.proofs.Said.{agreed_logs}
+use Rattle.xa_manager.proofs.{States.same_whole, Said.agreed_logs}
 use Rattle.xa_manager.proofs.manager.Manager.recover.Goals as goal
 
 pub returns : goal.returns

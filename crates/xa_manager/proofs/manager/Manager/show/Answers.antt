@@ -1,6 +1,5 @@
 use Rattle.std.proofs.Common.{◌≡◌, length, vec_len, refl}
-use Rattle.xa_manager.specs.Said.{IsListed}
-use Rattle.xa_manager.proofs.Said.{each_lent}
+use Rattle.xa_manager.{specs.Said.IsListed, proofs.Said.each_lent}
 use Rattle.xa_manager.proofs.manager.Manager.show.Goals as goal
 
 pub returns-clause-answers : goal.returns-clause-answers

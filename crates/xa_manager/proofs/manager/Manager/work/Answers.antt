@@ -1,8 +1,7 @@
 use Rattle.std.proofs.Common.{rules, [], ◌≡◌, ◌∙◌, length, vec_len, ap, refl, sym, inr}
 use Rattle.xa_manager.specs.declared.stage.Stage.TheVariants.{Working, Over}
 use Rattle.xa_manager.proofs.Stages.{with_stage-length, kept_with, ready_with, put_on}
-use Rattle.xa_manager.proofs.States.{same_whole, kept_as, ready_as, worked_kept}
-use Rattle.xa_manager.proofs.Said.{agreed_logs}
+use Rattle.xa_manager.proofs.{States.{same_whole, kept_as, ready_as, worked_kept}, Said.agreed_logs}
 use Rattle.xa_manager.proofs.manager.Manager.work.Goals as goal
 
 pub work-worked-requires-clause-name : goal.work-worked-requires-clause-name

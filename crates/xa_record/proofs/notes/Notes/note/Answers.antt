@@ -1,9 +1,6 @@
-use Rattle.std.proofs.Common.{ℕ, Option, map, slice_set, slice_get, ap, sym, ◌∙◌}
-use Rattle.std.proofs.lemmas.List.{map-append}
-use Rattle.xa_record.specs.declared.presence.Presence.{Presence}
-use Rattle.xa_record.specs.Reading.{cause_of}
-use Rattle.xa_record.specs.Kept.{told_kept, numbered_kept, notes_kept}
-use Rattle.xa_record.proofs.NotedLines.{numbered-so}
+use Rattle.std.proofs.{Common.{ℕ, Option, map, slice_set, slice_get, ap, sym, ◌∙◌}, lemmas.List.map-append}
+use Rattle.xa_record.specs.{declared.presence.Presence.Presence, Reading.cause_of}
+use Rattle.xa_record.{specs.Kept.{told_kept, numbered_kept, notes_kept}, proofs.NotedLines.numbered-so}
 use Rattle.xa_record.proofs.notes.Notes.note.Goals as goal
 
 pub returns-in_ok-push-in-None : goal.returns-in_ok-push-in-None

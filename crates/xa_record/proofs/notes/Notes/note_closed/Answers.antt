@@ -1,10 +1,6 @@
-use Rattle.std.proofs.Common.{ℕ, Option, map, slice_set, ap, sym, ◌∙◌}
-use Rattle.std.specs.List.{insert}
-use Rattle.xa_record.specs.declared.presence.Presence.{Presence}
-use Rattle.xa_record.specs.declared.presence.Presence.TheVariants.{Lost}
-use Rattle.xa_record.specs.Lines.{Leaves}
-use Rattle.xa_record.specs.Reading.{NumberedEvent, cause_of, up_to_return}
-use Rattle.xa_record.specs.Kept.{numbered_kept, notes_kept}
+use Rattle.std.{proofs.Common.{ℕ, Option, map, slice_set, ap, sym, ◌∙◌}, specs.List.insert}
+use Rattle.xa_record.specs.{declared.presence.Presence.{Presence, TheVariants.Lost}, Lines.Leaves}
+use Rattle.xa_record.specs.{Reading.{NumberedEvent, cause_of, up_to_return}, Kept.{numbered_kept, notes_kept}}
 use Rattle.xa_record.proofs.NotedLines.{closed-so, map-insert}
 use Rattle.xa_record.proofs.notes.Notes.note_closed.Goals as goal
 

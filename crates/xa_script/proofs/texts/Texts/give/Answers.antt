@@ -1,6 +1,5 @@
 use Rattle.std.proofs.Common.{◌∙◌, ap, drop}
-use Rattle.xa_script.proofs.Owed.{known_kept, kept_on}
-use Rattle.xa_script.specs.Owing.{sent_of}
+use Rattle.xa_script.{proofs.Owed.{known_kept, kept_on}, specs.Owing.sent_of}
 use Rattle.xa_script.proofs.texts.Texts.give.Goals as goal
 
 pub returns-in_err-give_some-clause-kept : goal.returns-in_err-give_some-clause-kept

@@ -1,5 +1,4 @@
-use Rattle.std.proofs.Common.{◌≡◌, ◌-◌, length}
-use Rattle.std.specs.Io.KnownBytes.{Keeps}
+use Rattle.std.{proofs.Common.{◌≡◌, ◌-◌, length}, specs.Io.KnownBytes.Keeps}
 use Rattle.xa_script.specs.Owing.{sent_of}
 use Rattle.xa_script.proofs.texts.Texts.give.Given as goal
 

@@ -1,5 +1,4 @@
-use Rattle.std.proofs.Common.{◌+◌, ℕ, List, subst, drop}
-use Rattle.std.specs.Io.KnownBytes.{Keeps, append_known}
+use Rattle.std.{proofs.Common.{◌+◌, ℕ, List, subst, drop}, specs.Io.KnownBytes.{Keeps, append_known}}
 use Rattle.xa_script.proofs.Owed.{given_more}
 use Rattle.xa_script.proofs.texts.Texts.give_some.Goals as goal
 

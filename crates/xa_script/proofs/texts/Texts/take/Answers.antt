@@ -1,8 +1,6 @@
 use Rattle.std.proofs.Common.{◌≡◌, ◌∙◌, ℕ, ◌+◌, ◌++◌, true, false, List, ap, sym, subst, take, drop, inr, arith}
 use Rattle.std.proofs.lemmas.Grind.{common_steps}
-use Rattle.xa_script.specs.TextLines.{ends_line}
-use Rattle.xa_script.specs.Owing.{IsEnded}
-use Rattle.xa_script.specs.declared.line_form.LineForm.{LineForm}
+use Rattle.xa_script.specs.{TextLines.ends_line, Owing.IsEnded, declared.line_form.LineForm.LineForm}
 use Rattle.xa_script.proofs.Owed.{due_behind, begun_more}
 use Rattle.xa_script.proofs.texts.Texts.take.Goals as goal
 

@@ -1,6 +1,5 @@
 use Rattle.std.proofs.Common.{drop}
-use Rattle.xa_script.proofs.Owed.{all_given, on_ok}
-use Rattle.xa_script.specs.Owing.{known_of}
+use Rattle.xa_script.{proofs.Owed.{all_given, on_ok}, specs.Owing.known_of}
 use Rattle.xa_script.proofs.texts.TextsWrite.flush.Goals as goal
 
 pub returns-clause-all : goal.returns-clause-all

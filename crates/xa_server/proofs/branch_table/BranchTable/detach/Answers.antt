@@ -1,15 +1,11 @@
-use Rattle.std.proofs.Common.{◌≡◌, refl, ap, ◌∙◌, Some, None}
-use Rattle.std.specs.Prelude.{MatchOption}
-use Rattle.std.specs.BTreeMap as tree
-use Rattle.std.specs.FinMap as map
+use Rattle.std.{proofs.Common.{◌≡◌, refl, ap, ◌∙◌, Some, None}, specs.Prelude.MatchOption}
 use Rattle.std.specs.BTreeMap.{BTreeMap, Updates}
-use Rattle.xa_xid.specs.Xid.{xid_cmp}
-use Rattle.xa_xid.specs.declared.xid.Xid.{Xid}
-use Rattle.xa_server.specs.declared.branch.BranchRecord.{BranchRecord}
-use Rattle.xa_server.specs.declared.branch.Phase.TheVariants.{Prepared}
-use Rattle.xa_server.specs.Tables.{with_record}
+use Rattle.xa_xid.specs.{Xid.xid_cmp, declared.xid.Xid.Xid}
+use Rattle.xa_server.specs.{declared.branch.{BranchRecord.BranchRecord, Phase.TheVariants.Prepared}, Tables.with_record}
 use Rattle.xa_server.proofs.Records.{branches_in, changed_in}
 use Rattle.xa_server.proofs.Index.{owner_within, indexed_freed, changed_apart, no_owner, tree_owner}
+use Rattle.std.specs.BTreeMap as tree
+use Rattle.std.specs.FinMap as map
 use Rattle.xa_server.proofs.branch_table.BranchTable.detach.Goals as goal
 
 -- the branch, PREPARED and nobody's

@@ -1,11 +1,9 @@
 use Rattle.std.proofs.Common.{◌≡◌, refl, ap, ◌∙◌}
-use Rattle.std.specs.FinMap as map
-use Rattle.xa_server.specs.declared.branch.BranchRecord.{BranchRecord}
-use Rattle.xa_server.specs.declared.branch.Phase.TheVariants.{Idle}
+use Rattle.xa_server.specs.declared.branch.{BranchRecord.BranchRecord, Phase.TheVariants.Idle}
 use Rattle.xa_server.specs.declared.association.Association.TheVariants.{Idle as IdleAt}
-use Rattle.xa_server.specs.Tables.{with_record, idle_of, opened_at}
-use Rattle.xa_server.proofs.Records.{branches_in, changed_in}
+use Rattle.xa_server.{specs.Tables.{with_record, idle_of, opened_at}, proofs.Records.{branches_in, changed_in}}
 use Rattle.xa_server.proofs.Index.{owner_within, indexed_idle, ended_named, changed_apart, same_owner, tree_owner}
+use Rattle.std.specs.FinMap as map
 use Rattle.xa_server.proofs.branch_table.BranchTable.end_work.Goals as goal
 
 -- the branch, IDLE

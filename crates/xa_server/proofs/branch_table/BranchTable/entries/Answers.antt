@@ -1,7 +1,6 @@
 use Rattle.std.proofs.Common.{ap, sym, ◌∙◌, map}
 use Rattle.xa_xid.proofs.Orders.{xids_total, exact_xids}
-use Rattle.xa_server.specs.Held.{recorded_entry, recorded_entries}
-use Rattle.xa_server.proofs.Kept.{entries-made}
+use Rattle.xa_server.{specs.Held.{recorded_entry, recorded_entries}, proofs.Kept.entries-made}
 use Rattle.xa_server.proofs.Outcomes.{if_ok, on_err}
 use Rattle.xa_server.proofs.branch_table.BranchTable.entries.Goals as goal
 

@@ -1,8 +1,6 @@
 use Rattle.std.proofs.Common.{List, ℕ, [], ◌∷◌, ◌++◌, refl, ap, ◌∙◌}
-use Rattle.xa_server.specs.declared.branch.BranchRecord.{BranchRecord}
-use Rattle.xa_server.specs.Tables.{with_record}
-use Rattle.xa_server.proofs.Outcomes.{either_way, on_ok, on_err}
-use Rattle.xa_server.proofs.Records.{changed_in, with_record-same}
+use Rattle.xa_server.specs.{declared.branch.BranchRecord.BranchRecord, Tables.with_record}
+use Rattle.xa_server.proofs.{Outcomes.{either_way, on_ok, on_err}, Records.{changed_in, with_record-same}}
 use Rattle.xa_server.proofs.Index.{indexed_moved, owner_of-changed, phase_in-changed}
 use Rattle.xa_server.proofs.branch_table.BranchTable.list.Goals as goal
 

@@ -1,7 +1,5 @@
-use Rattle.std.proofs.Common.{ap, ◌∙◌}
-use Rattle.std.specs.Option.{option_map}
-use Rattle.xa_server.specs.declared.branch.BranchRecord.{BranchRecord}
-use Rattle.xa_server.proofs.Records.{get_branch}
+use Rattle.std.{proofs.Common.{ap, ◌∙◌}, specs.Option.option_map}
+use Rattle.xa_server.{specs.declared.branch.BranchRecord.BranchRecord, proofs.Records.get_branch}
 use Rattle.xa_server.proofs.branch_table.BranchTable.phase_of.Goals as goal
 
 pub returns-in-Some : goal.returns-in-Some

@@ -1,7 +1,5 @@
 use Rattle.std.proofs.Common.{ap, sym, ◌∙◌}
-use Rattle.xa_server.specs.Tables.{prepared_among}
-use Rattle.xa_server.proofs.Outcomes.{if_ok}
-use Rattle.xa_server.proofs.Sorted.{prepared-among}
+use Rattle.xa_server.{specs.Tables.prepared_among, proofs.{Outcomes.if_ok, Sorted.prepared-among}}
 use Rattle.xa_server.proofs.branch_table.BranchTable.prepared.Goals as goal
 
 pub returns : goal.returns

@@ -1,12 +1,10 @@
-use Rattle.std.proofs.Common.{List, ◌≡◌, ℕ, ap, sym, ◌∙◌}
-use Rattle.std.specs.Prelude.{Option}
-use Rattle.std.specs.Option.{option_map}
-use Rattle.std.specs.FinMap as map
+use Rattle.std.{proofs.Common.{List, ◌≡◌, ℕ, ap, sym, ◌∙◌}, specs.{Prelude.Option, Option.option_map}}
 use Rattle.xa_server.specs.declared.branch.BranchRecord.{BranchRecord}
 use Rattle.xa_server.proofs.Records.{branches_in, get_branch, removed_in, found_in}
 use Rattle.xa_server.proofs.Index.{owner_in, owner_within, indexed_removed, removed_apart}
-use Rattle.xa_server.proofs.branch_table.BranchTable.remove.Goals as goal
 use Rattle.xa_server.proofs.branch_table.BranchTable.remove.Goals.{in-Some, in_default}
+use Rattle.std.specs.FinMap as map
+use Rattle.xa_server.proofs.branch_table.BranchTable.remove.Goals as goal
 
 -- the keys that a record lists
 keys_in : Option BranchRecord → Option (List (List ℕ))

@@ -1,13 +1,8 @@
-use Rattle.std.proofs.Common.{◌≡◌, ℕ, [], refl, ap, sym, ◌∙◌, Some}
-use Rattle.std.specs.Option.{option_and_then}
-use Rattle.std.specs.FinMap as map
+use Rattle.std.{proofs.Common.{◌≡◌, ℕ, [], refl, ap, sym, ◌∙◌, Some}, specs.Option.option_and_then}
 use Rattle.xa_xid.proofs.Orders.{xids_total, exact_xids}
-use Rattle.xa_server.specs.declared.branch.BranchRecord.{BranchRecord}
-use Rattle.xa_server.specs.declared.branch.Phase.TheVariants.{Active}
-use Rattle.xa_server.specs.Tables.{owner_of}
-use Rattle.xa_server.proofs.Maps.{one_set}
-use Rattle.xa_server.proofs.Records.{branches_in}
-use Rattle.xa_server.proofs.Index.{indexed_started, indexed_grown}
+use Rattle.xa_server.specs.{declared.branch.{BranchRecord.BranchRecord, Phase.TheVariants.Active}, Tables.owner_of}
+use Rattle.xa_server.proofs.{Maps.one_set, Records.branches_in, Index.{indexed_started, indexed_grown}}
+use Rattle.std.specs.FinMap as map
 use Rattle.xa_server.proofs.branch_table.BranchTable.start.Goals as goal
 
 -- the branch that starts

@@ -1,8 +1,6 @@
 use Rattle.std.proofs.Common.{refl, ap, ◌∙◌}
-use Rattle.xa_server.specs.declared.branch.BranchRecord.{BranchRecord}
-use Rattle.xa_server.specs.Tables.{with_record, without_last}
-use Rattle.xa_server.proofs.Records.{changed_in}
-use Rattle.xa_server.proofs.Index.{indexed_moved, owner_of-changed, phase_in-changed}
+use Rattle.xa_server.specs.{declared.branch.BranchRecord.BranchRecord, Tables.{with_record, without_last}}
+use Rattle.xa_server.proofs.{Records.changed_in, Index.{indexed_moved, owner_of-changed, phase_in-changed}}
 use Rattle.xa_server.proofs.branch_table.BranchTable.unlist.Goals as goal
 
 -- the branch without its last key

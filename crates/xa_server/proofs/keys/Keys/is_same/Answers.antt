@@ -1,5 +1,4 @@
-use Rattle.std.proofs.Common.{rules, tests, sym, ◌∙◌}
-use Rattle.std.proofs.lemmas.Slice.Eq.{slice_eq-Decides}
+use Rattle.std.proofs.{Common.{rules, tests, sym, ◌∙◌}, lemmas.Slice.Eq.slice_eq-Decides}
 use Rattle.xa_server.proofs.keys.Keys.is_same.Goals as goal
 
 pub returns : goal.returns

@@ -1,5 +1,4 @@
-use Rattle.xa_server.specs.Packed.{Fits}
-use Rattle.xa_server.proofs.Packing.{others_so}
+use Rattle.xa_server.{specs.Packed.Fits, proofs.Packing.others_so}
 use Rattle.xa_server.proofs.packed.Rows.split_first.Goals as goal
 
 pub invariant_of-rest : goal.invariant_of-rest

@@ -1,6 +1,6 @@
 use Rattle.std.proofs.Common.{◌≡◌, length}
-use Rattle.std.specs.FinMap as map
 use Rattle.xa_server.specs.Layers.{under}
+use Rattle.std.specs.FinMap as map
 use Rattle.xa_server.proofs.part.Part.get.Given as goal
 
 -- the runs that are left have of the row what all have

@@ -1,7 +1,6 @@
-use Rattle.std.proofs.Common.{◌≡◌, ℕ, List, length}
-use Rattle.std.specs.Option.{unwrap_or}
-use Rattle.std.specs.FinMap as map
+use Rattle.std.{proofs.Common.{◌≡◌, ℕ, List, length}, specs.Option.unwrap_or}
 use Rattle.xa_server.specs.Layers.{under}
+use Rattle.std.specs.FinMap as map
 use Rattle.xa_server.proofs.part.Part.with.Given as goal
 
 -- the run, over those that are left, has of each row what the new run has over all

@@ -1,11 +1,8 @@
-use Rattle.std.proofs.Common.{ap, sym, ◌∙◌}
-use Rattle.std.specs.Option.{unwrap_or}
+use Rattle.std.{proofs.Common.{ap, sym, ◌∙◌}, specs.Option.unwrap_or}
+use Rattle.xa_xid.specs.Xid.{bytes_cmp}
+use Rattle.xa_server.{specs.{Rows.committed_of, Layers.change_at}, proofs.Layers.{row_seen, committed_over}}
 use Rattle.std.specs.BTreeMap as tree
 use Rattle.std.specs.FinMap as map
-use Rattle.xa_xid.specs.Xid.{bytes_cmp}
-use Rattle.xa_server.specs.Rows.{committed_of}
-use Rattle.xa_server.specs.Layers.{change_at}
-use Rattle.xa_server.proofs.Layers.{row_seen, committed_over}
 use Rattle.xa_server.proofs.row_table.RowTable.committed.Goals as goal
 
 pub returns-in-Some : goal.returns-in-Some

@@ -1,9 +1,7 @@
-use Rattle.std.proofs.Common.{ap, ◌∙◌, refl}
-use Rattle.std.specs.Option.{unwrap_or}
-use Rattle.std.specs.FinMap as map
+use Rattle.std.{proofs.Common.{ap, ◌∙◌, refl}, specs.Option.unwrap_or}
 use Rattle.xa_xid.specs.Xid.{bytes_cmp}
-use Rattle.xa_server.proofs.Layers.{same_rows, change_found, changes_sorted}
-use Rattle.xa_server.proofs.Underlying.{found_run}
+use Rattle.xa_server.proofs.{Layers.{same_rows, change_found, changes_sorted}, Underlying.found_run}
+use Rattle.std.specs.FinMap as map
 use Rattle.xa_server.proofs.row_table.RowTable.copy.Goals as goal
 
 pub with-requires : goal.with-requires

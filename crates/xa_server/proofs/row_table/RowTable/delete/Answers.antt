@@ -1,11 +1,9 @@
 use Rattle.std.proofs.Common.{ap, ◌∙◌, sym, None, Some}
+use Rattle.xa_xid.specs.Xid.{bytes_cmp}
+use Rattle.xa_server.specs.declared.{lock.Lock.TheVariants.Shared as SharedBy, row.RecentValue.TheVariants.Gone}
+use Rattle.xa_server.{specs.Layers.row_over, proofs.Layers.{layered_set, row_gone, row_nowhere}}
 use Rattle.std.specs.FinMap as map
 use Rattle.std.specs.FinSet as set
-use Rattle.xa_xid.specs.Xid.{bytes_cmp}
-use Rattle.xa_server.specs.declared.lock.Lock.TheVariants.{Shared as SharedBy}
-use Rattle.xa_server.specs.declared.row.RecentValue.TheVariants.{Gone}
-use Rattle.xa_server.specs.Layers.{row_over}
-use Rattle.xa_server.proofs.Layers.{layered_set, row_gone, row_nowhere}
 use Rattle.xa_server.proofs.row_table.RowTable.delete.Goals as goal
 
 pub returns-then-is_empty-clause-ok : goal.returns-then-is_empty-clause-ok

@@ -1,6 +1,5 @@
 use Rattle.std.proofs.Common.{subst, [], ◌∷◌}
-use Rattle.xa_server.specs.Rows.{RowMap, Frees}
-use Rattle.xa_server.specs.Layers.{layered}
+use Rattle.xa_server.specs.{Rows.{RowMap, Frees}, Layers.layered}
 use Rattle.xa_server.proofs.Layers.{recent_in, frees_kept, frees_dropped}
 use Rattle.xa_server.proofs.row_table.RowTable.free.Goals as goal
 

@@ -1,6 +1,5 @@
-use Rattle.std.proofs.Common.{refl}
+use Rattle.std.proofs.Common.{refl, arith, length-append}
 use Rattle.xa_server.proofs.Freeing.{freed_one_more}
-use Rattle.std.proofs.Common.{arith, length-append}
 use Rattle.xa_server.proofs.row_table.RowTable.free_all.Goals as goal
 
 pub loop-key-init : goal.loop-key-init

@@ -1,8 +1,5 @@
-use Rattle.std.proofs.Common.{ap, ◌∙◌}
-use Rattle.std.specs.FinMap.{entries}
-use Rattle.xa_server.specs.Held.{held_among}
-use Rattle.xa_server.proofs.Layers.{held_listed}
-use Rattle.xa_server.proofs.Outcomes.{if_ok, on_err}
+use Rattle.std.{proofs.Common.{ap, ◌∙◌}, specs.FinMap.entries}
+use Rattle.xa_server.{specs.Held.held_among, proofs.{Layers.held_listed, Outcomes.{if_ok, on_err}}}
 use Rattle.xa_server.proofs.row_table.RowTable.held_by.Goals as goal
 
 pub returns-clause-listed : goal.returns-clause-listed

@@ -1,7 +1,6 @@
 use Rattle.std.proofs.Common.{ap, ◌∙◌}
+use Rattle.xa_server.{specs.Rows.held_row, proofs.Layers.{holds_known, holds_new}}
 use Rattle.std.specs.FinMap as map
-use Rattle.xa_server.specs.Rows.{held_row}
-use Rattle.xa_server.proofs.Layers.{holds_known, holds_new}
 use Rattle.xa_server.proofs.row_table.RowTable.hold.Goals as goal
 
 pub returns-in_default-clause-ok : goal.returns-in_default-clause-ok

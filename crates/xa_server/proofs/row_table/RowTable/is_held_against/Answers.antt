@@ -1,10 +1,8 @@
 use Rattle.std.proofs.Common.{ap, sym, ◌∙◌}
+use Rattle.xa_xid.specs.Xid.{bytes_cmp}
+use Rattle.xa_server.{specs.{Rows.{held_against, held_beside}, Layers.recent_lock}, proofs.Layers.{row_seen, held_over}}
 use Rattle.std.specs.BTreeMap as tree
 use Rattle.std.specs.FinMap as map
-use Rattle.xa_xid.specs.Xid.{bytes_cmp}
-use Rattle.xa_server.specs.Rows.{held_against, held_beside}
-use Rattle.xa_server.specs.Layers.{recent_lock}
-use Rattle.xa_server.proofs.Layers.{row_seen, held_over}
 use Rattle.xa_server.proofs.row_table.RowTable.is_held_against.Goals as goal
 
 pub returns : goal.returns

@@ -1,12 +1,8 @@
-use Rattle.std.proofs.Common.{ap, sym, ◌∙◌}
-use Rattle.std.specs.Prelude.{is_some}
-use Rattle.std.specs.Option.{option_and_then}
+use Rattle.std.{proofs.Common.{ap, sym, ◌∙◌}, specs.{Prelude.is_some, Option.option_and_then}}
+use Rattle.xa_xid.specs.Xid.{bytes_cmp}
+use Rattle.xa_server.{specs.{Rows.{mode_in, lock_by}, Layers.recent_lock}, proofs.Layers.{row_seen, mode_over}}
 use Rattle.std.specs.BTreeMap as tree
 use Rattle.std.specs.FinMap as map
-use Rattle.xa_xid.specs.Xid.{bytes_cmp}
-use Rattle.xa_server.specs.Rows.{mode_in, lock_by}
-use Rattle.xa_server.specs.Layers.{recent_lock}
-use Rattle.xa_server.proofs.Layers.{row_seen, mode_over}
 use Rattle.xa_server.proofs.row_table.RowTable.is_held_by.Goals as goal
 
 pub returns : goal.returns

@@ -1,10 +1,9 @@
 use Rattle.std.proofs.Common.{ap, sym, ◌∙◌}
+use Rattle.xa_xid.specs.Xid.{bytes_cmp}
+use Rattle.xa_server.specs.{Rows.{locked_against, locked_beside}, Layers.recent_lock}
+use Rattle.xa_server.proofs.Layers.{row_seen, locked_over}
 use Rattle.std.specs.BTreeMap as tree
 use Rattle.std.specs.FinMap as map
-use Rattle.xa_xid.specs.Xid.{bytes_cmp}
-use Rattle.xa_server.specs.Rows.{locked_against, locked_beside}
-use Rattle.xa_server.specs.Layers.{recent_lock}
-use Rattle.xa_server.proofs.Layers.{row_seen, locked_over}
 use Rattle.xa_server.proofs.row_table.RowTable.is_locked_against.Goals as goal
 
 pub returns : goal.returns

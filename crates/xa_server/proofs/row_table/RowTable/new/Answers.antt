@@ -1,10 +1,7 @@
-use Rattle.std.proofs.Common.{ap, sym, ◌∙◌}
+use Rattle.std.{proofs.Common.{ap, sym, ◌∙◌}, specs.FinMap.same_map}
+use Rattle.xa_xid.{specs.Xid.bytes_cmp, proofs.Orders.{bytes_total, exact_texts}}
+use Rattle.xa_server.{specs.Layers.{layered, row_over}, proofs.Layers.{get-layered, row_nowhere}}
 use Rattle.std.specs.FinMap as map
-use Rattle.std.specs.FinMap.{same_map}
-use Rattle.xa_xid.specs.Xid.{bytes_cmp}
-use Rattle.xa_xid.proofs.Orders.{bytes_total, exact_texts}
-use Rattle.xa_server.specs.Layers.{layered, row_over}
-use Rattle.xa_server.proofs.Layers.{get-layered, row_nowhere}
 use Rattle.xa_server.proofs.row_table.RowTable.new.Goals as goal
 
 pub returns : goal.returns

@@ -1,9 +1,8 @@
 use Rattle.std.proofs.Common.{ap, ◌∙◌, Some}
+use Rattle.xa_server.specs.declared.{lock.Lock.TheVariants.Shared as SharedBy, row.RecentValue.TheVariants.Value}
+use Rattle.xa_server.proofs.Layers.{layered_set, row_put}
 use Rattle.std.specs.FinMap as map
 use Rattle.std.specs.FinSet as set
-use Rattle.xa_server.specs.declared.lock.Lock.TheVariants.{Shared as SharedBy}
-use Rattle.xa_server.specs.declared.row.RecentValue.TheVariants.{Value}
-use Rattle.xa_server.proofs.Layers.{layered_set, row_put}
 use Rattle.xa_server.proofs.row_table.RowTable.put.Goals as goal
 
 pub returns-clause-ok : goal.returns-clause-ok

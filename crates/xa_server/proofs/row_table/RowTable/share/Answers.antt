@@ -1,8 +1,7 @@
 use Rattle.std.proofs.Common.{ap, sym, ◌∙◌}
-use Rattle.std.specs.FinMap as map
-use Rattle.xa_server.specs.Rows.{with_sharer, shared_row}
-use Rattle.xa_server.proofs.Outcomes.{err_value}
+use Rattle.xa_server.{specs.Rows.{with_sharer, shared_row}, proofs.Outcomes.err_value}
 use Rattle.xa_server.proofs.Layers.{put_back, shares_known, shares_new}
+use Rattle.std.specs.FinMap as map
 use Rattle.xa_server.proofs.row_table.RowTable.share.Goals as goal
 
 pub returns-in_err-share_in-clause-err : goal.returns-in_err-share_in-clause-err

@@ -1,11 +1,9 @@
-use Rattle.std.proofs.Common.{ap, sym, ◌∙◌}
-use Rattle.std.specs.Option.{unwrap_or}
+use Rattle.std.{proofs.Common.{ap, sym, ◌∙◌}, specs.Option.unwrap_or}
+use Rattle.xa_xid.specs.Xid.{bytes_cmp}
+use Rattle.xa_server.specs.{Rows.{committed_of, value_seen, write_in}, Layers.{recent_lock, row_over}}
+use Rattle.xa_server.proofs.Layers.{row_seen, value_over}
 use Rattle.std.specs.BTreeMap as tree
 use Rattle.std.specs.FinMap as map
-use Rattle.xa_xid.specs.Xid.{bytes_cmp}
-use Rattle.xa_server.specs.Rows.{committed_of, value_seen, write_in}
-use Rattle.xa_server.specs.Layers.{recent_lock, row_over}
-use Rattle.xa_server.proofs.Layers.{row_seen, value_over}
 use Rattle.xa_server.proofs.row_table.RowTable.value_within.Goals as goal
 
 pub returns-in-Some : goal.returns-in-Some

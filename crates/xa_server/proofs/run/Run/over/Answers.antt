@@ -1,6 +1,4 @@
-use Rattle.xa_server.specs.Layers.{kept_write}
-use Rattle.xa_server.proofs.Outcomes.{if_ok}
-use Rattle.xa_server.proofs.Underlying.{sorted_over, merged_run}
+use Rattle.xa_server.{specs.Layers.kept_write, proofs.{Outcomes.if_ok, Underlying.{sorted_over, merged_run}}}
 use Rattle.xa_server.proofs.run.Run.over.Goals as goal
 
 pub of_packed-requires : goal.of_packed-requires

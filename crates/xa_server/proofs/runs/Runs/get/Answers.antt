@@ -1,7 +1,7 @@
 use Rattle.std.proofs.Common.{sym, ap, ◌∙◌, arith}
-use Rattle.std.specs.FinMap as map
 use Rattle.xa_xid.specs.Xid.{bytes_cmp}
 use Rattle.xa_server.proofs.Parted.{get-at}
+use Rattle.std.specs.FinMap as map
 use Rattle.xa_server.proofs.runs.Runs.get.Goals as goal
 
 pub returns-in-None : goal.returns-in-None

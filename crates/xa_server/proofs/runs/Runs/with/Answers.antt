@@ -1,10 +1,7 @@
-use Rattle.std.proofs.Common.{ap, ◌∙◌}
-use Rattle.std.specs.Option.{unwrap_or}
-use Rattle.std.specs.FinMap as map
-use Rattle.std.specs.FinMap.{find, is_sorted}
+use Rattle.std.{proofs.Common.{ap, ◌∙◌}, specs.{Option.unwrap_or, FinMap.{find, is_sorted}}}
 use Rattle.xa_xid.specs.Xid.{bytes_cmp}
-use Rattle.xa_server.specs.Parts.{parted, rows_at}
-use Rattle.xa_server.proofs.Parted.{rewritten, sorted_out-ascend, part_below}
+use Rattle.xa_server.{specs.Parts.{parted, rows_at}, proofs.Parted.{rewritten, sorted_out-ascend, part_below}}
+use Rattle.std.specs.FinMap as map
 use Rattle.xa_server.proofs.runs.Runs.with.Goals as goal
 
 pub all_rewritten-requires : goal.all_rewritten-requires

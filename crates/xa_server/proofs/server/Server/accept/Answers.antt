@@ -1,6 +1,6 @@
 use Rattle.std.proofs.Common.{◌∙◌}
-use Rattle.xa_server.proofs.Accepted
 use Rattle.xa_server.proofs.Outcomes.{on_ok}
+use Rattle.xa_server.proofs.Accepted
 use Rattle.xa_server.proofs.server.Server.accept.Goals as goal
 
 pub returns-clause-ok : goal.returns-clause-ok

@@ -1,8 +1,8 @@
 use Rattle.std.proofs.Common.{ap, sym, ◌∙◌}
 use Rattle.xa_server.specs.Step.{is_refused}
+use Rattle.xa_server.proofs.server.Server.apply.Goals.{then-not-is_refused+in_ok-accept, else-not-is_refused}
 use Rattle.xa_server.proofs.Accepted
 use Rattle.xa_server.proofs.server.Server.apply.Goals as goal
-use Rattle.xa_server.proofs.server.Server.apply.Goals.{then-not-is_refused+in_ok-accept, else-not-is_refused}
 
 pub accept-requires : goal.accept-requires
 accept-requires c =

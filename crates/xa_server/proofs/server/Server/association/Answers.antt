@@ -1,7 +1,5 @@
 use Rattle.std.proofs.Common.{ap, ◌∙◌, subst}
-use Rattle.xa_server.specs.State.{association_of}
-use Rattle.xa_server.specs.Locks.{LockLaw}
-use Rattle.xa_server.proofs.LockLaws.{lock_law}
+use Rattle.xa_server.{specs.{State.association_of, Locks.LockLaw}, proofs.LockLaws.lock_law}
 use Rattle.xa_server.proofs.Seen
 use Rattle.xa_server.proofs.server.Server.association.Goals as goal
 

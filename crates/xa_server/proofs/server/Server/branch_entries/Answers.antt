@@ -1,7 +1,5 @@
 use Rattle.std.proofs.Common.{ap, sym, ◌∙◌}
-use Rattle.xa_server.specs.Overview.{branches_of}
-use Rattle.xa_server.proofs.Held.{branches-seen}
-use Rattle.xa_server.proofs.Outcomes.{if_ok, on_err}
+use Rattle.xa_server.{specs.Overview.branches_of, proofs.{Held.branches-seen, Outcomes.{if_ok, on_err}}}
 use Rattle.xa_server.proofs.server.Server.branch_entries.Goals as goal
 
 pub returns-clause-listed : goal.returns-clause-listed

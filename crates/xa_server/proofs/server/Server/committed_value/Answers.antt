@@ -1,6 +1,5 @@
 use Rattle.std.proofs.Common.{ap, sym, ◌∙◌}
-use Rattle.xa_server.specs.State.{committed_value}
-use Rattle.xa_server.specs.Rows.{committed_of}
+use Rattle.xa_server.specs.{State.committed_value, Rows.committed_of}
 use Rattle.xa_server.proofs.Seen
 use Rattle.xa_server.proofs.server.Server.committed_value.Goals as goal
 

@@ -1,10 +1,6 @@
 use Rattle.std.proofs.Common.{refl, ap, ◌∙◌, None}
-use Rattle.xa_server.specs.declared.branch.BranchRecord.{BranchRecord}
-use Rattle.xa_server.specs.declared.branch.Phase.TheVariants.{Prepared as PhasePrepared}
-use Rattle.xa_server.specs.State.{Branch}
-use Rattle.xa_server.specs.Step.{with_changed}
-use Rattle.xa_server.specs.View.{state_of}
-use Rattle.xa_server.proofs.Index.{not_none}
+use Rattle.xa_server.specs.declared.branch.{BranchRecord.BranchRecord, Phase.TheVariants.Prepared as PhasePrepared}
+use Rattle.xa_server.{specs.{State.Branch, Step.with_changed, View.state_of}, proofs.Index.not_none}
 use Rattle.xa_server.proofs.Steps
 use Rattle.xa_server.proofs.Whole
 use Rattle.xa_server.proofs.server.Server.detach.Goals as goal

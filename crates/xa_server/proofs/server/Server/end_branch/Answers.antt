@@ -1,20 +1,14 @@
 use Rattle.std.proofs.Common.{◌≡◌, ℕ, List, refl, ap, sym, ◌∙◌, Bool, true, false, Some, None, Option}
-use Rattle.std.specs.Prelude.{cond, is_some}
-use Rattle.std.specs.Option.{option_map}
-use Rattle.std.specs.FinMap as map
+use Rattle.std.specs.{Prelude.{cond, is_some}, Option.option_map}
 use mathlib.Core.Bool.{true≢false}
 use Rattle.xa_xid.specs.declared.xid.Xid.{Xid}
-use Rattle.xa_server.specs.declared.branch.BranchRecord.{BranchRecord}
-use Rattle.xa_server.specs.State.{is_known}
-use Rattle.xa_server.specs.Step.{without_branch, committed}
-use Rattle.xa_server.specs.Tables.{BranchMap}
-use Rattle.xa_server.specs.Rows.{RowMap}
-use Rattle.xa_server.specs.View.{state_of, IsWhole}
+use Rattle.xa_server.specs.{declared.branch.BranchRecord.BranchRecord, State.is_known, Step.{without_branch, committed}}
+use Rattle.xa_server.specs.{Tables.BranchMap, Rows.{RowMap, Frees}, View.{state_of, IsWhole}}
 use Rattle.xa_server.proofs.Index.{same_value, not_none}
+use Rattle.std.specs.FinMap as map
 use Rattle.xa_server.proofs.Seen
 use Rattle.xa_server.proofs.Ending
 use Rattle.xa_server.proofs.Whole
-use Rattle.xa_server.specs.Rows.{Frees}
 use Rattle.xa_server.proofs.server.Server.end_branch.Goals as goal
 
 -- the record whose keys were taken out

@@ -1,15 +1,10 @@
-use Rattle.std.proofs.Common.{◌≡◌, refl, ap, sym, ◌∙◌, false, Some}
-use Rattle.std.specs.Prelude.{is_none}
+use Rattle.std.{proofs.Common.{◌≡◌, refl, ap, sym, ◌∙◌, false, Some}, specs.Prelude.is_none}
 use Rattle.std.specs.Option.{option_map, option_map_or}
-use Rattle.std.specs.FinMap as map
 use Rattle.xa_xid.specs.declared.xid.Xid.{Xid}
-use Rattle.xa_server.specs.declared.branch.BranchRecord.{BranchRecord}
-use Rattle.xa_server.specs.declared.branch.Phase.TheVariants.{Idle as PhaseIdle}
-use Rattle.xa_server.specs.State.{Branch, is_prepared, is_prepared_phase}
-use Rattle.xa_server.specs.Step.{with_changed}
-use Rattle.xa_server.specs.Tables.{BranchMap}
-use Rattle.xa_server.specs.Rows.{RowMap}
-use Rattle.xa_server.specs.View.{state_of, IsWhole}
+use Rattle.xa_server.specs.declared.branch.{BranchRecord.BranchRecord, Phase.TheVariants.Idle as PhaseIdle}
+use Rattle.xa_server.specs.{State.{Branch, is_prepared, is_prepared_phase}, Step.with_changed, Tables.BranchMap}
+use Rattle.xa_server.specs.{Rows.RowMap, View.{state_of, IsWhole}}
+use Rattle.std.specs.FinMap as map
 use Rattle.xa_server.proofs.Seen
 use Rattle.xa_server.proofs.Steps
 use Rattle.xa_server.proofs.Whole

@@ -1,5 +1,4 @@
-use Rattle.std.proofs.Common.{ap, sym, ◌∙◌, false}
-use Rattle.std.specs.Option.{option_map_or}
+use Rattle.std.{proofs.Common.{ap, sym, ◌∙◌, false}, specs.Option.option_map_or}
 use Rattle.xa_server.specs.State.{is_prepared, is_prepared_phase}
 use Rattle.xa_server.proofs.Seen
 use Rattle.xa_server.proofs.server.Server.has_prepared.Goals as goal

@@ -1,8 +1,5 @@
 use Rattle.std.proofs.Common.{ap, sym, ◌∙◌}
-use Rattle.xa_server.specs.Overview.{rows_of}
-use Rattle.xa_server.specs.State.{is_known}
-use Rattle.xa_server.proofs.Held.{rows_of-seen}
-use Rattle.xa_server.proofs.Outcomes.{if_ok, on_err}
+use Rattle.xa_server.{specs.{Overview.rows_of, State.is_known}, proofs.{Held.rows_of-seen, Outcomes.{if_ok, on_err}}}
 use Rattle.xa_server.proofs.server.Server.held_rows.Goals as goal
 
 pub returns-clause-listed : goal.returns-clause-listed

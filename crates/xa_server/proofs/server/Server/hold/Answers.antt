@@ -1,18 +1,12 @@
-use Rattle.std.proofs.Common.{◌≡◌, ℕ, List, ap, sym, ◌∙◌, Bool, true, false, Option}
-use Rattle.std.specs.Prelude.{is_some}
+use Rattle.std.{proofs.Common.{◌≡◌, ℕ, List, ap, sym, ◌∙◌, Bool, true, false, Option}, specs.Prelude.is_some}
 use Rattle.std.specs.Option.{option_and_then}
-use Rattle.std.specs.FinMap as map
 use Rattle.xa_xid.specs.declared.xid.Xid.{Xid}
-use Rattle.xa_server.specs.declared.association.Association.TheVariants.{Active}
-use Rattle.xa_server.specs.declared.lock.Change.{Change}
-use Rattle.xa_server.specs.Recorded.{RowRecord}
-use Rattle.xa_server.specs.State.{State, is_known}
-use Rattle.xa_server.specs.Locks.{is_held_against}
-use Rattle.xa_server.specs.Step.{with_changed}
-use Rattle.xa_server.specs.Tables.{BranchMap, with_record}
-use Rattle.xa_server.specs.Rows.{RowMap, held_row, with_change, lock_by}
+use Rattle.xa_server.specs.declared.{association.Association.TheVariants.Active, lock.Change.Change}
+use Rattle.xa_server.specs.{Recorded.RowRecord, State.{State, is_known}, Locks.is_held_against, Step.with_changed}
+use Rattle.xa_server.specs.{Tables.{BranchMap, with_record}, Rows.{RowMap, held_row, with_change, lock_by}}
 use Rattle.xa_server.specs.View.{state_of, IsWhole}
 use Rattle.xa_server.proofs.Outcomes.{either_way, on_ok, whichever, on_ok_both, on_err_both}
+use Rattle.std.specs.FinMap as map
 use Rattle.xa_server.proofs.Holding
 use Rattle.xa_server.proofs.server.Server.hold.Goals as goal
 

@@ -1,8 +1,5 @@
-use Rattle.std.proofs.Common.{ap, sym, ◌∙◌}
-use Rattle.std.specs.Prelude.{is_some}
-use Rattle.std.specs.Option.{option_and_then}
-use Rattle.xa_server.specs.Locks.{holds}
-use Rattle.xa_server.specs.Rows.{lock_by}
+use Rattle.std.{proofs.Common.{ap, sym, ◌∙◌}, specs.{Prelude.is_some, Option.option_and_then}}
+use Rattle.xa_server.specs.{Locks.holds, Rows.lock_by}
 use Rattle.xa_server.proofs.Seen
 use Rattle.xa_server.proofs.server.Server.holds.Goals as goal
 

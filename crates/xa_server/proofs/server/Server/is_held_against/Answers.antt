@@ -1,6 +1,5 @@
 use Rattle.std.proofs.Common.{ap, sym, ◌∙◌}
-use Rattle.xa_server.specs.Locks.{is_held_against}
-use Rattle.xa_server.specs.Rows.{held_against}
+use Rattle.xa_server.specs.{Locks.is_held_against, Rows.held_against}
 use Rattle.xa_server.proofs.Seen
 use Rattle.xa_server.proofs.server.Server.is_held_against.Goals as goal
 

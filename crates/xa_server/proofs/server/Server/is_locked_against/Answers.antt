@@ -1,6 +1,5 @@
 use Rattle.std.proofs.Common.{ap, sym, ◌∙◌}
-use Rattle.xa_server.specs.Locks.{is_locked_against}
-use Rattle.xa_server.specs.Rows.{locked_against}
+use Rattle.xa_server.specs.{Locks.is_locked_against, Rows.locked_against}
 use Rattle.xa_server.proofs.Seen
 use Rattle.xa_server.proofs.server.Server.is_locked_against.Goals as goal
 

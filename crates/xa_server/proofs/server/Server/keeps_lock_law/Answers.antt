@@ -1,9 +1,5 @@
 use Rattle.std.proofs.Common.{◌≡◌, subst}
-use Rattle.xa_server.specs.State.{State}
-use Rattle.xa_server.specs.Locks.{LockLaw}
-use Rattle.xa_server.specs.Tables.{BranchMap}
-use Rattle.xa_server.specs.Rows.{RowMap}
-use Rattle.xa_server.specs.View.{state_of, IsWhole}
+use Rattle.xa_server.specs.{State.State, Locks.LockLaw, Tables.BranchMap, Rows.RowMap, View.{state_of, IsWhole}}
 use Rattle.xa_server.proofs.LockLaws.{lock_law}
 use Rattle.xa_server.proofs.server.Server.keeps_lock_law.Goals as goal
 

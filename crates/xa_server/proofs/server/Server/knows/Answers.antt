@@ -1,9 +1,6 @@
-use Rattle.std.proofs.Common.{◌≡◌, refl, ap, sym, ◌∙◌, Some, None, Option}
-use Rattle.std.specs.Prelude.{is_some}
-use Rattle.std.specs.Option.{option_map}
+use Rattle.std.{proofs.Common.{◌≡◌, refl, ap, sym, ◌∙◌, Some, None, Option}, specs.{Prelude.is_some, Option.option_map}}
+use Rattle.xa_server.specs.{declared.branch.BranchRecord.BranchRecord, State.is_known}
 use Rattle.std.specs.FinMap as map
-use Rattle.xa_server.specs.declared.branch.BranchRecord.{BranchRecord}
-use Rattle.xa_server.specs.State.{is_known}
 use Rattle.xa_server.proofs.Seen
 use Rattle.xa_server.proofs.server.Server.knows.Goals as goal
 

@@ -1,7 +1,6 @@
 use Rattle.std.proofs.Common.{ap, sym, ◌∙◌}
 use Rattle.xa_xid.specs.declared.statement.Statement.TheVariants.{Get}
-use Rattle.xa_server.specs.Locks.{holds}
-use Rattle.xa_server.specs.Step.{effect}
+use Rattle.xa_server.specs.{Locks.holds, Step.effect}
 use Rattle.xa_server.proofs.Accepted
 use Rattle.xa_server.proofs.server.Server.lock_row.Goals as goal
 

@@ -1,6 +1,6 @@
 use Rattle.std.proofs.Common.{ap, ◌∙◌}
-use Rattle.std.specs.FinMap as map
 use Rattle.xa_server.specs.View.{state_of}
+use Rattle.std.specs.FinMap as map
 use Rattle.xa_server.proofs.Steps
 use Rattle.xa_server.proofs.Whole
 use Rattle.xa_server.proofs.server.Server.over_empty.Goals as goal

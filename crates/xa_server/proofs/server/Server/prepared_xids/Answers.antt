@@ -1,6 +1,5 @@
 use Rattle.std.proofs.Common.{ap, sym, ◌∙◌}
-use Rattle.xa_server.specs.State.{prepared_xids}
-use Rattle.xa_server.proofs.Seen.{prepared-seen}
+use Rattle.xa_server.{specs.State.prepared_xids, proofs.Seen.prepared-seen}
 use Rattle.xa_server.proofs.server.Server.prepared_xids.Goals as goal
 
 pub returns : goal.returns

@@ -1,10 +1,6 @@
 use Rattle.std.proofs.Common.{ap, ◌∙◌, Some}
-use Rattle.xa_server.specs.declared.association.Association.TheVariants.{Free}
-use Rattle.xa_server.specs.State.{State}
-use Rattle.xa_server.specs.Locks.{is_held_against}
-use Rattle.xa_server.specs.Step.{with_write}
-use Rattle.xa_server.specs.View.{state_of}
-use Rattle.xa_server.proofs.Outcomes.{either_way, on_ok}
+use Rattle.xa_server.specs.{declared.association.Association.TheVariants.Free, State.State, Locks.is_held_against}
+use Rattle.xa_server.{specs.{Step.with_write, View.state_of}, proofs.Outcomes.{either_way, on_ok}}
 use Rattle.xa_server.proofs.Seen
 use Rattle.xa_server.proofs.Steps
 use Rattle.xa_server.proofs.Whole

@@ -1,14 +1,10 @@
 use Rattle.std.proofs.Common.{◌≡◌, ℕ, List, ap, ◌∙◌, true, false}
-use Rattle.std.specs.FinMap as map
 use Rattle.xa_xid.specs.declared.xid.Xid.{Xid}
-use Rattle.xa_server.specs.declared.association.Association.TheVariants.{Active}
-use Rattle.xa_server.specs.State.{State, is_known}
-use Rattle.xa_server.specs.Locks.{holds, is_locked_against}
-use Rattle.xa_server.specs.Step.{with_changed, with_lock}
-use Rattle.xa_server.specs.Tables.{BranchMap, with_record}
-use Rattle.xa_server.specs.Rows.{RowMap, shared_row}
-use Rattle.xa_server.specs.View.{state_of, IsWhole}
+use Rattle.xa_server.specs.{declared.association.Association.TheVariants.Active, State.{State, is_known}}
+use Rattle.xa_server.specs.{Locks.{holds, is_locked_against}, Step.{with_changed, with_lock}}
+use Rattle.xa_server.specs.{Tables.{BranchMap, with_record}, Rows.{RowMap, shared_row}, View.{state_of, IsWhole}}
 use Rattle.xa_server.proofs.Outcomes.{whichever, on_ok_both, on_err_both}
+use Rattle.std.specs.FinMap as map
 use Rattle.xa_server.proofs.Holding
 use Rattle.xa_server.proofs.server.Server.share.Goals as goal
 

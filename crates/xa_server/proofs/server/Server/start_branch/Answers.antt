@@ -1,21 +1,12 @@
 use Rattle.std.proofs.Common.{◌≡◌, ◌≢◌, ℕ, refl, ap, sym, ◌∙◌, false, Some, None, Option}
-use Rattle.std.specs.Prelude.{is_some, is_none}
-use Rattle.std.specs.Option.{option_map, option_and_then}
-use Rattle.std.specs.FinMap as map
+use Rattle.std.specs.{Prelude.{is_some, is_none}, Option.{option_map, option_and_then}}
 use mathlib.Core.Bool.{true≢false}
 use Rattle.xa_xid.specs.declared.xid.Xid.{Xid}
-use Rattle.xa_server.specs.declared.branch.BranchRecord.{BranchRecord}
-use Rattle.xa_server.specs.declared.branch.Phase.{Phase}
-use Rattle.xa_server.specs.declared.branch.Phase.TheVariants.{Active as PhaseActive, Idle as PhaseIdle}
-use Rattle.xa_server.specs.declared.branch.Phase.TheVariants.{Prepared as PhasePrepared}
-use Rattle.xa_server.specs.declared.association.Association.TheVariants.{Free, Active, Idle}
-use Rattle.xa_server.specs.State.{is_known, is_prepared_phase, association_of}
-use Rattle.xa_server.specs.Step.{started_by, with_branch}
-use Rattle.xa_server.specs.Tables.{BranchMap, owner_of}
-use Rattle.xa_server.specs.Rows.{RowMap}
-use Rattle.xa_server.specs.View.{state_of, IsWhole}
-use Rattle.xa_server.proofs.Outcomes.{either_way, on_ok}
-use Rattle.xa_server.proofs.Index.{not_none}
+use Rattle.xa_server.specs.{declared.branch.{BranchRecord.BranchRecord, Phase.Phase}, Tables.{BranchMap, owner_of}}
+use Rattle.xa_server.specs.{declared.association.Association.TheVariants.{Free, Active, Idle}, Rows.RowMap}
+use Rattle.xa_server.specs.{State.{is_known, is_prepared_phase, association_of}, Step.{started_by, with_branch}}
+use Rattle.xa_server.{specs.View.{state_of, IsWhole}, proofs.{Outcomes.{either_way, on_ok}, Index.not_none}}
+use Rattle.std.specs.FinMap as map
 use Rattle.xa_server.proofs.Seen
 use Rattle.xa_server.proofs.Steps
 use Rattle.xa_server.proofs.Whole
@@ -36,17 +27,17 @@ free : (branches : BranchMap) (rows : RowMap) (session : ℕ) → IsWhole branch
 free branches rows session whole association other owner = by (map.get branches other) refl
   where
     at : (branch : BranchRecord) (phase : Phase) → branch.phase ≡ phase → map.get branches other ≡ Some branch → ⊥
-    at branch PhaseActive p is =
+    at branch Phase.Active p is =
         let clash : Active other ≡ Free =
-        sym (Seen.association-owned branches rows session other (Some PhaseActive) whole owner
+        sym (Seen.association-owned branches rows session other (Some Phase.Active) whole owner
         (ap (option_map (λ (b : BranchRecord). b.phase)) is ∙ ap Some p))
         ∙ association in cc
-    at branch PhaseIdle p is =
+    at branch Phase.Idle p is =
         let clash : Idle other ≡ Free =
-        sym (Seen.association-owned branches rows session other (Some PhaseIdle) whole owner
+        sym (Seen.association-owned branches rows session other (Some Phase.Idle) whole owner
         (ap (option_map (λ (b : BranchRecord). b.phase)) is ∙ ap Some p))
         ∙ association in cc
-    at branch PhasePrepared p is =
+    at branch Phase.Prepared p is =
         true≢false (sym (whole.attached other branch is ∙ ap is_prepared_phase p)
         ∙ ap is_none (sym (ap (option_and_then (λ (b : BranchRecord). b.owner)) is) ∙ owner))
 

@@ -1,6 +1,5 @@
 use Rattle.std.proofs.Common.{ap, sym, ◌∙◌}
-use Rattle.xa_server.specs.State.{value_within}
-use Rattle.xa_server.specs.Rows.{value_seen}
+use Rattle.xa_server.specs.{State.value_within, Rows.value_seen}
 use Rattle.xa_server.proofs.Seen
 use Rattle.xa_server.proofs.server.Server.value_within.Goals as goal
 

@@ -1,6 +1,6 @@
 use Rattle.std.proofs.Common.{ap, ◌∙◌, [], ◌∷◌, ◌++◌}
-use Rattle.std.specs.FinSet as set
 use Rattle.xa_server.proofs.Sharing.{several_in, few_added, many_added}
+use Rattle.std.specs.FinSet as set
 use Rattle.xa_server.proofs.several_sharers.SeveralSharers.add.Goals as goal
 
 pub returns-in_ok-push-clause-ok : goal.returns-in_ok-push-clause-ok

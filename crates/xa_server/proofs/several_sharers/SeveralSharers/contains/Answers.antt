@@ -1,10 +1,8 @@
-use Rattle.std.proofs.Common.{ap, sym, ◌∙◌}
-use Rattle.std.specs.Prelude.{◌||◌}
-use Rattle.std.specs.BTreeSet as tree
-use Rattle.std.specs.FinSet as set
-use Rattle.std.specs.List.{list_any}
+use Rattle.std.{proofs.Common.{ap, sym, ◌∙◌}, specs.{Prelude.◌||◌, List.list_any}}
 use Rattle.xa_xid.specs.Xid.{xid_cmp, same_xid}
 use Rattle.xa_server.proofs.Sharing.{contains-several, or_first, or_second}
+use Rattle.std.specs.BTreeSet as tree
+use Rattle.std.specs.FinSet as set
 use Rattle.xa_server.proofs.several_sharers.SeveralSharers.contains.Goals as goal
 
 pub returns-then-is_in_list : goal.returns-then-is_in_list

@@ -1,9 +1,6 @@
-use Rattle.std.proofs.Common.{ap, sym, ◌∙◌}
-use Rattle.std.specs.Prelude.{◌||◌}
+use Rattle.std.{proofs.Common.{ap, sym, ◌∙◌}, specs.{Prelude.◌||◌, List.list_any}}
+use Rattle.xa_server.{specs.Locks.is_another, proofs.Sharing.{any-several, or_first, or_second}}
 use Rattle.std.specs.FinSet as set
-use Rattle.std.specs.List.{list_any}
-use Rattle.xa_server.specs.Locks.{is_another}
-use Rattle.xa_server.proofs.Sharing.{any-several, or_first, or_second}
 use Rattle.xa_server.proofs.several_sharers.SeveralSharers.has_another.Goals as goal
 
 pub returns-then-has_another_in_list : goal.returns-then-has_another_in_list

@@ -1,5 +1,4 @@
-use Rattle.std.proofs.Common.{sym, ◌∙◌, arith}
-use Rattle.std.proofs.lemmas.Bool.Decides.{nat_tests}
+use Rattle.std.proofs.{Common.{sym, ◌∙◌, arith}, lemmas.Bool.Decides.nat_tests}
 use Rattle.xa_server.proofs.Sharing.{none_in, none_of}
 use Rattle.xa_server.proofs.several_sharers.SeveralSharers.is_empty.Goals as goal
 

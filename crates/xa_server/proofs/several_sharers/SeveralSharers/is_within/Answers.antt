@@ -1,7 +1,6 @@
-use Rattle.std.proofs.Common.{ap, sym, ◌∙◌}
-use Rattle.std.specs.FinSet as set
-use Rattle.std.specs.List.{list_all}
+use Rattle.std.{proofs.Common.{ap, sym, ◌∙◌}, specs.List.list_all}
 use Rattle.xa_server.proofs.Sharing.{subset-several}
+use Rattle.std.specs.FinSet as set
 use Rattle.xa_server.proofs.several_sharers.SeveralSharers.is_within.Goals as goal
 
 pub returns-then-has_all_in_list : goal.returns-then-has_all_in_list

@@ -1,6 +1,6 @@
 use Rattle.std.proofs.Common.{ap, ◌∙◌}
-use Rattle.std.specs.FinSet as set
 use Rattle.xa_server.proofs.Sharing.{several_in, several_left}
+use Rattle.std.specs.FinSet as set
 use Rattle.xa_server.proofs.several_sharers.SeveralSharers.remove.Goals as goal
 
 pub returns : goal.returns

@@ -1,9 +1,7 @@
-use Rattle.std.proofs.Common.{ap, sym, ◌∙◌}
-use Rattle.std.specs.FinSet as set
-use Rattle.std.specs.FinSet.{contains-empty}
+use Rattle.std.{proofs.Common.{ap, sym, ◌∙◌}, specs.FinSet.contains-empty}
 use Rattle.xa_xid.specs.Xid.{xid_cmp, same_xid}
-use Rattle.xa_server.specs.Sharers.{set_of}
-use Rattle.xa_server.proofs.Sharing.{contains-one}
+use Rattle.xa_server.{specs.Sharers.set_of, proofs.Sharing.contains-one}
+use Rattle.std.specs.FinSet as set
 use Rattle.xa_server.proofs.sharers.Sharers.contains.Goals as goal
 
 pub returns-in-Nobody : goal.returns-in-Nobody

@@ -1,7 +1,6 @@
 use Rattle.std.proofs.Common.{ap, sym, ◌∙◌, [], refl}
+use Rattle.xa_server.{specs.Sharers.set_of, proofs.Sharing.{subset-listed, subset-one}}
 use Rattle.std.specs.FinSet as set
-use Rattle.xa_server.specs.Sharers.{set_of}
-use Rattle.xa_server.proofs.Sharing.{subset-listed, subset-one}
 use Rattle.xa_server.proofs.sharers.Sharers.has_all_of.Goals as goal
 
 pub returns-in-Nobody : goal.returns-in-Nobody

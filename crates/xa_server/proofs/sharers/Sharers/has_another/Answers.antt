@@ -1,9 +1,6 @@
-use Rattle.std.proofs.Common.{ap, sym, ◌∙◌, []}
+use Rattle.std.{proofs.Common.{ap, sym, ◌∙◌, []}, specs.List.list_any}
+use Rattle.xa_server.{specs.{Locks.is_another, Sharers.set_of}, proofs.Sharing.{any-listed, any-one}}
 use Rattle.std.specs.FinSet as set
-use Rattle.std.specs.List.{list_any}
-use Rattle.xa_server.specs.Locks.{is_another}
-use Rattle.xa_server.specs.Sharers.{set_of}
-use Rattle.xa_server.proofs.Sharing.{any-listed, any-one}
 use Rattle.xa_server.proofs.sharers.Sharers.has_another.Goals as goal
 
 pub returns-in-Nobody : goal.returns-in-Nobody

@@ -1,6 +1,5 @@
 use Rattle.std.proofs.Common.{refl}
-use Rattle.xa_session.specs.Answer.{entry_of}
-use Rattle.xa_session.proofs.Replaying.{stands_next}
+use Rattle.xa_session.{specs.Answer.entry_of, proofs.Replaying.stands_next}
 use Rattle.xa_session.proofs.replica.Replica.accept.Goals as goal
 
 pub returns-clause-ok : goal.returns-clause-ok

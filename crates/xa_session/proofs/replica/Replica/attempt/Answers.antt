@@ -1,9 +1,7 @@
 use Rattle.std.proofs.Common.{◌≡◌, true, length, sym, ◌∙◌, subst, arith}
-use Rattle.decision_log.specs.Calls.{IsAdded}
-use Rattle.decision_log.specs.declared.known.Known.{Known}
+use Rattle.decision_log.specs.{Calls.IsAdded, declared.known.Known.Known}
 use Rattle.xa_server.specs.State.{State}
-use Rattle.xa_session.specs.Answer.{entry_of}
-use Rattle.xa_session.specs.declared.answer.Answer.{Answer}
+use Rattle.xa_session.specs.{Answer.entry_of, declared.answer.Answer.Answer}
 use Rattle.xa_session.proofs.Answering.{replied, answered_entered, kept_entered}
 use Rattle.xa_session.proofs.replica.Replica.attempt.Goals as goal
 

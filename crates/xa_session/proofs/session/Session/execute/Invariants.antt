@@ -1,6 +1,5 @@
 use Rattle.std.proofs.Common.{◌≤◌, ◌+◌}
-use Rattle.xa_session.specs.Answer.{IsUnanswered}
-use Rattle.xa_session.specs.Stays.{Stays}
+use Rattle.xa_session.specs.{Answer.IsUnanswered, Stays.Stays}
 use Rattle.xa_session.proofs.session.Session.execute.Given as goal
 
 abbrev pub invariant-loop : goal.invariant-loop

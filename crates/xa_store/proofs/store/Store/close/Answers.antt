@@ -1,11 +1,7 @@
-use Rattle.std.proofs.Common.{◌≡◌, ◌<◌, map, ap, sym, subst, ◌∙◌, arith}
-use Rattle.std.specs.List.{All, AllZip}
-use Rattle.std.proofs.lemmas.List.{length-map}
-use Rattle.std.proofs.lemmas.List.Elements.{All-map, length_all_zip}
-use Rattle.xa_store.specs.Passes.{identity_of, log_of, known_of}
-use Rattle.xa_store.specs.Gathered.{IsTakenIn, AddsNothing, last_known}
-use Rattle.xa_store.proofs.Spreading.{zip_mapped, map_twice}
-use Rattle.xa_store.proofs.Gathering.{all_kept}
+use Rattle.std.proofs.{Common.{◌≡◌, ◌<◌, map, ap, sym, subst, ◌∙◌, arith}, lemmas.List.length-map}
+use Rattle.std.{proofs.lemmas.List.Elements.{All-map, length_all_zip}, specs.List.{All, AllZip}}
+use Rattle.xa_store.specs.{Passes.{identity_of, log_of, known_of}, Gathered.{IsTakenIn, AddsNothing, last_known}}
+use Rattle.xa_store.proofs.{Spreading.{zip_mapped, map_twice}, Gathering.all_kept}
 use Rattle.xa_store.proofs.store.Store.close.Goals as goal
 
 pub returns-in_ok-passes-in-Ok-clause-passes : goal.returns-in_ok-passes-in-Ok-clause-passes

@@ -1,12 +1,9 @@
 use Rattle.std.proofs.Common.{◌≡◌, [], ◌∷◌, ◌++◌, length, map, vec_len, refl, ap, sym, subst, ◌∙◌, Some, arith}
-use Rattle.std.specs.List.{All}
-use borrow.Author.Tests.{eqb-true}
-use Rattle.std.proofs.lemmas.List.{nil_from_length}
-use Rattle.std.proofs.lemmas.Result.{IfOk-weaker}
-use Rattle.std.proofs.lemmas.List.Elements.{All-pop, All-push, AllZip-push, length_all_zip}
-use Rattle.xa_store.specs.Passes.{identity_of, log_of, known_of}
-use Rattle.xa_store.specs.Gathered.{IsTakenIn, AddsNothing, last_known}
+use Rattle.std.proofs.lemmas.List.{nil_from_length, Elements.{All-pop, All-push, AllZip-push, length_all_zip}}
+use Rattle.std.{proofs.lemmas.Result.IfOk-weaker, specs.List.All}
+use Rattle.xa_store.specs.{Passes.{identity_of, log_of, known_of}, Gathered.{IsTakenIn, AddsNothing, last_known}}
 use Rattle.xa_store.proofs.Gathering.{zip_itself, zip_weaker, keeps_itself, meets_keeps, last_known_of}
+use borrow.Author.Tests.{eqb-true}
 use Rattle.xa_store.proofs.store.Store.history.Goals as goal
 
 pub meet_all-requires : goal.meet_all-requires

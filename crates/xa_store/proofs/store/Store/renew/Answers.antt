@@ -1,7 +1,5 @@
-use Rattle.std.proofs.Common.{◌≡◌, refl}
-use Rattle.std.proofs.lemmas.List.Elements.{AllZip-push}
-use Rattle.xa_store.specs.Passes.{log_of, known_of}
-use Rattle.xa_store.proofs.Gathering.{last_known_of, zip_itself}
+use Rattle.std.proofs.{Common.{◌≡◌, refl}, lemmas.List.Elements.AllZip-push}
+use Rattle.xa_store.{specs.Passes.{log_of, known_of}, proofs.Gathering.{last_known_of, zip_itself}}
 use Rattle.xa_store.proofs.store.Store.renew.Goals as goal
 
 pub returns-in-Ok-clause-base : goal.returns-in-Ok-clause-base

@@ -1,6 +1,5 @@
 use Rattle.std.proofs.Common.{sym, ◌∙◌}
-use Rattle.xa_xid.specs.Bytes.{belongs}
-use Rattle.xa_xid.proofs.Cuts.{passed_more, passed_stop, passed_all}
+use Rattle.xa_xid.{specs.Bytes.belongs, proofs.Cuts.{passed_more, passed_stop, passed_all}}
 use Rattle.xa_xid.proofs.byte_class.ByteClass.split.Goals as goal
 
 pub returns-then-not-has-clause-front : goal.returns-then-not-has-clause-front

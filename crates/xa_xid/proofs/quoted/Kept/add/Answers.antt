@@ -1,5 +1,4 @@
-use Rattle.std.proofs.Common.{sym, ◌∙◌}
-use Rattle.std.proofs.lemmas.Bool.{eqb-true, eqb-false}
+use Rattle.std.proofs.{Common.{sym, ◌∙◌}, lemmas.Bool.{eqb-true, eqb-false}}
 use Rattle.xa_xid.proofs.Texts.{kept_grown, kept_full, kept_past}
 use Rattle.xa_xid.proofs.quoted.Kept.add.Goals as goal
 
