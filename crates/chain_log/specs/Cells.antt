@@ -1,10 +1,4 @@
 -- The layout of a chain's words. Each row of the history has one cell for each session, and each cell has a name.
---     word_count      the number of words of a log
---     name_at         the name of the cell of a row and a session, from 1 on
---     cell_at         the first word of the cell of a name
---     session_at      the session of the entry of a row
---     name_before     the name of the last cell of the entries below a row
---     newest_of       the name of the last cell of a history
 use Rattle.std.specs.Prelude.{ℕ, zero, suc, ◌+◌, ◌-◌, ◌*◌, List, [], ◌∷◌, length}
 use Rattle.xa_words.specs.Entry.{Entry}
 
@@ -22,12 +16,14 @@ cell_at name = 1 + (name - 1) * 22
 
 -- the session of the entry in a row; 0 past the end
 unfoldable pub session_at : List Entry → ℕ → ℕ
+-- the session of the entry of a row
 session_at [] row = 0
 session_at (entry ∷ log) zero = entry.session
 session_at (entry ∷ log) (suc row) = session_at log row
 
 -- the name of the cell of the entry in the row before; 0 in row 0, which has none before it
 unfoldable pub name_before : ℕ → List Entry → ℕ → ℕ
+-- the name of the last cell of the entries below a row
 name_before sessions log zero = 0
 name_before sessions log (suc row) = name_at sessions row (session_at log row)
 

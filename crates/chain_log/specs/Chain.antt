@@ -1,6 +1,4 @@
 -- The history that the words of a chain spell.
---     Walk            the entries on the way from a name, from link to link
---     Chain           the entries on the way from the newest cell, reversed
 use Rattle.std.specs.Prelude.{◌≡◌, ◌≢◌, ◌+◌, ℕ, List, [], ◌∷◌, reverse, slice_index}
 use Rattle.xa_words.specs.{Entry.{Entry, IsEntry}, Words.words_of}
 use Rattle.decision_log.specs.Draft.{HasWordsAt}

@@ -1,7 +1,4 @@
 -- What a contract sees of a chain, and of its passes.
---     identity_of     the identity of a log
---     log_of          the identity of a pass's log
---     known_of        what a pass knows
 use Rattle.decision_log.specs.{declared.known.Known.Known, Known.LogIdentity, Seats.pass_view_of}
 use Rattle.chain_log.specs.declared.{chain.ChainLog.ChainLog, pass.ChainPass.ChainPass}
 

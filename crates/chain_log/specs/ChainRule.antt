@@ -1,11 +1,4 @@
 -- The rule of a chain, which holds between any two steps.
---     own_cell        the first word of the pass's own cell, in the row after all that it has seen
---     try_word        the word that passes exchange when they try to append
---     newest_for      what that word is if a pass has seen the whole history
---     HasCells        the words spell a history
---     HasDraft        what a pass knows of the words is true
---     Knows           what a pass knows of the log is true
---     ChainRule       the rule
 use Rattle.std.specs.Prelude.{◌≡◌, ◌<◌, ◌≤◌, ℕ, List, ◌∷◌, length, slice_get, slice_index, Some}
 use Rattle.xa_words.specs.{Entry.Entry, Words.words_of}
 use Rattle.decision_log.specs.declared.{view.{PassView.PassView, SeatView.SeatView}, sizes.Sizes.Sizes}

@@ -1,6 +1,4 @@
 -- A seat at a chain.
---     IsSeat          it is a seat of this log, and knows one pass
---     IsOurs          the pass has this log's sizes, one of its numbers, and has seen no more than the log can have
 use Rattle.std.specs.Prelude.{◌≡◌, ◌≤◌, length}
 use Rattle.atomic_table.specs.declared.shared.Seat.{Seat}
 use Rattle.xa_words.specs.Entry.{Entry}

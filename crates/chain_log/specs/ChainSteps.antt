@@ -1,5 +1,4 @@
 -- The steps of a pass of a chain, with what it has to know before each.
---     IsChainStep     a look, a load of a word, a word found or stored in the own cell, a try to append
 use Rattle.std.specs.Prelude.{◌≡◌, ◌<◌, ◌≤◌, ◌+◌, ℕ, ◌∷◌, length}
 use mathlib.Core.Option.{some}
 use Rattle.xa_words.specs.{Entry.{Entry, IsEntry}, Words.words_of}

@@ -1,6 +1,4 @@
 -- The table in which a pass keeps the session of the entry in each row that it has seen.
---     HasColumns      the table has a place for each row that the log can have, and the first rows of a history are in
---                     it
 use Rattle.std.specs.Prelude.{◌≡◌, ◌<◌, ℕ, List, length, slice_index}
 use Rattle.xa_words.specs.Entry.{Entry}
 use Rattle.chain_log.specs.Cells.{session_at}

@@ -1,5 +1,4 @@
 -- A pass of a ring between two calls.
---     IsRingPass      its number is one of the log's, and what it knows fits together
 -- Here `h` is a pass's view: what a seat of the log knows of that pass.
 use Rattle.std.specs.Prelude.{◌≡◌, ◌≤◌, ℕ, length}
 use Rattle.decision_log.specs.{declared.view.PassView.PassView, History.entries_of, Known.AllOf}

@@ -1,12 +1,6 @@
 -- The layout of a ring's words. Each session and each spare has a column of cells, one for each row, but a spare's are
 -- never used. The rows are used again and again, in turn. `sessions` counts the spares too: to the rule they are passes
 -- as the others are.
---     most            how many entries a ring can have in addition to its rows
---     rows_of         how many rows a ring has, by how many entries it can have
---     word_count      how many words a ring has
---     cell_at         the first word of a cell
---     cell_of         the first word of the cell of a place of the history and a session
---     cell_words      what the words of an entry's cell are
 use Rattle.std.specs.Prelude.{ℕ, ◌+◌, ◌-◌, ◌*◌, ◌%◌, List, ◌∷◌}
 use Rattle.xa_words.specs.{Entry.Entry, Words.words_of}
 use Rattle.chain_log.specs.Cells.{name_at, name_before}
@@ -17,6 +11,7 @@ most = 576460752303423488
 
 -- how many rows a ring of this capacity has: what is beyond 2^59
 unfoldable pub rows_of : ℕ → ℕ
+-- how many rows a ring has, by how many entries it can have
 rows_of capacity = capacity - most
 
 -- how many words a ring has: the newest entry's name, and 23 for each cell, of which each session has one in each row

@@ -1,8 +1,6 @@
 -- What opening a ring gives, and why it is refused.
 --     AreRows, AreSpares      a number of rows, and one of spares, in range
 --     OpensPasses, OpensSpares      the passes and the spares that a ring begins with
---     OpensRing       the ring with both
---     Refuses         the only cause of each fault
 use Rattle.std.specs.Prelude.{◌≡◌, ◌≤◌, ◌+◌, ℕ, List, length, slice_get, Some, All}
 use Rattle.decision_log.specs.{Known.{LogIdentity, newcomer}, Opens.IsCount}
 use Rattle.chain_log.specs.declared.{ring_fault.RingFault.RingFault, ring.RingLog.RingLog, ring_pass.RingPass.RingPass}

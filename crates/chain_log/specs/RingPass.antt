@@ -1,8 +1,4 @@
 -- What a contract sees of a ring, and of its passes.
---     identity_of     which log it is
---     log_of          of which log a pass is
---     known_of        what a pass knows
---     least_of        how many entries the history has at least, as a pass knows
 use Rattle.std.specs.Prelude.{ℕ}
 use Rattle.decision_log.specs.{declared.known.Known.Known, Known.LogIdentity, Seats.pass_view_of}
 use Rattle.chain_log.specs.{declared.{ring.RingLog.RingLog, ring_pass.RingPass.RingPass}, RingRule.least}

@@ -1,17 +1,6 @@
 -- The rule of a ring, which holds between any two steps.
---     own_name        the name that an entry of the pass gets after all that it has seen
---     own_cell        the first word of the cell of that entry
---     try_word        which word passes exchange when they try to add
---     newest_for      what that word is if a pass has seen the whole history
 --     watched_word, watched_name, beyond      what a pass that reads a cell keeps in place of a draft
---     beyond_in       `beyond` of a pass that reads a cell, else 0
---     least           how many entries the history has at least, as a pass knows
---     HasCells        the words spell the last entries of a history
---     IsDraft         what a pass has stored in its own cell
---     IsBroken        the cell that a pass reads has another name now
 --     Notes, HasNotes what a pass keeps as its draft is true of the words, by its `turn`
---     Knows           what a pass knows of the log is true
---     RingRule        the rule
 -- Here `h` is a pass's view: what a seat of the log knows of that pass.
 use Rattle.std.specs.Prelude.{◌≡◌, ◌≢◌, ◌<◌, ◌≤◌, ◌+◌, ℕ, List, length, slice_get, slice_index, Some}
 use Rattle.xa_words.specs.Entry.{Entry}

@@ -1,9 +1,4 @@
 -- A seat at a ring.
---     IsSeat          it is a seat of this log, and knows one pass
---     IsStart         as many words as a cell has, from a word on, are words of this log after word 0
---     IsOurs          the pass has this log's sizes, one of its numbers, and has seen no more than the log can have
---     KeepsPass       a call leaves what the pass knows of the history
---     ReadsCell       what the pass keeps of its reading is of the cell of an entry that it has seen
 -- Here `h` is a pass's view: what a seat of the log knows of that pass.
 use Rattle.std.specs.Prelude.{◌≡◌, ◌<◌, ◌≤◌, ◌+◌, ℕ, length, slice_get, Some}
 use Rattle.atomic_table.specs.declared.shared.Seat.{Seat}

@@ -1,6 +1,4 @@
 -- What a contract sees of a spare.
---     spare_log_of    of which log a spare is
---     spare_known_of  what a spare knows
 use Rattle.decision_log.specs.{declared.known.Known.Known, Known.LogIdentity, Seats.pass_view_of}
 use Rattle.chain_log.specs.declared.spare.RingSpare.{RingSpare}
 

@@ -1,5 +1,4 @@
 -- The steps of a pass of a ring, with what it has to know before each, and what it knows of a given history after it.
---     IsRingStep      a look, a lost try, a cell that is read, a word stored in the own cell or found there, a won try
 use Rattle.std.specs.Prelude.{◌≡◌, ◌<◌, ◌≤◌, ◌+◌, ℕ, List, ◌∷◌, length, set, slice_index}
 use Rattle.xa_words.specs.{Entry.{Entry, IsEntry}, Words.words_of}
 use Rattle.decision_log.specs.declared.view.{PassView.PassView, Turn.TheVariants.Without}

@@ -1,6 +1,5 @@
 -- What each step of a ring does to the pass that takes it, and what the pass learns.
 --     with_look, won, lost, with_words, stored, noted     the pass after a step
---     KeepsWatch      what a load of a word leaves of a pass
 --     Sees, Checks, Reads, Finds, Drafts, Exchanges      the steps, each by its word, its operands, the pass before,
 --                                                        what was found and the pass after
 -- Here `h` is a pass's view: what a seat of the log knows of that pass. A ring keeps in its `turn` how the pass reads:

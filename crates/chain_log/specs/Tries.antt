@@ -1,5 +1,4 @@
 -- What an append to a chain or a ring promises beyond what every log promises.
---     TriesOnce       an append makes one exchange, and none at Full; it is never busy
 use Rattle.std.specs.Prelude.{◌≡◌, ◌<◌, ◌+◌, length, Result, Ok, Err}
 use Rattle.decision_log.specs.declared.{known.Known.Known, fault.AddFault.AddFault}
 

@@ -1,5 +1,4 @@
 -- The table in which a pass keeps whose entry is at each of the last places that it has seen.
---     HasWindow       the table has a byte for each row, and the sessions of entries of a history are in it
 use Rattle.std.specs.Prelude.{◌≡◌, ◌<◌, ◌≤◌, ◌+◌, ◌%◌, ℕ, List, length, slice_index}
 use Rattle.xa_words.specs.Entry.{Entry}
 use Rattle.chain_log.specs.Cells.{session_at}

@@ -1,6 +1,5 @@
 -- The rule of a log is kept where seats are split and joined, where a pass is issued and where passes meet, and words
 -- of zeros keep it: once, for every log.
---     HasWords        what a log has to show of its own words
 --     seats_kept      seats may then be split and joined, and passes meet
 --     opens_seats     and the log can begin
 -- Here `h` is a pass's view: what a seat of the log knows of that pass.

@@ -1,10 +1,5 @@
 -- What a log shows of seats with stated passes (`Single g`, `Pair g h` and so on), for a seat `me` that is known to
 -- have these passes.
---     at_spare        an empty seat is split off
---     at_split        two passes are split
---     at_issue        the next pass is issued
---     at_join         two seats are joined
---     at_meet         two passes meet
 use Rattle.std.proofs.Common.{◌≡◌, ℕ, sym, subst}
 use Rattle.atomic_table.specs.Table.{State, Me, Allows, Splits, Joins}
 use Rattle.xa_words.specs.Entry.{Entry}

@@ -1,12 +1,4 @@
 -- A seat at the words of a log, whatever the log is.
---     KnowsOne        it is a seat at this table, and knows one pass
---     KnowsTwo        the same with two passes
---     KnowsRest       the same with the passes that were not issued
---     KnowsNone       the same with no pass
---     identity_at     the identity of a log at a table
---     belongs_at      of which log the pass at a seat is
---     KeepsSeats      a rule is kept when seats are split and joined, when a pass is issued, and when two passes meet
---     OpensSeats      words with a 0 in word 0 keep a rule if one seat knows all passes, and `KeepsSeats` holds of it
 use Rattle.std.specs.Prelude.{◌≡◌, ◌<◌, ◌≤◌, ℕ, List, [], length, slice_index}
 use Rattle.atomic_table.specs.{Seated.TableId, Table.{State, Allows, Splits, Joins, opening}, declared.shared.Seat.Seat}
 use Rattle.xa_words.specs.Entry.{Entry}

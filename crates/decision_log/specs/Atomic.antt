@@ -1,14 +1,5 @@
 -- One atomic step of a pass on the words of a log, and how the counts of the pass rise by it.
---     Atomic          a load of a word, a store into it, or an exchange of it
 --     AtLoad, AtStore, AtExchange      a transition whose steps are all of one kind
---     Does            what the step finds, and the words after it
---     IsLoad          the step loads this word
---     IsTry           the step exchanges this word
---     Counts          `looks` rises by each load of word 0, which sees the history, `tries` by each exchange of the
---                     word at which passes try, and neither by anything else; `since` counts the looks from the last
---                     try on
---     Tells           a transition at a seat that knows one pass
---     Meets           the load of word 0 at a seat that knows two
 use Rattle.std.specs.Prelude.{◌≡◌, ◌≢◌, ◌⊎◌, ◌<◌, ◌+◌, ℕ, List, length, set, slice_index}
 use mathlib.Core.Option.{Option}
 use Rattle.atomic_table.specs.Table.{Me}

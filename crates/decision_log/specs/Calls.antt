@@ -1,7 +1,5 @@
 -- How the calls of a log change what a pass knows.
---     Looked          a look
 --     IsAdded, IsOvertaken, IsBusy      the results of an append
---     Adds            an append, by its result
 --     MeetsFirst, MeetsSecond     a meeting of two passes
 use Rattle.std.specs.Prelude.{◌≡◌, ◌<◌, ◌≤◌, ◌+◌, ℕ, Bool, IsTrue, [], ◌∷◌, ◌++◌, length, Result, Ok, Err}
 use Rattle.xa_words.specs.Entry.{Entry}

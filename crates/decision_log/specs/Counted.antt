@@ -1,6 +1,5 @@
 -- How the counts of a pass rise by a transition whose steps are all of one kind. The laws of transitions are made of
 -- these.
---     IsCounted       each step of a transition raises the counts as `Counts` says
 --     leaves_counts   a step that neither looks nor tries, and leaves the counts, does what `Counts` says
 --     counts_at_load, counts_at_store, counts_at_exchange      a transition of loads, of stores, of exchanges
 use Rattle.std.{specs.Prelude.{◌≡◌, ℕ}, proofs.Common.inr}

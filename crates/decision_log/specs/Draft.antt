@@ -1,7 +1,4 @@
 -- The words that a pass stores before they are an entry.
---     HasWordsAt      the words from a number on begin with these words
---     with_draft      a pass with these words stored
---     drafted         a pass after one more store
 -- Here `h` is a pass's view: what a seat of the log knows of that pass.
 use Rattle.std.specs.Prelude.{◌≡◌, ◌<◌, ◌+◌, ℕ, List, [], ◌∷◌, ◌++◌, length, take, slice_index}
 use Rattle.decision_log.specs.declared.view.PassView.{PassView}

@@ -1,6 +1,4 @@
 -- The numbers of the faults.
---     number_of_open_fault      why a log wasn't opened
---     number_of_add_fault       why an entry wasn't appended
 use Rattle.std.specs.Prelude.{ℕ}
 use Rattle.decision_log.specs.declared.fault.{OpenFault.OpenFault, AddFault.AddFault}
 

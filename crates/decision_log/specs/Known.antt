@@ -1,8 +1,5 @@
 -- What a contract sees of a log and of a pass.
 -- A pass is seen as a `Known` (src/known.rt): number, seen, mine, looks, tries, since.
---     LogIdentity     the log's table, how many sessions (and spares) it has, and how many entries it can have
---     newcomer        what a pass knows before its first call
---     AllOf           each entry is of a session from 1 to a number
 use Rattle.std.specs.Prelude.{ℕ, ◌≤◌, List, [], All}
 use Rattle.atomic_table.specs.Seated.{TableId}
 use Rattle.xa_words.specs.Entry.{Entry}

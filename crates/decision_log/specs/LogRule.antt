@@ -1,6 +1,4 @@
 -- The rule of a log, which holds between any two steps: what is the same in every log, whatever its words are.
---     KnowsLog        what a pass knows of the log is true
---     LogRule         the rule, given how words spell a history and what a pass knows of them
 use Rattle.std.specs.Prelude.{◌≡◌, ◌<◌, ◌≤◌, ◌+◌, ℕ, List, length, slice_get, Some}
 use Rattle.xa_words.specs.Entry.{Entry, IsEntry}
 use Rattle.decision_log.specs.declared.{view.{PassView.PassView, SeatView.SeatView}, sizes.Sizes.Sizes}

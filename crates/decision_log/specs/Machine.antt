@@ -1,12 +1,5 @@
 -- The log as a machine: one history, which grows at its end, and what each session knows of it.
---     Seen            what one session knows: a prefix of the history, and its own entries
---     Machine         a history, a capacity, and what each session knows
---     Event           a session looks, or it appends an entry
 --     Looks, Appends  what a look does to the machine, and what an append does
---     Happens         one event, from one machine to the next
---     Runs            any list of events
---     opening_machine  the machine at the start
---     IsState         what the sessions know fits the history
 use Rattle.std.specs.Prelude.{◌≡◌, ◌≢◌, ◌<◌, ◌≤◌, ℕ, List, [], ◌∷◌, ◌++◌, length}
 use Rattle.xa_words.specs.Entry.{Entry}
 use Rattle.decision_log.specs.History.{Begins, entries_of}

@@ -1,11 +1,4 @@
 -- What a step at the seats of a log is, of the log machine: nothing, or one event.
---     SeatStands        the machine's sessions know what the passes at a seat know
---     StandsFor         a machine of this history, whose sessions know what all seats know
---     IsStep            nothing, or one event
---     Learns            what a pass learns at a step: nothing, the whole history, or its own appended entry
---     Changes           a pass at a seat, alone or the second of two, is another one after the step
---     Moves             seats are split or joined, or a pass is issued
---     StepsTo           a machine of the seats before a step goes on to one of those after it, by nothing or one event
 use Rattle.std.specs.Prelude.{◌≡◌, ◌≢◌, ◌⊎◌, ◌≤◌, ℕ, List, [], ◌∷◌, ◌++◌, set}
 use mathlib.Core.Option.{some}
 use Rattle.xa_words.specs.Entry.{Entry}

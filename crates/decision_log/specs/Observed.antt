@@ -1,7 +1,4 @@
 -- What a pass learns from a step by which it sees the history.
---     HistoryIs       what a pass learns of a history that it sees
---     MetAt           the same of two passes that meet
---     met             a pass after a meeting
 -- Here `h` is a pass's view: what a seat of the log knows of that pass.
 use Rattle.std.specs.Prelude.{◌≡◌, ◌≤◌, List, [], length}
 use Rattle.xa_words.specs.Entry.{Entry}

@@ -1,7 +1,5 @@
 -- The result of opening a log: its passes, or a fault with its cause.
 --     IsCapacity, IsCount, AreSizes      a capacity, a number of sessions, and both, in range
---     Opens           the passes that a log begins with
---     Refuses         the only cause of each fault
 use Rattle.std.specs.Prelude.{◌≡◌, ◌≤◌, ◌+◌, ℕ, List, length, slice_get, Some, All}
 use Rattle.decision_log.specs.declared.{known.Known.Known, fault.OpenFault.OpenFault, sizes.Sizes.Sizes}
 use Rattle.decision_log.specs.Known.{LogIdentity, newcomer}

@@ -1,7 +1,4 @@
 -- The log machine whose sessions are the passes of a log.
---     KnownTo         a pass knows what the machine's session of its number knows
---     SeatKnownTo     the same of each pass that a seat knows
---     HasPasses       the machine of a history and of all seats
 use Rattle.std.specs.Prelude.{◌≡◌, ℕ, List}
 use mathlib.Core.Option.{some}
 use Rattle.xa_words.specs.Entry.{Entry}

@@ -1,7 +1,4 @@
 -- Machines that are reached from the start by looks and appends.
---     session_of      the session of an event
---     EventsOf        each event is of a session from 1 to a number
---     IsReached       such events lead from the start to the machine's history, and to what these sessions know
 use Rattle.std.specs.Prelude.{◌≡◌, ◌≤◌, ℕ, List, [], ◌∷◌}
 use Rattle.decision_log.specs.Machine.{Machine, Event, Look, Add, Runs, opening_machine}
 

@@ -1,7 +1,6 @@
 -- Each step of a log with a turn raises the counts of its pass (`looks`, `tries` and `since`) as `Counts` says.
 --     see_counts, read_counts, take_counts, draft_counts, publish_counts, release_counts     the laws of the
 --                                                                                            transitions
---     tried_counts    an exchange of the turn's word, won or lost
 use Rattle.std.{proofs.Common.{ap, ◌∙◌, sym, inl, inr}, specs.Prelude.{◌≡◌, ℕ}}
 use mathlib.Core.{Logic.dite, Option.Option}
 use Rattle.xa_words.specs.Entry.{Entry}

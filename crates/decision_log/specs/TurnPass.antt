@@ -1,7 +1,4 @@
 -- What a contract sees of a log with a turn, and of its passes.
---     identity_of     the identity of a log
---     log_of          the identity of a pass's log
---     known_of        what a pass knows
 use Rattle.decision_log.specs.declared.{known.Known.Known, turn_log.{TurnLog.TurnLog, pass.TurnPass.TurnPass}}
 use Rattle.decision_log.specs.{Known.LogIdentity, Seats.pass_view_of}
 

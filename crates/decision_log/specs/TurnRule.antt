@@ -1,12 +1,4 @@
 -- The rule of a log with a turn, which holds between any two steps.
---     row_at          the first word of the row of a place
---     turn_word       the word that names the session that has the turn
---     count_for       what the count is if a pass has seen the whole history
---     HasRows         the words spell a history
---     HasTurn         what a pass knows of the turn is true
---     HasDraft        what a pass knows of the words is true
---     Knows           what a pass knows of the log is true
---     TurnRule        the rule
 use Rattle.std.specs.Prelude.{◌≡◌, ◌+◌, ◌*◌, ℕ, List, [], length, slice_get, slice_index, Some}
 use Rattle.xa_words.specs.{Entry.Entry, Words.words_of}
 use Rattle.decision_log.specs.declared.{view.{PassView.PassView, SeatView.SeatView, Turn.Turn}, sizes.Sizes.Sizes}

@@ -1,5 +1,4 @@
 -- A seat at a log with a turn.
---     IsSeat          it is a seat of this log, and knows one pass
 use Rattle.atomic_table.specs.declared.shared.Seat.{Seat}
 use Rattle.xa_words.specs.Entry.{Entry}
 use Rattle.decision_log.specs.{declared.{view.SeatView.SeatView, turn_log.TurnLog.TurnLog}, AtTable.KnowsOne}

@@ -1,5 +1,4 @@
 -- The steps of a pass of a log with a turn, with what it has to know before each.
---     IsTurnStep      a look, a load of a word, a try for the turn, a word of the draft, the count, the turn given back
 use Rattle.std.specs.Prelude.{◌≡◌, ◌<◌, ◌≤◌, ◌+◌, ℕ, length}
 use mathlib.Core.Option.{Option}
 use Rattle.xa_words.specs.{Entry.{Entry, IsEntry}, Words.words_of}

@@ -1,5 +1,4 @@
 -- How each step of a log with a turn changes the pass that takes it, and what the pass learns.
---     looked_turn             whether a pass has the turn, after a look
 --     with_look, tried, published, released   the pass after a step
 --     Sees, Reads, Takes, Drafts, Publishes, Releases     the steps, each by its word, its operands, the pass before,
 --                                                         what was found and the pass after

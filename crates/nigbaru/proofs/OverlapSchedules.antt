@@ -1,7 +1,4 @@
 -- The order in which the calls of a race's runs return.
---     spoken                 what a line says, and was answered
---     StandsWithin           the sessions stand as `Stands` says, and only they have lines
---     overlap_explained      the lines can be written down so that they are explained
 use Rattle.std.proofs.Common.{◌≡◌, ◌⊎◌, ℕ, zero, suc, ◌+◌, ◌++◌, ◌∷◌, Some, List, [], length, refl, sym, ◌∙◌, subst}
 use Rattle.std.{proofs.{Common.{inl, inr, arith}, lemmas.Bool.cases_lt}, specs.Prelude.slice_get}
 use Rattle.xa_words.specs.Entry.{Entry}

@@ -1,16 +1,6 @@
 -- One line of a session: its statement takes effect, its call returns, and the session calls for the next one.
---     RunsOn             some moves lead through the events
---     client_of          what a session is about that has these lines left
---     Stands             each session is about what its lines that are left say
---     Goes               the lines can be written down so that they are explained
 --     effected, idle_again     the configuration after a statement took effect;  after its call returned, too
---     GoesNext           from where a session is idle, its next call and all lines that are left can be written down
---     emits              the first line of a session takes effect and returns
---     HaveCalled         the sessions above a number have called for their first lines
 --     BegunOne, Begun    one session more has called;  the sessions up to a number have called, too
---     begins             each session calls for its first line
---     none_called        before the first call every session is idle
---     opening-state      the first configuration has the store's base as its state
 use Rattle.std.proofs.Common.{◌≡◌, ◌≢◌, ℕ, zero, suc, ◌<◌, ◌≤◌, true, cond, Option, Some, None, List, [], ◌∷◌, ◌++◌}
 use Rattle.std.proofs.Common.{set, replicate, refl, ap, sym, ◌∙◌, subst, inl, inr, arith, append_assoc}
 use Rattle.std.specs.Prelude.{slice_get}

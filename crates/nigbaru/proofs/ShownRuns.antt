@@ -1,5 +1,4 @@
 -- What is linearizable is explained once it is written down as a record.
---     Fits      the sessions are as far in the judge's configuration as the server's clients are
 use Rattle.std.proofs.Common.{◌≡◌, ◌⊎◌, ℕ, true, cond, Option, Some, None, List, [], ◌∷◌, refl, ap, sym, ◌∙◌, subst}
 use Rattle.std.{proofs.{Common.{inl, inr, arith}, lemmas.Bool.cases_lt}, specs.Prelude.slice_get}
 use Rattle.xa_xid.specs.declared.statement.Statement.{Statement}

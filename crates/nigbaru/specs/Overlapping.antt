@@ -1,13 +1,5 @@
 -- How the runs of a race are written down as a record of overlapping calls.
 -- Every rule here is the project's own: docs/PROOF.md#from-one-call-to-linearizability.
---     RunLine               a statement of a run, its answer, and what the record shows of that answer
---     Lines                 the lines of each session
---     next_call             the call for the first line of a list
---     first_calls           each session calls for its first line
---     Overlap               events in which a session calls again as soon as its call has returned
---     IsExplainedOverlap    written down as overlapping calls, the lines are explained
---     AreFreshRuns          runs of the sessions 1, 2 and so on, which have done nothing before
---     AreLinesOf            the lines are those of the runs, with these answers
 use Rattle.std.specs.Prelude.{◌≡◌, ℕ, zero, suc, ◌+◌, ◌<◌, true, Some, List, [], ◌∷◌, ◌++◌, length, map, slice_get}
 use Rattle.xa_xid.specs.declared.statement.Statement.{Statement}
 use Rattle.xa_server.specs.State.{State}
@@ -36,6 +28,7 @@ next_call session (line ∷ lines) = Event.Call session (Request.Statement line.
 
 -- the calls of the sessions from this number down to 1 for their first lines; a session without a line makes none
 unfoldable pub first_calls : ℕ → Lines → List Event
+-- each session calls for its first line
 first_calls zero lines = []
 first_calls (suc count) lines = next_call (suc count) (lines (suc count)) ++ first_calls count lines
 

@@ -1,7 +1,5 @@
 -- How what callers see of a run is written down as a record for the judge.
 -- Every rule here is the project's own: docs/PROOF.md#from-one-call-to-linearizability.
---     Shows          an event of a record shows what was seen
---     IsRecordOf     a record shows all that was seen, in order
 use Rattle.std.specs.{Prelude.{◌≡◌, true, List}, List.AllZip}
 use Rattle.xa_session.specs.Linear.{Sight, Call, Return, Fail}
 use Rattle.xa_judge.specs.{declared.request.Request.TheVariants.Statement as Given, Explained.{shows_answer, IsSession}}

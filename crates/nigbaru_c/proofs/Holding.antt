@@ -1,12 +1,9 @@
 -- The machine value of a handle. Assumes `Logic`.
---     word            a handle at a pointer
 --     tested          a box's pointer may be tested
 --     handle_in       a handle is made of what it owns
 --     handle_out      what it owns is taken out of it
 --     either          it owns nothing at null, or a box elsewhere
 --     lies, keyless   what it owns may cross threads
---     quiet           an exit that does nothing further, with its value hidden
---     E               a box of a chair, as the steps on boxes take it
 use Rattle.std.proofs.{Common.{◌≡◌, ℕ, List, [], ◌∷◌, ◌++◌, refl, subst}, GlobalToken.dealloc_token-Testable}
 use Rattle.std.{proofs.{Crossing.frees, BoxSteps.Form.Bx}, specs.Prelude.{Option, Some, None}}
 use Rattle.std.specs.contracts.impls.GlobalAllocator.TheImpl.{ghosts, dict}

@@ -1,7 +1,4 @@
 -- What a call asks of a session, and what comes of it.
---     Reads            what a text asks for
---     Answers          what comes of it, by what the handle holds
---     Does             Answers, of a call that returns the outcome's status and tells C its fields
 use Rattle.std.specs.Prelude.{◌≡◌, ℕ, List, Ok, Err, Option, None, Some}
 use Rattle.xa_xid.specs.declared.statement.Statement.{Statement}
 use Rattle.xa_statement.specs.{Grammar.Spells, FaultPlace.FaultAt}

@@ -1,9 +1,5 @@
 -- How C gets the history.
---     status_of_next   the status of what comes next
 --     IsNumber, IsLength      the number of an entry's session, and the length of its text, in range
---     Shows            how what comes next is written into the structure of C
---     HandsOut         a session hands out an entry, or says how many are lost, or is at the end
---     Follows          HandsOut, of what a handle holds
 use Rattle.std.specs.Prelude.{◌≡◌, ◌≤◌, ℕ, length, take, Option, None, Some}
 use Rattle.chain_log.specs.RingPass.{known_of}
 use Rattle.xa_statement.specs.Canonical.{statement_text}

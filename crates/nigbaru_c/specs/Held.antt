@@ -1,7 +1,5 @@
 -- What a handle owns.
---     heap            the C library's heap
 --     boxed, holds    what a box of a chair owns, and what a handle owns
---     held_coded      how what a handle holds is encoded
 use Rattle.std.specs.{Prelude.◌≡◌, Box.Ownership.box_owns, Coded.coded_option, declared.option.Option.Option}
 use Rattle.std.specs.{Global.Global, contracts.impls.GlobalAllocator.TheImpl.ghosts}
 use Rattle.nigbaru_c.specs.contracts.chair.Chair.{the_row}

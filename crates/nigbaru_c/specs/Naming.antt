@@ -1,8 +1,6 @@
 -- What the arguments of a call name, if they are in their ranges.
 --     value_named, key_named      the value or the key of these bytes
---     xid_named        the identifier of X/Open's parts
 --     on_branch, on_row      a statement about a branch, or about a row, if it is named
---     put              a PUT, if its key and its value are named
 use Rattle.std.specs.Prelude.{ℕ, ℤ, pos, nat_le, ◌&&◌, if◌then◌else◌, List, length, take, drop, Option, Some, None}
 use Rattle.xa_xid.specs.{Limits.text_bytes, Xid.Text, declared.{statement.Statement.Statement, xid.Xid.Xid}}
 use Rattle.nigbaru_c.specs.declared.{asked.Asked.{Asked, TheVariants.{For, Unfit}}, xid_part.XidPart.XidPart}

@@ -1,6 +1,4 @@
 -- How C opens a store.
---     Opened           a store of so many rows and sessions is held
---     IsOpenStatus     the cause of each status, in the order of test
 use Rattle.std.specs.Prelude.{◌≡◌, ◌≢◌, ◌⊎◌, ℕ, Option, None, Some}
 use Rattle.decision_log.specs.Opens.{IsCount}
 use Rattle.chain_log.specs.RingOpens.{AreRows}

@@ -1,9 +1,6 @@
 -- The result of a text that C gives to a session.
 --     status_of_reply, status_of_fault, status_of      the status that C gets
---     Fits             X/Open's layout can hold a statement's identifier
 --     HasTried, Tried  what one try at a statement did, by its outcome
---     Goes             what a text did to a session, by the outcome
---     Comes            the same for the session that a handle holds, if it holds one
 use Rattle.std.specs.Prelude.{◌≡◌, ◌<◌, ◌^◌, ℕ, List, Result, Ok, Err, Option, None, Some}
 use Rattle.xa_xid.specs.declared.statement.Statement.{Statement}
 use Rattle.xa_statement.specs.{Grammar.Spells, FaultPlace.FaultAt}

@@ -1,9 +1,4 @@
 -- How C takes a session.
---     IsTaken          a session of this store and this number
---     Takes            IsTaken, of what handles hold
---     IsNumber         a store has a session of this number
---     IsSeatStatus     the cause of each status, in the order of test, at a store
---     IsTakeStatus     the same, if a store is held
 use Rattle.std.specs.Prelude.{◌≡◌, ◌≢◌, ◌≤◌, ◌⊎◌, ℕ, Option, None, Some}
 use Rattle.chain_log.specs.RingPass.{known_of}
 use Rattle.xa_endless.specs.declared.{session.EndlessSession.EndlessSession, store.EndlessStore.EndlessStore}

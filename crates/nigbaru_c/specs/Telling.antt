@@ -1,8 +1,5 @@
 -- How an outcome is written into the structures of C.
 --     TellsReply, TellsPlace      the fields of a reply;  a place, and no field of a reply
---     Tells            all fields of an outcome
---     IsLaid           an identifier as X/Open lays it out
---     LaidOut          identifiers, as many as there is room for, and the rest as it was
 --     ListsReply, Lists      the identifiers of a reply, or of an outcome
 use Rattle.std.specs.Prelude.{◌≡◌, ◌<◌, ◌≤◌, ◌+◌, ◌^◌, ◌++◌, ℕ, pos, negsuc, List, length, take, slice_index_or, Option}
 use Rattle.std.specs.Prelude.{Some, None}

@@ -1,10 +1,5 @@
 -- What an audit of histories comes to. Every rule here is the project's own: docs/HISTORIES.md#audits.
---     history_bytes     the greatest length of a history
---     IsAuditOf         what is kept of these histories
---     ended_of          how an audit of global transactions ends
---     IsAudited         an audit of these histories ends so, and this is written for it
 --     AppendsAudit, AppendsAuditPrefix     the writer got that text;  a prefix of it
---     AfterAuditFault   what a fault leaves in the writer
 use Rattle.std.specs.Prelude.{◌≡◌, ℕ, ◌==◌, Bool, true, false, Option, List, [], ◌∷◌, length}
 use Rattle.std.specs.Io.KnownBytes.{Keeps, Appends}
 use Rattle.xa_lines.specs.{declared.script_fault.ScriptFault.ScriptFault, Transcript.AppendsPrefix}
@@ -30,6 +25,7 @@ ended_by false = Ended.SomeNotAtomic
 
 -- how an audit ends: whether every global transaction is atomic
 unfoldable pub ended_of : List Global → Ended
+-- how an audit of global transactions ends
 ended_of globals = ended_by (count_of Atomic globals == length globals)
 
 -- an audit ends so, and this is written, by what is written for lines that aren't read: if there is such a line, just

@@ -1,8 +1,4 @@
 -- The branches of every store, with the ends of their lives.
---     IsIndex              a list has exactly the keys for which something is told, ascending, each with that
---     lives_in             the lives of a branch in a history
---     AreBranchesOf        the branches of one store
---     AreBranches          those of every store, in the order of the stores
 use Rattle.std.specs.{Prelude.{◌≡◌, ℕ, ◌+◌, None, Option, List, [], ◌∷◌, ◌++◌, map}, declared.cmp.Ordering.Ordering}
 use Rattle.std.specs.{List.Sorted.IsStrictlySortedBy, Map.{lookup, keys_of}, BTreeMap.is_at}
 use Rattle.xa_xid.specs.{declared.xid.Xid.Xid, Xid.xid_cmp}

@@ -1,9 +1,5 @@
 -- How the program follows a history.
---     own_after      what a session owns after its statement was accepted
 --     state_said, deed_said     the state after what a line says;  the deed of it
---     IsFollowed     the branches that are kept for sessions are those that they own
---     PutsAt         a map after a value was put at a key
---     Notes          what is kept of lives after a statement
 use Rattle.std.specs.{Prelude.{◌≡◌, ℕ, cond, Option, Some, None, slice_index_or}, Option.unwrap_or}
 use Rattle.std.specs.{BTreeMap.{BTreeMap, get, is_at}, declared.cmp.Ordering.Ordering}
 use Rattle.xa_xid.specs.{declared.{xid.Xid.Xid, statement.Statement.Statement}, Xid.xid_cmp}

@@ -1,9 +1,5 @@
 -- Global transactions, and whether each is atomic.
---     global_cmp        the order of their names: by formatID, then gtrid
---     IsAccount         these are the global transactions, each with its branches
 --     took, failed      some life of a branch is COMMITTED;  none is, and its last life is ROLLED BACK
---     verdict_of        the verdict on a global transaction
---     count_of          how many have this verdict
 use Rattle.std.specs.Prelude.{ℕ, ◌+◌, Bool, true, false, not, ◌&&◌, cond, if◌then◌else◌, Option, Some, None, List, []}
 use Rattle.std.specs.{Prelude.{◌∷◌, filter}, List.list_any, Option.option_map_or, declared.cmp.Ordering.Ordering}
 use Rattle.std.specs.Ordering.{nat_cmp, ordering_then, eq_by_cmp}
@@ -94,5 +90,6 @@ same_verdict verdict other = false
 
 -- how many global transactions have this verdict
 unfoldable pub count_of : Verdict → List Global → ℕ
+-- how many have this verdict
 count_of verdict [] = 0
 count_of verdict (global ∷ globals) = cond (same_verdict verdict (verdict_of global.1)) 1 0 + count_of verdict globals

@@ -1,9 +1,5 @@
 -- How a history is read: a script, as `run` reads it, in which comments too say nothing.
 -- Every rule here is the project's own: docs/HISTORIES.md#audits.
---     said_on           what a line says
---     statements_in     the statements of a history, each with its session
---     faults_in         what is written for the lines of one history that aren't read
---     faults_of         the same of every history
 use Rattle.std.specs.Prelude.{ℕ, ◌+◌, if◌then◌else◌, Result, Ok, Err, List, [], ◌∷◌, ◌++◌, codes, decimal}
 use Rattle.xa_xid.specs.declared.statement.Statement.{Statement}
 use Rattle.xa_statement.specs.Reading.{read_of}
@@ -23,6 +19,7 @@ said_in (Given session text) = said_by session (read_of text)
 
 -- what a line says: a comment says nothing
 unfoldable pub said_on : List ℕ → Said
+-- what a line says
 said_on line = if is_comment_line line then Nothing else said_in (line_of line)
 
 -- the statement that a line gives, if it gives one
@@ -33,6 +30,7 @@ statement_said (Unread place) = []
 
 -- the statements of a history that has these lines, each with its session, in order
 unfoldable pub statements_in : List (List ℕ) → List (ℕ × Statement)
+-- the statements of a history, each with its session
 statements_in [] = []
 statements_in (line ∷ lines) = statement_said (said_on line) ++ statements_in lines
 
@@ -45,6 +43,7 @@ fault_said store number (Unread place) =
 
 -- what is written for the faulty ones of these lines of a store's history, the first of which has this number
 unfoldable pub faults_in : ℕ → ℕ → List (List ℕ) → List ℕ
+-- what is written for the lines of one history that aren't read
 faults_in store number [] = []
 faults_in store number (line ∷ lines) = fault_said store number (said_on line) ++ faults_in store (number + 1) lines
 

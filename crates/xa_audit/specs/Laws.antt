@@ -1,10 +1,5 @@
 -- Words of the laws of audits.
---     is_commit     a deed is an accepted XA COMMIT
---     took_in       some life of the branch is COMMITTED in a history
 --     is_write, is_within     a deed is a write;  it neither begins nor ends a life
---     DropsWrites   the last life of a branch wrote, and was rolled back
---     failed_in     the branch failed in the history of a store
---     FailsBy       by its deeds, a branch had no accepted XA COMMIT, and the writes of its last life were dropped
 --     HasCommitted, HasDropped     a branch of a global transaction was committed;  one failed by dropped writes
 use Rattle.std.specs.{Prelude.{◌≡◌, Bool, true, false, List, ◌∷◌, ◌++◌, ℕ}, List.{list_any, list_all, Contains}}
 use Rattle.std.specs.Option.{option_map_or}

@@ -1,7 +1,4 @@
 -- The lives of a branch, from an accepted XA START to their ends.
---     noted           the lives after one more deed
---     lives_after     the lives after these deeds;  none, if there is no deed
---     ends_in         how each of the lives ends, in order
 use Rattle.std.specs.Prelude.{Bool, true, false, Option, Some, None, List, [], ◌∷◌, ◌++◌}
 use Rattle.std.specs.Option.{option_map, unwrap_or}
 use Rattle.xa_audit.specs.declared.{deed.Deed.Deed, ends.End.End, lives.{Life.Life, Lives.Lives}}
@@ -46,6 +43,7 @@ noted lives Deed.RollsBack = over_by (dropped lives.going) lives
 
 -- the lives of a branch after these deeds; None if it had none and there is no deed
 unfoldable pub lives_after : Option Lives → List Deed → Option Lives
+-- the lives after these deeds; none, if there is no deed
 lives_after lives [] = lives
 lives_after lives (deed ∷ deeds) = lives_after (Some (noted (unwrap_or lives no_lives) deed)) deeds
 

@@ -1,9 +1,5 @@
 -- What is written for global transactions. Every rule here is the project's own: docs/HISTORIES.md#audits.
 --     end_text, verdict_text     the words for an end, and for a verdict
---     lines_text                 a line for each global transaction, each life and each verdict, and the last line
---     last_text                  the last line: how many have which verdict
---     json_text                  the same as an object of JSON, on one line
---     text_in                    in the form that is asked for
 use Rattle.std.specs.Prelude.{ℕ, Bool, true, false, List, [], ◌∷◌, ◌++◌, length, codes, decimal}
 use Rattle.xa_xid.specs.XidText.{part_text}
 use Rattle.xa_audit.specs.declared.{ends.End.End, branch.Branch.Branch, global.GlobalName.GlobalName}
@@ -48,6 +44,7 @@ global_text global =
 
 -- how many global transactions there are, and how many have which verdict
 unfoldable pub last_text : List Global → List ℕ
+-- the last line: how many have which verdict
 last_text globals =
     codes "GLOBALS " ++ decimal (length globals)
     ++ codes " ATOMIC " ++ decimal (count_of Atomic globals)

@@ -1,8 +1,4 @@
 -- What a call may add to the histories of stores.
---     AddsStatements   the statements that a session added
---     AddsEach         those that it was given, each of which it added
---     AgreesWith       a statement doesn't go against the decisions
---     Agrees           a call added only statements that agree with the decisions
 use Rattle.std.specs.Prelude.{◌≡◌, ◌++◌, ℕ, true, false, List, length, map, All}
 use Rattle.xa_xid.specs.declared.statement.Statement.{Statement, TheVariants.{Commit, Rollback}}
 use Rattle.xa_session.specs.{Answer.{Advances, entry_of}, View.{SessionView, StaysOfLog, Takes}}

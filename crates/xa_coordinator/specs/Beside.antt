@@ -1,8 +1,4 @@
 -- Two sessions of a store in one value.
---     IsLeftAlone      the session got no statement
---     HoldsAsBefore    the sessions that a value holds beside its own got none
---     AnswersSo        the session answered a statement, or failed, with this result
---     IsAnsweredSo     the same, and the session stays of its log
 use Rattle.std.specs.Prelude.{◌≡◌, true, Result, Ok, Err}
 use Rattle.xa_xid.specs.declared.statement.Statement.{Statement}
 use Rattle.xa_session.specs.{Answer.{IsAnswered, Fails}, View.{SessionView, StaysOfLog}, declared.answer.Answer.Answer}

@@ -1,12 +1,11 @@
 -- The names of a global transaction's branches.
---     branch_xid       the identifier of a transaction's branch in a store
---     IsBranchOf       the identifier is that of this transaction's branch
 use Rattle.std.specs.{Prelude.{◌≡◌, ◌<◌, ◌^◌, ℕ, List, [], ◌∷◌, ◌++◌}, Int.{w64, to_be_bytes}}
 use Rattle.xa_xid.specs.declared.xid.Xid.{Xid}
 
 -- the formatID is 22593; gtrid is the coordinator's name and the transaction's number in eight bytes, highest first;
 -- bqual is the store's number (own rule)
 unfoldable pub branch_xid : List ℕ → ℕ → ℕ → Xid
+-- the identifier of a transaction's branch in a store
 branch_xid name number store =
     record {
       format_id = 22593;

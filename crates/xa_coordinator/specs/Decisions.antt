@@ -1,15 +1,7 @@
 -- The states of the numbers of global transactions. A contract sees decisions as the list of the states of 1,
 -- 2, ..
---     decision_of      the state of a number, if it was given
 --     decides, is_not_closed      whether a state is Decided;  whether it was given and isn't Closed
---     is_decided       whether a number is decided
---     may_be_decided   whether a number was given and isn't closed
---     with_decided     the decisions with this number decided
---     closed_of        the state of a number after a recovery has closed the undecided ones
---     IsOvertaken      a number is undecided, and a later one closed
---     CanStand         a list can be decisions
 --     IsFirstOvertaken the first such number of a list that isn't too long
---     IsNoList         why a list can't be taken as decisions
 use Rattle.std.specs.Prelude.{ℕ, ◌≡◌, ◌<◌, ◌≤◌, Bool, true, false, Option, Some, None, if◌then◌else◌, ◌==◌, ◌-◌, List}
 use Rattle.std.specs.Prelude.{length, slice_get, slice_set}
 use Rattle.xa_coordinator.specs.{Limits.most_numbers, declared.fault.DecisionsFault.DecisionsFault}
@@ -17,6 +9,7 @@ use Rattle.xa_coordinator.specs.declared.decisions.Decision.{Decision, TheVarian
 
 -- the state of the number; numbers are given from 1 on (own rule)
 unfoldable pub decision_of : List Decision → ℕ → Option Decision
+-- the state of a number, if it was given
 decision_of decisions number = if number == 0 then None else slice_get decisions (number - 1)
 
 -- the decision to commit was recorded
@@ -40,6 +33,7 @@ may_be_decided decisions number = is_not_closed (decision_of decisions number)
 
 -- the decisions with this number, which is at least 1, decided; the others have the states that they had
 unfoldable pub with_decided : List Decision → ℕ → List Decision
+-- the decisions with this number decided
 with_decided decisions number = slice_set decisions (number - 1) Decided
 
 -- the state of a number after a recovery: closed if it was undecided, else as it was

@@ -1,10 +1,4 @@
 -- The numbers of a coordinator's faults, votes and endings.
---     number_of_decisions_fault  why a list isn't taken for decisions
---     number_of_begin_fault      why no number was given
---     number_of_work_fault       why work wasn't answered
---     number_of_recover_fault    why a recovery failed
---     number_of_vote             what the stores voted
---     number_of_ending           how a transaction ended
 use Rattle.std.specs.Prelude.{ℕ}
 use Rattle.xa_coordinator.specs.declared.fault.{DecisionsFault.DecisionsFault, BeginFault.BeginFault}
 use Rattle.xa_coordinator.specs.declared.fault.WorkFault.{WorkFault, TheVariants.{Session, Refused, Lost}}

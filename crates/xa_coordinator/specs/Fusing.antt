@@ -1,8 +1,4 @@
 -- How a session answers that fails from a certain call on.
---     AnswersAsWithin     as the session within, as long as it passes calls on, and then out of memory
---     is_spent            whether no more statements are taken
---     may_starve          whether memory may have been refused, or no more statements are taken
---     limited             the session within as contracts see it, with the limit
 use Rattle.std.specs.Prelude.{◌≡◌, ◌≢◌, ◌+◌, ◌||◌, ℕ, zero, suc, Bool, true, false, Option, Some, None, Result, Err}
 use Rattle.xa_session.specs.{View.SessionView, declared.{answer.Answer.Answer, fault.Fault.Fault}}
 use Rattle.xa_xid.specs.declared.statement.Statement.{Statement}

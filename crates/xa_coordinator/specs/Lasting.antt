@@ -1,11 +1,5 @@
 -- An unbounded store, as contracts see it.
---     history_of       all entries since it began
---     no_log           the identity that a store without a log has
 --     own_view, other_view     its own session, of number 1;  the other client's, of number 2
---     IsAnsweredBeside         a session of it answered a statement
---     alone_at         a session that holds no other, of a base and of what it knows
---     other_alone      the other client's session by itself
---     other-steady     using the store's own session leaves the other client's by itself as it was
 use Rattle.std.{specs.Prelude.{◌≡◌, false, true, None, List, [], ◌∷◌, map}, proofs.Common.{ap, ◌∙◌}}
 use Rattle.xa_words.specs.Entry.{Entry}
 use Rattle.xa_xid.specs.declared.statement.Statement.{Statement}

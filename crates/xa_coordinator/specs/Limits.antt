@@ -1,5 +1,4 @@
 -- How many numbers a coordinator's decisions give at most.
---     most_numbers     numbers that can be given
 use Rattle.std.specs.Prelude.{ℕ}
 
 -- numbers are given from 1 to 1,000,000 (own rule)

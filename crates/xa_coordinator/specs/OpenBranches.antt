@@ -1,14 +1,4 @@
 -- What a coordinator has open in its stores.
---     association_seen  what a session has open, as far as it has seen
---     association_in   what a session has open if it has this branch open in this phase
---     OpenThere        each branch that the coordinator has open is what the session of its store has open
---     HasOpen          the coordinator has a transaction's branch open
---     is_active        whether a phase is ACTIVE
---     works_for        whether what is open in a store is the branch of a number, ACTIVE
---     has_working_branch  whether the coordinator has a transaction's branch open in a store, and ACTIVE
---     IsWorking        it has that branch open, and ACTIVE
---     IsAsBeforeOrEnded  what is open in a store is as before, or the branch is IDLE
---     KeepsOpen        in the stores that a call didn't speak to, what is open is as before
 use Rattle.std.specs.Prelude.{◌≡◌, ◌≤◌, ◌==◌, ◌&&◌, ◌⊎◌, ℕ, Bool, true, false, List, Option, Some, slice_get}
 use Rattle.xa_xid.specs.declared.xid.Xid.{Xid}
 use Rattle.xa_server.specs.{State.association_of, declared.association.Association.Association}
@@ -52,6 +42,7 @@ works_for number there = false
 
 -- the coordinator has the transaction's branch open in the store, and ACTIVE
 unfoldable pub has_working_branch : List (Option OpenBranch) → ℕ → ℕ → Bool
+-- whether the coordinator has a transaction's branch open in a store, and ACTIVE
 has_working_branch branches store number = works_for number (slice_get branches store)
 
 -- what is open in the store is the transaction's branch, ACTIVE

@@ -1,21 +1,9 @@
 -- What a call over several stores did in them.
---     finish_statement  the statement that finishes a branch
 --     ends_first, ends_in      whether XA END comes before it;  and in a store, by what is open there
---     IsClosed         the branch was finished
---     lists_store      whether a store is in a list
 --     Settles, SettlesIn      a store that finishing has reached
---     IsVoted          a store that preparing has reached
---     IsEnded          the store of the only participant, after its XA END
---     Ascends          the numbers of a list ascend
---     IsHazard         a list of participants, ascending, at least one
---     commits          whether a kind of finishing commits
---     branch_of        the branch of a transaction in a store
---     EndsAs           how the finishing of a transaction ended
 --     asked_by_ending, asked_by_vote      the stores below this number were spoken to
---     VotesAs          what the stores voted
 --     KeepsMark, KeepsUnfinished      what is open in the store that a vote names;  and in the one that an Unfinished
 --                                     names
---     finish_for       how a transaction that was voted on is finished
 use Rattle.std.specs.Prelude.{◌≡◌, ◌<◌, ◌+◌, ℕ, Bool, true, false, nat_eq, List, [], ◌∷◌, length, All, Option, Some}
 use Rattle.std.specs.{Prelude.slice_get, List.list_any}
 use Rattle.xa_xid.specs.declared.{xid.Xid.Xid, statement.Statement.Statement}
@@ -46,6 +34,7 @@ IsClosed true statement xid old new = AddsEach (Statement.End xid ∷ statement 
 
 -- whether the store is in the list
 unfoldable pub lists_store : List ℕ → ℕ → Bool
+-- whether a store is in a list
 lists_store stores store = list_any (nat_eq store) stores
 
 -- a participant's branch was finished, or wasn't known there if the store is listed; another store's session is as it

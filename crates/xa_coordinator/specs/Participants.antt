@@ -1,11 +1,11 @@
 -- Which stores take part in a global transaction.
---     takes_part       whether a store takes part
 --     TwoTakePart, OnlyTakesPart      two stores take part;  only this one does
 use Rattle.std.specs.Prelude.{◌≡◌, ◌<◌, ℕ, Bool, true, false, unwrap_or, slice_get}
 use Rattle.xa_coordinator.specs.declared.participants.Participants.{Participants}
 
 -- whether the store takes part in the transaction
 unfoldable pub takes_part : Participants → ℕ → Bool
+-- whether a store takes part
 takes_part participants store = unwrap_or (slice_get participants.members store) false
 
 -- at least two stores take part

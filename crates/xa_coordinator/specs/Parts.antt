@@ -1,18 +1,7 @@
 -- What the parts of a call did. Only contracts of private functions cite these: no public clause rests on
 -- them.
---     IsOfBranch       a statement that begins, ends, prepares or finishes a branch
---     IsToldAs         what became of a statement, by the answer
---     statement_into   the statement that brings a branch into a phase
---     LeavesOpen       a statement leaves this branch open
---     SaysAs           what became of a statement that was to finish a branch
---     ClosesAs         what became of one branch that was to be finished
---     PreparesAs       what became of one branch that was to be prepared
---     ClosesNext       what became of one participant that was to be finished
 --     PollsAs, asked_by_poll      what became of the participants that were to be prepared;  which were asked
---     IsParticipation  how many take part, as far as a vote has to know
---     WorksWithin      what became of a row statement in an open branch
 --     total, counted   all that was counted;  with one more branch
---     fault_by         the fault of a store, by its cause
 --     added_by, added_at      how many entries a session has added;  the session of a store
 use Rattle.std.specs.Prelude.{◌≡◌, ◌≢◌, ◌+◌, ◌⊎◌, ℕ, Bool, true, false, List, [], ◌∷◌, ◌++◌, length, slice_get, Option}
 use Rattle.std.specs.Prelude.{Some, None, Result, Ok, Err}

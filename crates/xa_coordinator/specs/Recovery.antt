@@ -1,20 +1,9 @@
 -- What a recovery does, in one store and in all.
---     IsDisconnected   a session ended what it had open
---     ListsPrepared    XA RECOVER answered this list
---     IsNamed          a branch is of the coordinator's naming
---     finish_decided   how a branch is finished, by whether its number is decided
 --     SettlesOne, Settled      what became of one listed branch;  of all
 --     IsFinished, IsSettled       what became of a store's prepared branches;  after the session's DISCONNECT
 --     NoneLeft, IsClear        none of the coordinator's naming is prepared;  as XA RECOVER shows
---     IsRecovered      one store was recovered
 --     IsUnsettled, StopsAmong      a listed branch wasn't finished;  those before it were settled
---     IsCutOff         after the session's DISCONNECT a statement of the recovery wasn't carried out
---     IsStillPrepared  a branch of the coordinator's naming is prepared afterwards
 --     BreaksBy, BreaksHere      the recovery of a store failed, and what the coordinator has open there
---     RecoveredBy      a store was recovered, with the tally and the place that a list has for it
---     Recovers         all stores were recovered
---     BreaksOff        the recovery failed
---     asked_by_fault   the stores below this number were spoken to
 use Rattle.std.specs.Prelude.{◌≡◌, ◌≢◌, ◌<◌, ◌≤◌, ◌+◌, ◌^◌, ◌⊎◌, ℕ, Bool, true, false, List, [], ◌∷◌, ◌++◌, length}
 use Rattle.std.specs.{Prelude.{take, map, slice_get, Option, Some, None}, List.sum_by}
 use Rattle.xa_xid.specs.declared.{xid.Xid.Xid, statement.Statement.Statement}

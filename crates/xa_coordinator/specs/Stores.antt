@@ -1,8 +1,4 @@
 -- Facts about the stores of a coordinator, by their numbers, before and after a call.
---     AtStore          a fact of one store
---     EachStore        a fact of each store
---     ChangesAt        lists with one item for each store differ at most at this one
---     EndsAt           a call ended at this store
 use Rattle.std.specs.Prelude.{◌≡◌, ◌≢◌, ◌<◌, ℕ, List, Some, length, slice_get}
 use Rattle.xa_session.specs.View.{SessionView}
 

@@ -1,11 +1,5 @@
 -- What became of a statement that a coordinator gave to the session of one store.
---     IsDone           it was carried out
---     IsRefused        it was answered with a refusal
 --     HasCause, IsUndone      why it wasn't;  and nothing was added
---     IsUndoneBehind   it wasn't, but XA END before it was
---     IsStopped        it wasn't, or XA END before it wasn't
---     IsMissing        the branch wasn't known
---     IsUnfinished     it wasn't, for another cause than that the branch wasn't known, or XA END before it wasn't
 use Rattle.std.specs.Prelude.{◌≡◌, ◌≢◌, ◌⊎◌, ℕ, Bool, true, false, [], ◌∷◌}
 use Rattle.xa_xid.specs.declared.{xid.Xid.Xid, statement.Statement.{Statement, TheVariants.End}}
 use Rattle.xa_server.specs.{declared.{reply.Reply.TheVariants.Refused, xa_error.XaError.XaError}, Step.is_refused}

@@ -1,8 +1,4 @@
 -- What a session of an unbounded store knows of its history, and how a statement is served.
---     known_by         what a session knows, by how much it has seen
---     HasSeenOwn       a session has seen all entries of its own
---     AllEntered       each entry of a history was logged at its place
---     Serves           a statement was answered from the state that the whole history leaves
 use Rattle.std.specs.Prelude.{◌≡◌, ◌≤◌, ◌+◌, ℕ, true, false, List, [], ◌∷◌, ◌++◌, length, take, slice_get, Some}
 use Rattle.xa_words.specs.Entry.{Entry}
 use Rattle.xa_xid.specs.declared.statement.Statement.{Statement}

@@ -1,14 +1,4 @@
 -- What work in a store did.
---     IsRow            a row statement
---     MayBe            one statement, or none
---     AddsAtMost       at most this statement was added
---     AddsWork         at most XA START and a row statement were added
---     MayStart         the branch was open, or was started
---     IsReplied        a row statement was answered within the branch
---     IsWorked         the branch was open or was started, and the row statement was answered
---     IsCut            the branch was open or was started, and the row statement wasn't answered
---     KeepsOthers      the transaction is the same but for one store
---     WorksAs          what work did, by the answer
 use Rattle.std.specs.Prelude.{◌≡◌, ◌≢◌, ◌⊎◌, ℕ, true, false, List, [], ◌∷◌, ◌++◌, Option, Result, Ok, Err}
 use Rattle.xa_xid.specs.declared.{xid.Xid.Xid, statement.Statement.{Statement, TheVariants.{Start, Get, Put, Del}}}
 use Rattle.xa_server.specs.{State.association_of, declared.{association.Association.Association, reply.Reply.Reply}}

@@ -1,16 +1,4 @@
 -- How a call for a statement ends, by what the session's pass knew and knows.
---     HasAnswered      the statement was answered
---     Fails            nothing of the statement was appended; at Overtaken a try was lost
---     TakesMemory      an entry may take memory where it is replayed
---     WantsMemory      the entry that the replica would replay next may take memory
---     LacksMemory      entries are left to replay, for which memory may be missing
---     IsCaused         the cause of a fault
---     Leaves           how far the replica has replayed after a lost try
---     IsLost           entries that the replica hasn't replayed may be overwritten
---     HasFailed        the statement wasn't answered, for the cause of this fault
---     Finds            HasAnswered after Ok, HasFailed after Err
---     Tries            how often an attempt without an answer has tried to append
---     TriesOnce        an attempt has looked, and has tried to append at most once
 use Rattle.std.specs.Prelude.{◌≡◌, ◌<◌, ◌≤◌, ◌+◌, ℕ, true, ◌⊎◌, length, slice_get, Option, Some, None, Result, Ok, Err}
 use Rattle.std.specs.Prelude.{IfErr}
 use Rattle.xa_words.specs.Entry.{Entry}

@@ -1,7 +1,4 @@
 -- What a coordinator adds in one store, in any number of its calls.
---     Course           calls, one after another
---     joined           lists, one after another, as one
---     AgreesThroughout     what was added in all calls agrees with the decisions
 use Rattle.std.specs.{Prelude.{◌≡◌, ℕ, List, [], ◌∷◌, ◌++◌, map, All}, List.AllZip}
 use Rattle.xa_xid.specs.declared.statement.Statement.{Statement}
 use Rattle.decision_log.specs.History.{Begins}

@@ -1,5 +1,4 @@
 -- The numbers of the faults of a session of an endless store.
---     number_of_fault       the number of a fault
 use Rattle.std.specs.Prelude.{ℕ}
 use Rattle.xa_endless.specs.declared.fault.EndlessFault.{EndlessFault, TheVariants.{Overtaken, NoMemory, Behind}}
 

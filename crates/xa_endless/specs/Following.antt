@@ -1,6 +1,4 @@
 -- How a session hands out the history.
---     Loses            so many entries are counted as lost
---     Hands            the next entry, or how many are lost, or the end
 use Rattle.std.specs.Prelude.{◌≡◌, ◌<◌, ◌≤◌, ◌+◌, ◌-◌, ◌/◌, ◌⊎◌, ℕ, length, slice_get, Some}
 use Rattle.chain_log.specs.{declared.ring.RingLog.RingLog, RingPass.known_of}
 use Rattle.xa_endless.specs.declared.{following.Next.Next as NextOf, member.Member.Member}

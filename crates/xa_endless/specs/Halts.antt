@@ -1,5 +1,4 @@
 -- Why not all that is seen could be replayed.
---     IsHalt           no memory for the next entry, or it is lost
 use Rattle.chain_log.specs.{RingPass.known_of, declared.{ring.RingLog.RingLog, ring_pass.RingPass.RingPass}}
 use Rattle.xa_endless.specs.{Answers.{IsLost, WantsMemory}, declared.fault.EndlessFault.EndlessFault}
 use Rattle.xa_endless.specs.declared.replica.Replica.{Replica}

@@ -1,8 +1,4 @@
 -- What a session keeps between its calls, before and after steps that append nothing.
---     Keeps            more may be seen and replayed, and as much of the history is handed out
---     Hears            more may be seen
---     Tends            no more is seen
---     Serves           a replica that the session can go on from
 use Rattle.std.specs.Prelude.{◌≡◌, ◌<◌, ◌≤◌}
 use Rattle.decision_log.specs.Calls.{MeetsFirst}
 use Rattle.chain_log.specs.RingPass.{known_of}

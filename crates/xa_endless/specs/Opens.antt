@@ -1,6 +1,4 @@
 -- How a store opens.
---     checkpoints_of   how many checkpoints a store of so many sessions has
---     Opens            a store of so many rows and sessions
 use Rattle.std.specs.Prelude.{◌≡◌, ℕ, length, min, nat_le, if◌then◌else◌}
 use Rattle.xa_endless.specs.declared.store.EndlessStore.{EndlessStore}
 

@@ -1,8 +1,4 @@
 -- A replica, and what a pass has seen.
---     kept_of          the replica as a session's contracts see one
---     Stands           it stands for the state after a prefix
---     ReplaysOne       it has replayed the next entry, or is as before
---     CatchesUp        it has replayed all that is seen, or some entries are left
 use Rattle.std.specs.Prelude.{◌≡◌, ◌<◌, ◌≤◌, ◌+◌, List, length, Result, Ok, Err}
 use Rattle.xa_words.specs.Entry.{Entry}
 use Rattle.decision_log.specs.declared.known.Known.{Known}

@@ -1,6 +1,4 @@
 -- A session or a checkpoint that nobody has.
---     IsAtRest         the member, with its pass at rest
---     IsLeft           the checkpoint, with its spare at rest
 use Rattle.std.specs.Prelude.{◌≡◌}
 use Rattle.chain_log.specs.{RingPass.{log_of, known_of}, RingSpare.{spare_log_of, spare_known_of}}
 use Rattle.chain_log.specs.Resting.{resting_log_of, resting_known_of, resting_spare_log_of, resting_spare_known_of}

@@ -1,5 +1,4 @@
 -- What a pass knows after steps that append nothing.
---     HasOnlySeen      more may be seen, and nothing was tried
 use Rattle.std.specs.Prelude.{◌≡◌, ◌≤◌}
 use Rattle.decision_log.specs.{History.Begins, declared.known.Known.Known}
 

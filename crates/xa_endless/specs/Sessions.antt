@@ -1,10 +1,4 @@
 -- A session as a coordinator uses it.
---     view_of          the session, over its store's one history
---     keeps-law        a store begins in a state that keeps the lock law
---     MayFail          the causes of a fault of `execute`
---     MayFailOnce      the causes of a fault of `attempt`
---     SpeaksOnce       what `attempt` does
---     SpeaksOn         what `execute` does
 use Rattle.std.specs.Prelude.{true, false, [], ◌⊎◌, None, Result, IfOk, IfErr, OnErr}
 use Rattle.xa_xid.specs.declared.statement.Statement.{Statement}
 use Rattle.chain_log.specs.RingPass.{log_of, known_of}

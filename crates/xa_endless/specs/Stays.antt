@@ -1,5 +1,4 @@
 -- What every call keeps of a session.
---     Stays            it is of its store, and has replayed no fewer entries
 use Rattle.std.specs.Prelude.{◌≡◌, ◌≤◌}
 use Rattle.xa_endless.specs.declared.session.EndlessSession.{EndlessSession}
 

@@ -1,5 +1,4 @@
 -- Why a session can't be taken.
---     IsRefused        what each fault says of the number that was asked for
 use Rattle.std.specs.Prelude.{◌≤◌, ℕ, length}
 use Rattle.xa_endless.specs.declared.{store.EndlessStore.EndlessStore, taking.TakeFault.TakeFault}
 

@@ -1,10 +1,8 @@
 -- One event more.
---     advance_now                an event before which acts can wait
 --     AreAnswersIn, reached_of   the answers of a session in a list;  what a list has is reached
 --     AreLate, advance_return    a return, before which acts come as late as they can
 --     counts_closed, advance_closed   another event, before which the list is closed
 --     widens_call, NoneUnheard   an open call that nobody hears may come before a call;  there is none
---     advance_call               a call where there is none
 use Rattle.std.proofs.Common.{◌≡◌, ℕ, false, Some, None, List, [], ◌∷◌, ◌++◌, length, slice_get, refl, ap, sym, ◌∙◌}
 use Rattle.std.{proofs.{Common.{subst, inl, inr, arith}, lemmas.Option.none-some}, specs.List.{All, Contains}}
 use Rattle.xa_server.specs.State.{State}

@@ -1,9 +1,4 @@
 -- Sessions that have no branch.
---     OwnsNone        a session owns no branch
---     others_none     another session's request gives it none
---     ended_none      it owns none once a request is accepted that ends or detaches its branch
---     law_none        in a state without branches the lock law holds
---     same_test       a number is equal to itself by the test
 use Rattle.std.proofs.Common.{◌≡◌, ◌≢◌, ◌==◌, arith, ℕ, Bool, true, false, Option, Some, None, ap, sym, ◌∙◌, inl, inr}
 use Rattle.std.{proofs.lemmas.Bool.{false≢true, Decides.nat_tests}, specs.Prelude.{is_some, cond}}
 use Rattle.std.specs.Option.{option_map, option_map_or, option_and_then}

@@ -1,9 +1,6 @@
 -- A step of a session's branch that no other session has to do with until it returns may take effect at once.
---     exchanged                            an act of another session may come after the step
 --     seen_later, event_aside              an event of another session may, too;  what is open after it is still aside
 --     returns_past, returns_here           what a call returns, by the next event
---     shown_there                          an answered call has the answer that its return shows
---     goes_first                           the step may come first of all moves
 --     steps_first, steps_none              in what is kept the step is taken;  or that stays as it is
 --     goes_stepped, goes_same, goes_past   orders go on from a list after steps;  after none;  over two lists
 --     StepsBoth, steps_more, steps_end     a loop in which each of a list takes its step

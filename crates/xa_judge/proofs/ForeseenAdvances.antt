@@ -1,10 +1,7 @@
 -- One event more, where later returns are known.
---     advance_closed               past an event, from a list that acts have closed for it
 --     advance_open, needs_none     past a call or a loss before which no act is needed;  which calls these are
 --     answers_end, all_after       each answer that a session can have after all events is kept
---     noted_goes_on                a place is noted at which a call ends, where none was
 --     goes_first, goes_last        before all events;  after all events
---     goes_shortened               common first moves are taken out
 use Rattle.std.proofs.Common.{◌≡◌, ℕ, false, Option, Some, None, List, [], ◌∷◌, ◌++◌, set, length, take, refl, ap}
 use Rattle.std.proofs.{Common.{subst, sym, ◌∙◌, inl, inr, arith, append-nil}, lemmas.Bool.false≢true}
 use Rattle.std.proofs.lemmas.{Option.{none-some, slice_get-map}, List.{take_all, length-set}}

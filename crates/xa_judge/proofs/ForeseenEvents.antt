@@ -1,8 +1,4 @@
 -- What is kept where later returns are known sees what an order sees.
---     saw                      an event changes its own client alone
---     same_client              one client is replaced by the same one in the order and in what is kept
---     idle_shut                an idle client has nothing open
---     alike_sees               an event that an order sees, what is kept of it sees
 --     dead_acts, dead_sees     an order that can't go on past a return still can't after an act;  after an event
 use Rattle.std.proofs.Common.{◌≡◌, ◌≢◌, ℕ, true, false, cond, Option, Some, None, List, set, refl, ap, sym, ◌∙◌, subst}
 use Rattle.std.proofs.{Common.{inl, inr, ◌<◌, ◌⊎◌}, lemmas.Option.{none-some, same_Some, cond_some, slice_get_within}}

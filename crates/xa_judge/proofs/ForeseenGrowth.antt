@@ -1,6 +1,5 @@
 -- Lists of configurations, as they grow.
 --     extends_none, extends_more, still_at, still_has     a list has more at its end
---     adds_one                                            a configuration is added
 --     next_added, both_added                              what an act leads to is added;  what a session's two do
 --     expanded_more, closed_more, closed_all              loops over sessions and places;  after them a list is closed
 --     seen_added, unseen                                  what an event leads to is added;  or it can't be seen

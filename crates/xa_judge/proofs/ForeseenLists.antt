@@ -1,9 +1,5 @@
 -- Lists of what is kept where later returns are known.
---     left_past                           an order that can't go on past a return can't after an event either
---     seen_from                           an event that an order sees is seen in what is kept
 --     goes_closed, unheard_alike          past an event, from a closed list;  an open call that nobody hears
---     goes_called                         past an event for which acts can wait, from any list
---     answer_kept                         the client of a session, if nothing is known of how its call ends
 --     hints_set, unknown_at, noted_at     what is known of open calls, by their places
 use Rattle.std.proofs.Common.{◌≡◌, ℕ, false, Option, Some, None, List, [], ◌∷◌, set, map, zero, suc, refl, ap, sym, ◌∙◌}
 use Rattle.std.proofs.{Common.{inl, inr}, lemmas.{Bool.false≢true, Option.{none-some, slice_get-map}}}

@@ -1,7 +1,4 @@
 -- Past a return: no act has to come before it in what is kept once its session is answered there.
---     returned_early     the quiet call of an order that is still open may be left out: its return is seen at once
---     goes_returned      past a return, from a list that is closed where the session isn't answered
---     ends_answered      the answers that a session can have after all events
 use Rattle.std.proofs.Common.{◌≡◌, ◌≢◌, ◌⊎◌, ℕ, Bool, true, false, cond, Option, Some, None, List, [], ◌∷◌, set, refl}
 use Rattle.std.proofs.{Common.{ap, sym, ◌∙◌, subst, inl, inr}, lemmas.Option.{none-some, same_Some, cond_some}}
 use Rattle.std.{proofs.lemmas.{Bool.false≢true, List.set-set}, specs.Prelude.slice_get}

@@ -1,12 +1,8 @@
 -- What is kept where later returns are known follows the moves of an order.
 --     quiet_keeps, still_quiet_for     a quiet request changes nothing;  and stays quiet after other sessions' acts
 --     Keeps, act_keeps                 an act keeps the lock law, and what other sessions have open
---     both_act                         the same act in the order and in what is kept
---     answered_rests                   an answered call doesn't act
 --     Foresees, alike_acts             an act of a session
 --     alike_settles, settles_one       a call takes effect at once in what is kept
---     told_none                        a session whose XA END is refused since it has no branch
---     alike_first                      before all events
 use Rattle.std.proofs.Common.{◌≡◌, ◌≢◌, ◌⊎◌, ◌||◌, ℕ, Bool, true, false, Option, Some, None, List, set, refl, ap, sym}
 use Rattle.std.proofs.Common.{◌∙◌, subst, inl, inr, zero, suc, length, replicate}
 use Rattle.std.{proofs.lemmas.{Option.{none-some, same_Some}, Bool.false≢true}, specs.Prelude.slice_get}

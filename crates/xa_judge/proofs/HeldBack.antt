@@ -1,6 +1,4 @@
 -- Requests of other sessions that aren't answered as they return before a step of a branch.
---     held_list     a list that has the branch that is prepared, or hasn't the one that is committed
---     held_end      the end of the branch that is prepared
 use Rattle.std.proofs.Common.{◌≡◌, ◌≢◌, ◌&&◌, ℕ, Bool, true, false, not, Some, List, [], ◌∷◌, Vec, Global, refl, ap}
 use Rattle.std.proofs.{Common.{sym, ◌∙◌, subst, inl, inr}, lemmas.{Bool.false≢true, Option.none-some}}
 use Rattle.std.specs.{Prelude.◌||◌, Option.option_map_or, List.list_any}

@@ -7,8 +7,6 @@
 --     IsFreeClient, IsOtherClient  a client may be one of the chosen part;  of the other one
 --     IsCallOf, IsRested           a turn suits what was called for;  a session is idle in the chosen part
 --     AreClients, AreParts         the clients of the whole, by those of its parts;  the configurations
---     is_rest                      by its turn, a session's call is in the other part, or it may have a branch
---     AreEnded                     a session whose call to end its branch was accepted owns none
 --     ChosenTogether, RestTogether  the whole and one part belong together, beside the other one
 --     chosen_acts, rest_acts       an act in one part is one in the whole, and the other way round
 --     chosen_seen, rest_seen       so is an event of one part

@@ -3,8 +3,6 @@
 --     same_side, other_side                    two truth values are the same by a test;  or differ
 --     picked_in, picked_out                    an event is picked;  or isn't
 --     picked_next, picked_past, picked_end     the events of one part, while they are picked
---     count_next                               how many there are, while they are counted
---     one_at_most                              if the least of two numbers is at most a third one, so is one of them
 use Rattle.std.proofs.Common.{◌≡◌, ◌≢◌, ◌⊎◌, ℕ, ◌+◌, ◌<◌, ◌≤◌, zero, suc, Bool, true, false, Some, List, [], ◌∷◌, ◌++◌}
 use Rattle.std.proofs.Common.{length, take, drop, get_or, refl, ap, sym, ◌∙◌, subst, inl, inr, arith, append_assoc}
 use Rattle.std.proofs.{Common.{append-nil, min}, lemmas.{Bool.false≢true, Option.{none-some, same_Some}}}

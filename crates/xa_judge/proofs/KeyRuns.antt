@@ -1,6 +1,5 @@
 -- Moves through a record, and through its two parts.
 --     first_then, split         acts before the next event
---     clients_at                a session's clients in the whole and in the parts, by its turn
 --     IsInParts, in_parts       moves through the whole lead through each part as well
 --     IsWhole, whole_of         moves through both parts lead through the whole
 use Rattle.std.proofs.Common.{◌≡◌, ℕ, Bool, true, false, Option, Some, None, List, [], ◌∷◌, ◌++◌, refl, sym, subst}

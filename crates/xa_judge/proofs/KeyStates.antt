@@ -1,8 +1,5 @@
 -- The states of a record's two parts, and of the whole record: what a request of one part does to them.
---     apart_after                      a request of the other part leaves every branch apart from the chosen rows
 --     free_of, unheld                  then sessions without a branch have nothing open;  nobody holds a chosen row
---     rows_after                       a request of the other part leaves the values of the chosen rows
---     AreJoined                        the state of the whole record, by those of its parts
 --     free_get, free_put, free_del     what a free session reads and writes
 --     free_join, other_join            a request of one part is answered there as in the whole;  states stay joined
 --     none_apart, none_listed          a state without branches

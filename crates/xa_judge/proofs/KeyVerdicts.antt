@@ -1,14 +1,8 @@
 -- Verdicts on a record, by those on its parts.
---     parts_first                         before all events
 --     within_of                           what stands somewhere stands within the list
 --     cut_take, cut_at                    the first events are cut likewise;  and each event fits where it stands
 --     picked_take, picked_at              the events of a part among the first ones;  and the event at a place
---     count_more                          how many events a part has up to a place
 --     whole_explained, part_explained     what is explained in both parts is explained;  and the other way round
---     refuted_part                        what is refuted in a part is in the whole, if the other is explained so far
---     answers_part                        and the answers are the same
---     part_of                             the configuration of one part
---     explained_take                      what is explained is explained up to each of its events
 --     illegal_part, legal_before          the verdict on a record by one part's;  what is explained in a legal part
 use Rattle.std.proofs.Common.{◌≡◌, ℕ, ◌+◌, ◌<◌, ◌≤◌, zero, suc, Bool, true, false, Some, List, [], ◌∷◌, Vec, Global}
 use Rattle.std.proofs.Common.{length, take, refl, ap, sym, ◌∙◌, subst, arith, replicate, slice_index_or}

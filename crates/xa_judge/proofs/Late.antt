@@ -1,10 +1,8 @@
 -- What is kept is no more than what acts lead to that take effect as late as they can.
 --     adds_none, adds_more, adds_effect     what an act adds to a list
---     reached_more     acts lead to all that is in a list while it grows
 --     unheard_at, heard_more      an open call of a session whose client is gone, in some of a list;  in none
 --     SettledOnly, SeenOnly, settled_none  what is left of a list, and what was made;  before the first step
 --     settled_only, seen_only     what was made of a list comes of it
---     counted_of_more             what counts if some are kept counts if more are
 --     opens_kept, kept_on      all of a list may be kept before all events;  after one event more
 use Rattle.std.proofs.Common.{◌≡◌, ◌≢◌, ◌⊎◌, ℕ, ◌+◌, ◌<◌, suc, Option, Some, List, [], ◌∷◌, ◌++◌, length, get_or, true}
 use Rattle.std.{proofs.Common.{false, refl, ap, sym, ◌∙◌, subst, inl, inr, arith}, specs.Option.option_map}

@@ -1,11 +1,8 @@
 -- A state that events lead to, with all sessions idle: one call more, and what is refuted behind the events.
---     leads_append                      moves through some events, and then moves through more
 --     alone_leads, alone_only           a call that returns its answer at once, where all are idle, leads to the
 --                                       state after it, and nowhere else
---     loaded_more                       from a state to which events lead one such call goes on
 --     refuted_behind, answers_behind    what is refuted from the state is refuted behind the events, with the same
 --                                       answers
---     none_left                         a list of length 0 is empty
 use Rattle.std.proofs.Common.{◌≡◌, ◌≢◌, ◌==◌, ℕ, ◌+◌, ◌<◌, zero, suc, true, cond, Some, None, List, [], ◌∷◌, ◌++◌}
 use Rattle.std.proofs.Common.{length, set, take, get_or, refl, ap, sym, ◌∙◌, subst, inl, inr, arith, append_assoc}
 use Rattle.std.proofs.{Common.length-append, lemmas.{Grind.common_steps, Option.{none-some, same_Some, cond_some}}}

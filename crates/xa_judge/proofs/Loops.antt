@@ -4,7 +4,6 @@
 --     has_pushed, has_last              a list with one more at its end
 --     settles_step, settles_reach       in each, what a session called for takes effect;  so all are reached
 --     sees_step, sees_reach             each sees an event;  so all are reached, with one event more
---     HasAnswersBefore                  a list has each answer that a session has before a place
 --     answers_step, answers_more        the answers that a session has in them;  no other ones, and all of them
 --     effect_added, effects_added       what one act leads to is added;  what both acts of a session lead to
 --     others_more, closed_more          what acts of sessions up to one lead to is there;  from each place up to one

@@ -1,9 +1,5 @@
 -- Moves that lead on from a configuration lead on from one on a near state, and to near ones.
---     WaitsNamed                  a session's open request reads only named rows
---     AreNearConfigs              configurations with the same clients, on near states
 --     near_effect, near_event     where an effect, an event can be in one it can be in the other
---     near_run                    where moves lead on from one they lead on from the other
---     near_opening                before all events, configurations on near states are near
 use Rattle.std.proofs.Common.{◌≡◌, ℕ, Bool, cond, Option, Some, None, List, [], ◌∷◌, replicate, set, zero, suc, refl}
 use Rattle.std.proofs.{Common.{ap, sym, ◌∙◌, subst, inl, inr}, lemmas.Option.{none-some, same_Some, cond_some}}
 use Rattle.std.{proofs.lemmas.List.Elements.recursion_from_All, specs.{Prelude.slice_get, List.{All, AllByRecursion}}}

@@ -1,9 +1,7 @@
 -- Servers that differ in rows that aren't named answer alike, and stay so.
---     near_answer               a request that reads only named rows is answered alike
 --     near_next, near_after     a request, a statement leaves near states near
 --     near_put, near_del        so does a free session's write of a row that isn't named, on the left alone
 --     near_refl, near_sym       a state is near itself;  and near states are so in either order
---     free_told                 a session that has nothing open, by the refusal of its XA END
 use Rattle.std.proofs.Common.{◌≡◌, ℕ, List, [], ◌∷◌, refl, ap, sym, ◌∙◌, subst, Bool, true, false, inl, inr}
 use Rattle.std.specs.{Prelude.{Option, Some, None, cond}, Option.{option_map_or, unwrap_or}, Ordering.eq_by_cmp}
 use Rattle.std.specs.FinMap.{get-insert, get-remove}

@@ -1,6 +1,5 @@
 -- Verdicts from near servers.
 --     refuted_near, answers_near     what is refuted on one is refuted on the other;  with the same answers
---     illegal_behind                 what is illegal on a near server is so behind events that lead to the other
 use Rattle.std.proofs.Common.{◌≡◌, ℕ, ◌+◌, Bool, Some, List, ◌++◌, Vec, Global, length, sym, take, slice_get}
 use Rattle.std.{proofs.{Common.{slice_index_or, subst}, lemmas.List.Elements.All-take}, specs.List.All}
 use Rattle.xa_server.specs.State.{State}

@@ -3,7 +3,6 @@
 --     started_step, ended_step, prepared_step     XA START, XA END and XA PREPARE
 --     row_step, finished_step                     a statement on a row;  one that ends a branch
 --     has_active, has_row                         what is so of the session's branch, by the replies to XA END and DEL
---     among_at                                    a row that is among some rows stands at a place of them
 --     asked_is, asked_not                         what a call is for, by the event at its noted place
 use Rattle.std.proofs.Common.{◌≡◌, ◌||◌, Bool, true, false, not, Option, Some, None, List, [], ◌∷◌, ℕ, refl, ap, sym}
 use Rattle.std.proofs.{Common.{◌∙◌, subst, inl, inr, zero, suc}, lemmas.Bool.false≢true}

@@ -1,5 +1,4 @@
 -- Moves as codes, in blocks.
---     moves_push                                one code more at the end is one move more at the end
 --     moves_folded, moves_split, moves_more     the codes behind as one block more;  moves in two parts
 use Rattle.std.proofs.Common.{◌≡◌, ℕ, List, [], ◌∷◌, ◌++◌, map, ap, sym, ◌∙◌, append_assoc, append-nil}
 use Rattle.std.{proofs.lemmas.List.{map-append, Folds.concat-append}, specs.List.concat}

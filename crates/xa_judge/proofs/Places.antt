@@ -1,5 +1,4 @@
 -- Places of a list, also after a write.
---     same_number                           two numbers are the same or not
 --     stands_at, get_within, get_front      what stands at a place
 --     get_written, get_apart, set_apart     after a write
 --     map_append, length_map                a mapped list

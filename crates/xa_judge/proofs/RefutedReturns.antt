@@ -1,6 +1,4 @@
 -- The verdict at a return that shows none of the answers that its call can have.
---     last_answered        before the last event, a return, its session had an answer that it shows
---     illegal_return       a return is refuted if it shows none of the answers that its call can have
 --     all_more, all_end    loops over answers
 use Rattle.std.proofs.Common.{◌≡◌, ℕ, ◌+◌, ◌<◌, true, false, Option, Some, None, List, [], ◌∷◌, ◌++◌, length, take}
 use Rattle.std.proofs.{Common.{refl, ap, sym, ◌∙◌, subst, get_or, ◌≤◌}, lemmas.Bool.false≢true}

@@ -1,5 +1,4 @@
 -- A return, and what comes before it.
---     dead                           if a session can't be answered, the next event isn't its return
 --     Settled, settles               where a list is closed, a return is seen from one of it, once what its session
 --                                    called for has taken effect
 --     AnsweredSo, answers_settle     in a closed list, each answer that acts lead to is that of a settled one

@@ -1,6 +1,4 @@
 -- Configurations that are counted by their numbers.
---     Chosen           as many of a list as were counted, no two of them the same
---     chosen_none      before the first configuration
 --     chosen_same, chosen_new      after one whose number was in the set already;  or wasn't
 use Rattle.std.proofs.Common.{◌≡◌, ◌≢◌, ℕ, ◌+◌, ◌<◌, Bool, true, false, not, cond, List, [], ◌∷◌, length, get_or, refl}
 use Rattle.std.proofs.{Common.{ap, sym, ◌∙◌, subst, arith}, lemmas.{Bool.false≢true, Option.slice_get_read}}

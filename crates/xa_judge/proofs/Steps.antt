@@ -1,7 +1,5 @@
 -- One move more, on the way through events.
 --     effect_leads, event_leads     moves that lead on by an effect, an event lead on from the configuration after it
---     drop_got                      what stands at a place, and then the rest
---     none_leads                    with no move left, an event that is left is never seen
 --     some_leads, leads_some        walking the moves finds a configuration if and only if they lead to one
 use Rattle.std.proofs.Common.{◌≡◌, ℕ, ◌+◌, ◌↔◌, zero, suc, true, Option, Some, None, IfSome, List, [], ◌∷◌, drop}
 use Rattle.std.proofs.{Common.{slice_get, refl, ap, sym, ◌∙◌, subst, add-one}, lemmas.Bool.false≢true}

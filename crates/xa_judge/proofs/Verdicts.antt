@@ -1,11 +1,8 @@
 -- What a verdict rests on.
 --     complete_more, reach_more               a list has all that is explained, with one event more;  and no more
---     explained_by                            what leads to a configuration of a list is explained
 --     legal, refuted, wide                    LEGAL, ILLEGAL, UNDECIDED is right
---     answers_given                           the answers of ILLEGAL are all that some order gives
 --     opens_reached, opens_complete           before the first event
 --     continues_shortened, some_shortened     common first moves are taken out
---     shortened                               the path of an only configuration is
 use Rattle.std.proofs.Common.{◌≡◌, ℕ, ◌+◌, ◌<◌, Some, List, slice_get, [], ◌∷◌, ◌++◌, length, take, drop, get_or, ap}
 use Rattle.std.proofs.{Common.{sym, ◌∙◌, subst, arith, append_assoc, append-nil}, lemmas.Option.same_Some}
 use Rattle.std.proofs.lemmas.List.{take_more, take-append-drop, take_all, Elements.{All-cons, All-nil, All-head}}

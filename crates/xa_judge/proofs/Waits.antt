@@ -1,9 +1,7 @@
 -- LeadsThrough: one more move at the end, and acts that can wait until an event is seen.
 --     runs_effect, runs_event                   one more move at the end
---     may_answer                                a session's call was or may be answered
 --     Acted, Saw                                an act changes only the state and its client;  an event only its client
 --     acted, saw_call, saw_return, saw_lost     each act does so;  a call, a return and a loss do
---     effect_called                             the statement of a session that has called takes effect
 --     CanWait, First, later                     where acts can wait, the event is seen first
 --     answered_apart, return_answered           who has an answer doesn't act;  who returns had one
 use Rattle.std.proofs.Common.{◌≡◌, ◌≢◌, ℕ, Bool, true, false, cond, Option, Some, None, List, [], ◌∷◌, ◌++◌, set, refl}

@@ -1,10 +1,5 @@
 -- What one more event leads to.
---     Continues        some moves lead on from a configuration of a list through more events
 --     IsCallOf, IsReturnOf, IsNoReturn     an event is a call of a session;  a return to it;  no return at all
---     IsSeenFrom       what the event leaves of configurations in which it can be seen at once
---     AreAnswersTo     the answers that a session can have after acts from a list
---     AreAnswers       the answers that a return's session can have before it
---     IsAdvance        what the event leaves of configurations
 use Rattle.std.specs.{Prelude.{◌≡◌, ℕ, ◌<◌, List, [], ◌∷◌, Some, vec_len, slice_get}, List.{All, Contains}}
 use Rattle.xa_server.specs.State.{State}
 use Rattle.xa_judge.specs.declared.{client_state.ClientState.ClientState, answer.Answer.Answer, event.Event.Event}

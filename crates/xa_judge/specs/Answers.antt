@@ -1,5 +1,4 @@
 -- Answers as configurations keep them.
---     answer_kept     the answer for which a kept one stands
 use Rattle.xa_server.specs.declared.reply.Reply.{Reply}
 use Rattle.xa_judge.specs.declared.{answer.Answer.Answer, kept_answer.KeptAnswer.KeptAnswer}
 

@@ -3,16 +3,10 @@
 --     Avoids, IsBeside                a statement doesn't name a branch;  a session hasn't it open
 --     IsEnding, IsUnlisted            it is to end the branch;  it leaves the list of PREPARED branches as it is
 --     IsAmong, HasRow, MayEnd         a row is one of some;  a session has a row in its branch;  may end a branch
---     IsOwnStep                       an accepted statement changes only its branch, and values only of given rows
 --     IsClearOf, IsClearRequest       another statement has nothing to do with it;  another request
---     IsHeldBack                      another request isn't answered before it what a return shows
 --     IsListedAfter, EndsPrepared     a list shows that the step was taken;  another statement ends what it prepares
 --     returns_in, ComesAfter          what a session's call returns;  it isn't so answered before the step
---     IsAside                         a request is clear of it, or held back, by what the request's call returns
 --     AreOpenAside, AreCallsAside     what is open is aside;  what is called for until the step's call returns
---     AreNotedAside                   what is noted of open calls is aside
---     IsSteppedFor                    where moves lead on, some do with the step taken, to the same answers
---     IsReadyStep                     a session has called for its step
 -- Every rule here is the project's own: crates/xa_judge/README.md.
 use Rattle.std.specs.Prelude.{◌≡◌, ◌≢◌, ◌⊎◌, ◌==◌, ℕ, Bool, true, false, cond, Option, Some, None, List, [], ◌∷◌}
 use Rattle.std.specs.{Prelude.slice_get, List.list_any, Ordering.eq_by_cmp}

@@ -2,15 +2,9 @@
 -- Every rule here is the project's own: docs/HISTORIES.md#what-explains-a-record.
 --     answer_to, next_state      what a request is answered, and the state after it
 --     Config, opening_config     a state of the server, and how far each session is;  before all events
---     effect_of                  an act of a session takes effect: its request (carried_out), or its DISCONNECT
---                                (disconnected)
 --     same_text, same_values, same_rows     two texts, values or lists of identifiers are the same
---     stands_for                 a refusal that was seen stands for one of this number
---     shows_answer               a return shows this answer
 --     observed                   an event is seen: a call (called), a return (returned), a client gone (lost), or an
 --                                unknown answer (answered_unknown)
---     LeadsThrough               moves lead through all of the events
---     Explained                  some moves do, from opening_config on
 use Rattle.std.specs.Prelude.{◌≡◌, ℕ, ◌≤◌, Bool, true, false, cond, ◌&&◌, ◌||◌, ◌==◌, Option, Some, None, List, [], ◌∷◌}
 use Rattle.std.specs.{Prelude.{slice_get, slice_set, replicate, nat_eq}, List.list_any, Cmp.Lexicographic.pointwise}
 use Rattle.xa_xid.specs.{declared.{xid.Xid.Xid, statement.Statement.TheVariants.Disconnect}, Xid.{Text, same_xid}}
@@ -62,6 +56,7 @@ disconnected other config session = None
 
 -- the configuration after an act of a session takes effect, if it can
 unfoldable pub effect_of : Config → ℕ → Act → Option Config
+-- an act of a session takes effect: its request (carried_out), or its DISCONNECT (disconnected)
 effect_of config session Act.Statement = carried_out (slice_get config.clients session) config session
 effect_of config session Act.Disconnect = disconnected (slice_get config.clients session) config session
 

@@ -1,6 +1,4 @@
 -- Whether moves lead through events.
---     LeadsOn          there is a configuration so far, and moves lead on from it through the events not seen yet
---     Leads            moves lead through the events
 use Rattle.std.specs.Prelude.{Option, Some, None, List, drop}
 use Rattle.xa_server.specs.State.{State}
 use Rattle.xa_judge.specs.declared.{event.Event.Event, moves.Move.Move, following.Following.Following}

@@ -3,28 +3,16 @@
 -- never change the state while it does, it takes effect at once.
 -- Every rule here is the project's own: crates/xa_judge/README.md.
 --     Hint, fact_of        what is known of an open call
---     hint_of              what the session's open call returns, if that is known
 --     IsOpenFor, AreAsked  a session has an open request, not answered yet;  the hints name these requests
 --     IsQuiet, IsQuietFor  the request changes nothing;  nor does it whenever the return shows its answer
 --     IsAheadAt, IsBehindAt, IsAlikeAt   how far a session is, in an order, and in what is kept
---     is_still             a request changes nothing as things are: it only reads (is_reading), or is refused (refuses)
---     AreAlike             what is kept stands for a configuration of an order
---     IsDead               a call was answered otherwise than it returns
 --     CanSettle, IsAllowed   a call can take effect at once;  an act isn't known to be of no use
---     FitsHints            an event fits what is known
---     ReplacesFor          one configuration is as good as another one
 --     IsFollowed, IsLeft   moves lead on to the end from what is kept;  from what can't go on past a return
 --     GoesOn, GoesOnLike   one or the other;  to an end with the same answers (IsLike)
---     KeepsEnds            moves lead on from a second list, where they do from a first
 --     IsClosedFor, HasSeenFor   a list has what acts lead to;  what an event leads to
 --     seen_in .. asked_by  what the event at a place tells of a call
 --     hint_in, hints_of    what is known of an open call, of all of them, by the places of calls and returns
---     NotesCall            what an event calls for is noted
---     ExtendsBy            a list has more at its end
 --     HasNextFor, IsExpandedFor, AreClosedFor   a list has what acts of one session, of some, of all lead to
---     returning_in         the session to which an event returns
---     IsAdvanceFor         orders go on past an event, from one list in another
---     NeedsNone            no act has to come before an event
 use Rattle.std.specs.Prelude.{◌≡◌, length, ◌⊎◌, ◌||◌, ℕ, Bool, true, false, Option, Some, None, List, ◌<◌, ◌∷◌, ◌++◌}
 use Rattle.std.specs.{Prelude.{slice_get, map}, Option.unwrap_or}
 use Rattle.xa_xid.specs.declared.statement.Statement.TheVariants.{Get, Recover, Disconnect}

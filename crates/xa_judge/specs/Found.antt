@@ -1,18 +1,9 @@
 -- The configurations that a judge keeps.
 --     config_of, configs    a configuration as the definitions see it;  all of a list
---     moved_to         a configuration with this state and these clients, of which one is replaced
---     Reaches          the trunk and a configuration's path lead to it
---     Has              a list has this configuration
---     IsSpread         a list has more different configurations than a limit
 --     KeepsReach, ReachesPast    a list is reached if another one is;  by one event more
---     IsSettledFrom    a configuration is as it was, or after its session's statement
 --     AddsUnlessThere, IsSeenAdded     a list may have one more;  one to which an event leads
---     IsEffectAt       an act leads to a configuration from the one at a place of a list
 --     IsAnswerAdded, IsAnsweredIn      a client's answer is added;  a session has an answer in one of a list
---     IsOpening        a list has only the configuration before all events
 --     IsPathOf, IsShortened      the moves to the first of a list;  a longer trunk leads to the same ones
---     Grows            a list has more at its end, which is reached if the list is
---     AddsOnly         nothing is added but what an act that counts (Late.antt) leads to from a configuration
 --     IsSettledIn, IsSeenIn    it comes of one of a list, by what a session called for;  by an event
 --     IsExpandedBelow, IsClosedBelow      the list has what acts that count lead to
 use Rattle.std.specs.Prelude.{◌≡◌, ◌≢◌, ◌⊎◌, ℕ, ◌<◌, false, Option, Some, None, List, [], ◌∷◌, ◌++◌, length, map}
@@ -37,6 +28,7 @@ configs list = map config_of list
 
 -- the trunk, and then the configuration's own path, lead through the events to the configuration
 unfoldable pub Reaches : State → List Event → List Move → Configuration → Type 0
+-- the trunk and a configuration's path lead to it
 Reaches base events trunk one = LeadsThrough (opening_config base) events (trunk ++ one.path) (config_of one)
 
 -- the list has this configuration

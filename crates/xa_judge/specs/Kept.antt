@@ -1,7 +1,4 @@
 -- Servers that are kept as the requests that they carried out.
---     state_after     the state after a request that was carried out
---     state_since     the state after a list of such requests
---     state_past      the state after blocks of such requests
 use Rattle.std.specs.Prelude.{List, fold}
 use Rattle.xa_server.specs.State.{State}
 use Rattle.xa_judge.specs.{declared.done.Done.Done, Explained.next_state}

@@ -3,20 +3,11 @@
 -- with what they returned. The other part is the rest. Nothing in the rest touches the chosen rows.
 --     IsFreeRequest, IsOtherRequest      a request may stand in the one part;  in the other
 --     IsOnRows, IsOffRows  a request is on a chosen row;  on none of them
---     session_of           whose event it is
 --     has_none, free_in    a session has no branch, by its turn;  the sessions that have none
 --     is_start, is_ending  a request may start a branch;  leaves its session without one
 --     turn_called, turn_returned, turn_unknown     a session's turn after its call;  after its end
 --     turn_after, turns_past      a session's turn after an event;  all turns
---     is_chosen            a session's open call stands in the chosen part
 --     FitsRow, FitsTurn    a statement on a row, an event may stand in this part
---     first_turns          all turns before all events
---     IsCut                each event may stand in its part
---     turns_after          all turns after the events
---     picked               the events of one part, in their order
---     count_in             how many events stand in one part
---     IsApart              no branch has anything of the chosen rows, or is owned by a session that is `free`
---     HasNoBranch          there is no branch
 use Rattle.std.specs.Prelude.{◌≡◌, ℕ, suc, Bool, true, false, Some, List, [], ◌∷◌, slice_get, slice_set, replicate, ◌≢◌}
 use Rattle.std.specs.{Prelude.{Option, None, cond}, Option.{unwrap_or, option_map_or}}
 use Rattle.xa_xid.specs.declared.{xid.Xid.Xid, statement.Statement.Statement}
@@ -155,6 +146,7 @@ turns_past turns side event =
 
 -- the turns before all events: no session has an open call or a branch
 unfoldable pub first_turns : List Turn
+-- all turns before all events
 first_turns = replicate 17 Turn.Nobody
 
 -- there is a part for each event, in which it may stand (`FitsTurn`) by the turns after those before it; true stands

@@ -1,18 +1,6 @@
 -- The configurations that a judge has to keep, if acts take effect as late as they can.
 -- Every rule here is the project's own: docs/HISTORIES.md#verdicts.
---     called_for       what a session has called for, if that has taken no effect yet and its client isn't gone
---     after_settling   the configuration after that takes effect
---     call_is_answered  the session's call was answered, and hasn't returned yet
---     has_unheard      the session's client is gone with an open call that may still take effect
---     is_over          acts don't count any more, since the session that is to return was answered
---     IsNextTo         an act that counts leads from one configuration to another
---     IsReachedFrom    acts that count lead to a configuration from one that is kept
---     IsAnyUnheard     in one that is kept a session's client is gone with an open call
---     Widens           acts may have to take effect before an event
---     returning_at     the session that is to return at an event
---     IsCounted        what acts that count lead to, if they may have to take effect before an event
 --     IsReady, IsKeptAfter     what stands directly before an event, and after it
---     IsKept           what is kept before the event at a place
 use Rattle.std.specs.Prelude.{◌≡◌, ◌≢◌, ◌⊎◌, ℕ, zero, suc, Bool, true, false, Option, Some, None, List, slice_get}
 use Rattle.std.specs.Prelude.{slice_set}
 use Rattle.xa_server.specs.State.{State}
@@ -37,6 +25,7 @@ settled_by (Some request) config session =
 
 -- the configuration after what the session has called for (`called_for`) takes effect; the same one if that is None
 unfoldable pub after_settling : Config → ℕ → Config
+-- the configuration after that takes effect
 after_settling config session = settled_by (called_for (slice_get config.clients session)) config session
 
 -- the session has an answer, and its call hasn't returned yet

@@ -1,9 +1,6 @@
 -- The number by which configurations are told apart: if two numbers differ, so do their configurations.
 -- Every rule here is the project's own.
---     with_word              a number after one more word
 --     with_text .. with_key  a number after one more thing of that kind
---     with_server            a number after a server's branches, and the committed values of some rows
---     mark                   a configuration's number; the keys are those of the rows that were written
 use Rattle.std.specs.Prelude.{ℕ, ◌+◌, ◌*◌, ◌/◌, ◌%◌, ◌^◌, Option, Some, None, List, length, fold, bit_xor}
 use Rattle.xa_xid.specs.{declared.xid.Xid.Xid, Xid.Text}
 use Rattle.xa_server.specs.declared.{reply.Reply.Reply, xa_error.XaError.{XaError, TheVariants.Rmfail}}
@@ -15,6 +12,7 @@ use Rattle.xa_judge.specs.{declared.{answer.Answer.Answer, client_state.ClientSt
 -- a number after one more word: the xor of both, plus 1, times a constant, modulo 2^64; and then the xor of that with
 -- its own upper 35 bits. The constant is odd, and is 2^64 divided by the golden ratio, rounded down
 unfoldable pub with_word : ℕ → ℕ → ℕ
+-- a number after one more word
 with_word number word =
     let product = ((bit_xor number word + 1) % 2 ^ 64 * 11400714819323198485) % 2 ^ 64 in
     bit_xor product (product / 2 ^ 29)
@@ -107,4 +105,5 @@ with_server keys number state = fold (with_key state) (fold (with_branch state) 
 -- a configuration's number: made of how far its sessions are, of its server's branches with the rows that they hold,
 -- and of the committed values of the rows with these keys
 unfoldable pub mark : List (List ℕ) → Config → ℕ
+-- a configuration's number; the keys are those of the rows that were written
 mark keys config = with_server keys (fold with_client 0 config.clients) config.state

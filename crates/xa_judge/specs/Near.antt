@@ -1,10 +1,5 @@
 -- Servers that differ only in rows that nobody reads.
---     AreNear            two states have the same branches, and the same committed values of the named rows
 --     Keys, named_in     a set of keys;  a key is in it
---     ReadsNamed         a request reads only named rows
---     CallsNamed         an event, if it is a call, reads only named rows
---     IsLoadedTo         the events lead to a state, with all sessions idle, and whatever goes on goes on from it
---     IsNearLater        later events read only what a near server holds as well
 use Rattle.std.specs.{Prelude.{◌≡◌, ℕ, Bool, true, List, ◌++◌}, BTreeSet.{BTreeSet, contains}, List.All}
 use Rattle.xa_xid.specs.{Xid.bytes_cmp, declared.statement.Statement.TheVariants.Get}
 use Rattle.xa_server.specs.State.{State, committed_value}

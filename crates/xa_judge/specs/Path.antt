@@ -1,12 +1,11 @@
 -- Moves as codes.
---     move_of      the move of a code
---     moves_of     the moves of blocks of codes, and of the codes after them
 use Rattle.std.specs.{Prelude.{ℕ, ◌-◌, ltb, cond, List, ◌++◌, map}, List.concat}
 use Rattle.xa_judge.specs.declared.moves.{Act.Act, Move.{Move, TheVariants.{Event, Effect}}}
 
 -- the move of a code: 1 to 16 are the sessions' statements, 17 to 32 their DISCONNECT, and any other is the next
 -- event
 unfoldable pub move_of : ℕ → Move
+-- the move of a code
 move_of code =
     cond (ltb 0 code) (cond (ltb code 17) (Effect code Act.Statement)
     (cond (ltb code 33) (Effect (code - 16) Act.Disconnect) Event)) Event

@@ -1,13 +1,4 @@
 -- How far a judge tells that it is.
---     IsReport         one report tells these numbers
---     AreReports       a report for each of so many events, one after another
---     IsSize           so many configurations may be kept before an event of a pass
---     ArePasses        passes of such reports, one after another, or none
---     seen_for         how many events a verdict is about
---     IsToldUpTo       the last pass went up to this many events
---     IsToldOf         a verdict is told by passes up to what decides it;  without one there were only passes
---     IsComplete       whatever goes on through more events goes on from one of a list
---     IsSizeOfKept     the size of the list that is kept before an event
 use Rattle.std.specs.{Prelude.{◌≡◌, ℕ, ◌+◌, ◌<◌, Option, MatchOption, List, ◌++◌, length, take}, List.All}
 use Rattle.xa_server.specs.State.{State}
 use Rattle.xa_judge.specs.declared.{configuration.Configuration.Configuration, event.Event.Event, moves.Move.Move}

@@ -1,11 +1,5 @@
 -- When a verdict is right.
---     IsRefuted                  an order explains the events before a place, and none also the one there
---     IsReachedByMoves           some moves lead through the events to a configuration
 --     IsAnswerAfter, CouldBe     a session can have an answer after events;  the call that returns at a place can
---     AreAllAnswers              these are the answers that some order gives the call that returns there
---     AreDifferent               no two configurations of a list are the same
---     IsWide                     more different configurations than allowed have to be kept before an event
---     IsVerdict                  the verdict is right
 use Rattle.std.specs.Prelude.{◌≡◌, ◌≢◌, ℕ, ◌+◌, ◌<◌, List, Some, length, take, slice_get}
 use Rattle.std.specs.List.{All, AllPairs, Contains}
 use Rattle.xa_server.specs.State.{State}

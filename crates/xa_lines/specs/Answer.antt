@@ -1,6 +1,4 @@
 -- What a line is answered.
---     bytes_of        the bytes of an answer
---     HasRoom         an answer has room for more of them
 use Rattle.std.specs.Prelude.{ℕ, ◌+◌, ◌≤◌, List, vec_len, vec_capacity}
 use Rattle.arrayvec.specs.ArrayVec.{array_vec_len}
 use Rattle.xa_lines.specs.declared.answer.Answer.{Answer, TheVariants.{Text, Short}}

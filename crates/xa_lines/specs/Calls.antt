@@ -1,14 +1,7 @@
 -- The calls on a reader or a writer, one after another. What a call may do is said by two facts: `passes old bytes
 -- new`, that it may pass these bytes and leave the stream as new, and `fails old new`, that it may fail and leave it
 -- so.
---     Carries          calls that pass bytes
 --     HasRead, HasReadAll   reads that gave a text;  which is all that the reader gives
---     StopsReading     why a text wasn't read to its end
---     HasWritten       bytes were written
---     IsWrittenBut     a part of a text was written, and this is left of it
---     StopsWriting     a write failed before all bytes were written
---     Completes        all of a script was read, and all of its text written
---     Stops            why a script's text wasn't written
 -- A stream's fault is told only if the last call on the stream is the one that had it: a stream that failed isn't
 -- called again.
 use Rattle.std.specs.Prelude.{◌≡◌, ◌⊎◌, ℕ, zero, suc, ◌<◌, ◌≤◌, List, [], ◌++◌, length}
@@ -16,6 +9,7 @@ use Rattle.xa_lines.specs.declared.script_fault.ScriptFault.{ScriptFault}
 
 -- so many calls one after another, each of which passes at least one byte, pass these bytes in all
 unfoldable pub Carries : {S : Type 0} → (S → List ℕ → S → Type 0) → ℕ → S → List ℕ → S → Type 0
+-- calls that pass bytes
 Carries passes zero old bytes new = (new ≡ old) × (bytes ≡ [])
 Carries {S} passes (suc count) old bytes new =
     (mid : S) × (before : List ℕ) × (piece : List ℕ) × Carries passes count old before mid × passes mid piece new

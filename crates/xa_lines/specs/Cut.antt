@@ -6,7 +6,6 @@
 --     has_faulted, has_refused    whether it has faulted
 --     reads_after, writes_after   how often it was read or written after that
 --     faults_next, refuses_next   whether it faults where it is used next
---     takes_next                  how many of so many bytes a writer takes next, at most
 use Rattle.std.specs.Prelude.{ℕ, Bool, ◌==◌, ◌&&◌, not, cond, List}
 use Rattle.xa_lines.specs.declared.{cut_reader.CutReader.CutReader, cut_writer.CutWriter.CutWriter}
 

@@ -1,9 +1,5 @@
 -- What has passed between a server and its client.
---     Exchange        what was received, and what was said
---     IsFresh         nothing has passed yet
---     Receives           what a read does to it
 --     WritesText, Flushes  what a write and a flush do to it
---     CanBeTold          nothing has failed, so more may be said
 -- A client that doesn't say what has passed is promised nothing; one that doesn't say it now won't say it later.
 use Rattle.std.specs.Prelude.{◌≡◌, ◌⊎◌, ℕ, ◌==◌, cond, Option, Some, None, Result, MatchResult, List, [], ◌++◌, take, ⊤}
 use Rattle.xa_lines.specs.declared.stage.Stage.{Stage, TheVariants.{Open, Ended, Deaf, Mute}}

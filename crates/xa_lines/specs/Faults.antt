@@ -1,5 +1,4 @@
 -- The numbers of the faults of a script's run or race.
---     number_of_script_fault     why it ended early
 use Rattle.std.specs.Prelude.{ℕ}
 use Rattle.xa_lines.specs.declared.script_fault.ScriptFault.{ScriptFault}
 

@@ -1,6 +1,4 @@
 -- How long a script is at most, and how often it is read (own rule).
---     script_bytes     bytes of a script
---     script_reads     reads that a script takes
 use Rattle.std.specs.Prelude.{ℕ}
 
 -- 1 MiB: one byte more can't be read

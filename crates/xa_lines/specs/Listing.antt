@@ -1,10 +1,5 @@
 -- How a state is shown: the lines of docs/COMMANDS.md#show, in its order. Each begins with two blanks, so that what
 -- answers a script can be cut out.
---     branch_line     a branch, with its phase and its owner
---     hold_line       a row that the branch before it holds
---     branch_lines    a branch, and the rows that it holds
---     row_line        the committed value of a row
---     listing         every branch, and these rows
 use Rattle.std.specs.{Prelude.{ℕ, Option, Some, None, List, [], ◌++◌, codes, decimal}, List.flat_map}
 use Rattle.xa_xid.specs.{Xid.Text, XidText.{part_text, xid_text}}
 use Rattle.xa_server.specs.declared.{branch.Phase.Phase, hold.Hold.{Hold, TheVariants.{Shared, Put, Delete}}}
@@ -52,4 +47,5 @@ row_line state key = codes "  ROW " ++ part_text key ++ value_text (committed_va
 
 -- every branch, and these rows
 unfoldable pub listing : State → List (List ℕ) → List ℕ
+-- every branch, and these rows
 listing state keys = flat_map (branch_lines state) (branches_of state) ++ flat_map (row_line state) keys

@@ -2,16 +2,6 @@
 -- Every rule here is the project's own: docs/COMMANDS.md#output-as-json.
 -- A form is a text with one part on each of its lines. The first byte of a part may be a mark; a part without one
 -- stands for itself.
---     number_said      the number that a word is
---     mark_of          what a part stands for
---     part_fits_as     a part fits what a text begins with
---     left_as          what is left of a text behind a part
---     fits             a form fits a line
---     part_tokens_as   the member of a part
---     all_forms        the forms
---     form_for         the form of a line
---     object_line      the object of a line
---     objects_of       the objects of lines
 use Rattle.std.specs.Prelude.{ℕ, Bool, true, false, ◌==◌, ◌||◌, if◌then◌else◌, nat_eq, Option, Some, None, Ok, Err}
 use Rattle.std.specs.{Prelude.{List, [], ◌∷◌, ◌++◌, codes, decimal, drop, encode_utf8_all}, Option.is_some}
 use Rattle.std.specs.Cmp.Lexicographic.{pointwise}
@@ -33,6 +23,7 @@ number_alone (Ok (found, byte ∷ other ∷ rest)) = None
 
 -- the number that a word is, in decimal digits, or in hexadecimal ones after `0x`; a colon may stand behind it
 unfoldable pub number_said : List ℕ → Option ℕ
+-- the number that a word is
 number_said word = number_alone (number_ahead word)
 
 -- a text begins as a statement does: with X, G, P or D, as no reply does
@@ -145,5 +136,6 @@ object_line line = print (begin_object ∷ (parts_tokens (lines_of (form_for lin
 
 -- the objects of lines, in their order
 unfoldable pub objects_of : List (List ℕ) → List ℕ
+-- the objects of lines
 objects_of [] = []
 objects_of (line ∷ lines) = object_line line ++ objects_of lines

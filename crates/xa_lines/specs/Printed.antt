@@ -1,9 +1,4 @@
 -- How replies are printed.
---     row_text        the line of a recovered identifier
---     error_text      the text of a refusal
---     reply_text      the text of a reply
---     syntax_text     the text where a statement isn't read
---     answer_text     the line of an answer
 use Rattle.std.specs.Prelude.{ℕ, Bool, true, false, Some, None, List, [], ◌∷◌, ◌++◌, length, codes, decimal}
 use Rattle.hex.specs.Hex.{encode_lower}
 use Rattle.xa_xid.specs.{XidText.part_text, declared.{xid.Xid.Xid, statement.Statement.Statement}}

@@ -1,10 +1,4 @@
 -- What is received, cut into lines.
---     Received           a line, as far as it is kept
---     received_line      what is kept of a line
---     longer          a line with one byte more
---     is_nothing      nothing of a line has come
---     IsCutIntoLines  bytes are these whole lines, and what has come of the next
---     held_by         the line that has come in part
 use Rattle.std.specs.Prelude.{◌≡◌, ℕ, nat_le, ◌==◌, Bool, true, false, cond, List, [], ◌∷◌, ◌++◌, length, All}
 use Rattle.std.specs.List.{flat_map}
 use Rattle.xa_lines.specs.declared.{TheConstants.LINE_BYTES, begun_line.BegunLine.BegunLine}
@@ -18,6 +12,7 @@ pub data Received : Type 0 where
 
 -- what is kept of a line: all of it, up to 65,536 bytes (own rule)
 unfoldable pub received_line : List ℕ → Received
+-- what is kept of a line
 received_line line = cond (nat_le (length line) LINE_BYTES) (Whole line) TooLong
 
 -- a line with one byte more

@@ -1,5 +1,4 @@
 -- A client for tests.
---     exchange_of     what has passed with it
 use Rattle.std.specs.Prelude.{take}
 use Rattle.xa_lines.specs.{Cut.taken_by, Exchange.Exchange, declared.recorded.Recorded.Recorded}
 

@@ -1,10 +1,7 @@
 -- What a script is made of.
---     lines_of        the lines of a script
 --     Line, line_of   what a line says;  what this line says
 --     first_word, after_word, behind_word     a text up to its first blank;  from there on;  and from the first byte
 --                                             after that which isn't a blank
---     session_named   the session that a word names
---     number_of_word  the number that a word is
 --     is_comment_line a line is a comment
 use Rattle.std.specs.Prelude.{ℕ, ◌+◌, ◌-◌, nat_le, ◌==◌, Bool, true, false, not, ◌&&◌, cond, if◌then◌else◌, Option}
 use Rattle.std.specs.{Prelude.{Some, None, Ok, Err, List, [], ◌∷◌, take, drop}, List.prefix_len}
@@ -24,6 +21,7 @@ with_first byte (line ∷ lines) = (byte ∷ line) ∷ lines
 
 -- a script is cut at each line feed; an empty piece after the last one is no line (own rule)
 unfoldable pub lines_of : List ℕ → List (List ℕ)
+-- the lines of a script
 lines_of [] = []
 lines_of (byte ∷ bytes) = cond (byte == 10) ([] ∷ lines_of bytes) (with_first byte (lines_of bytes))
 
@@ -58,6 +56,7 @@ whole_number (Ok (number, byte ∷ rest)) = None
 
 -- the number that a word is: decimal digits of a value below 2^64, without leading zeros (own rule)
 unfoldable pub number_of_word : List ℕ → Option ℕ
+-- the number that a word is
 number_of_word [] = None
 number_of_word (first ∷ []) = whole_number (number_ahead (first ∷ []))
 number_of_word (first ∷ second ∷ rest) =

@@ -1,11 +1,5 @@
 -- What is served for what is received. A server is seen by two facts: `Begins state`, that it may begin so, and
 -- `Answers old line text new`, that it may answer the line with the text, and is then so.
---     AnswersAll      the texts of lines, one after another
---     AreAnswers      a text is what a server that has just begun may answer lines
---     AwaitsMore      all whole lines are answered, and the client was told so
---     IsServed        all lines are, and nothing more is to be received
---     IsCutOff        the answers are begun, and saying them failed
---     AfterServing    what a fault leaves
 use Rattle.std.specs.Prelude.{◌≡◌, ◌⊎◌, ◌≤◌, ℕ, ◌-◌, ◌^◌, List, [], ◌∷◌, ◌++◌, length}
 use Rattle.xa_lines.specs.{Script.lines_of, declared.{script_fault.ScriptFault.ScriptFault, stage.Stage.Stage}}
 use Rattle.xa_lines.specs.{Received.{Received, received_line, IsCutIntoLines}, Exchange.{Exchange, IsFresh}}
@@ -13,6 +7,7 @@ use Rattle.xa_lines.specs.{Received.{Received, received_line, IsCutIntoLines}, E
 -- from old on, the server may answer these lines with this text, one after another, and is then new
 unfoldable pub AnswersAll : {S : Type 0} → (S → Received → List ℕ → S → Type 0) → S → List (List ℕ) → List ℕ → S
     → Type 0
+-- the texts of lines, one after another
 AnswersAll Answers old [] text new = (text ≡ []) × (new ≡ old)
 AnswersAll {S} Answers old (line ∷ lines) text new =
     (mid : S) × (first : List ℕ) × (rest : List ℕ) × Answers old (received_line line) first mid

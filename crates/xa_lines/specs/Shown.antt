@@ -1,10 +1,4 @@
 -- What answers a line of which the store is shown behind the answer.
---     comment_text               how a comment is repeated
---     unshown_text               what is said where memory is refused for a listing or a comment
---     keys_asked                 the rows that a line is about
---     listing_after              what stands behind the answer to a line
---     StandsBehind               a listing stands behind an answer, or in its place that memory is refused for it
---     IsShown                    how a line may be answered
 --     BeginsEmpty, Shows         how a server that shows its store begins, and how it may answer a line
 use Rattle.std.specs.Prelude.{◌≡◌, ◌≢◌, ◌⊎◌, ℕ, Bool, true, false, List, [], ◌++◌, codes, Result, Ok, Err}
 use Rattle.xa_xid.specs.declared.statement.Statement.{Statement}
@@ -28,6 +22,7 @@ keys_of_read state session (Err place) = []
 
 -- the rows that a line is about, before it is answered
 unfoldable pub keys_asked : State → Line → List (List ℕ)
+-- the rows that a line is about
 keys_asked state Blank = []
 keys_asked state Bad = []
 keys_asked state (Given session text) = keys_of_read state session (read_of text)
@@ -35,6 +30,7 @@ keys_asked state (Given session text) = keys_of_read state session (read_of text
 -- behind the answer to a line stand all branches, and the rows that the line is about, as they are after it; a line
 -- of blanks has no answer, and nothing stands behind it
 unfoldable pub listing_after : State → Line → State → List ℕ
+-- what stands behind the answer to a line
 listing_after old Blank new = []
 listing_after old Bad new = listing new []
 listing_after old (Given session text) new = listing new (keys_asked old (Given session text))
@@ -61,6 +57,7 @@ IsLineShown false old line text new = IsAnswerShown old (line_of line) text new
 
 -- how a line may be answered; one that is too long is a bad one, whatever it begins with
 unfoldable pub IsShown : State → Received → List ℕ → State → Type 0
+-- how a line may be answered
 IsShown old (Whole line) text new = IsLineShown (is_comment_line line) old line text new
 IsShown old TooLong text new = IsAnswerShown old Bad text new
 

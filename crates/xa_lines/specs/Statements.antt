@@ -1,12 +1,6 @@
 -- What the sequential server answers to lines of statements.
---     said            what a line says
---     refused_text    the answer where memory is refused for a statement
---     MayBeRefused    for which statements it may be
---     HoldsNothing                how it begins
 --     IsAnswerTo, IsLineAnswer    how it may answer what is said, and a line
 --     IsToldAll, AfterFaultOfStatements   what is told to a client that ends, and what a fault leaves
---     served_text     the answers to lines, where it is known for which memory was refused
---     IsShort         a line has no more bytes than are kept
 use Rattle.std.specs.Prelude.{◌≡◌, ◌⊎◌, ◌≤◌, ℕ, ◌-◌, ◌^◌, Bool, true, false, Result, Ok, Err, List, [], ◌∷◌, ◌++◌}
 use Rattle.std.specs.Prelude.{length, codes, decimal}
 use Rattle.xa_xid.specs.declared.statement.Statement.{Statement}
@@ -86,6 +80,7 @@ later_marks (mark ∷ marks) = marks
 
 -- the answers to these lines, where a mark for each says whether memory is refused for its statement
 unfoldable pub served_text : List Bool → State → List (List ℕ) → List ℕ
+-- the answers to lines, where it is known for which memory was refused
 served_text marks state [] = []
 served_text marks state (line ∷ lines) =
     text_of (next_mark marks) state (said (received_line line))

@@ -1,13 +1,7 @@
 -- What a script's run writes.
 --     answer_to, state_then    what is written for a session's statement, read or not;  the state after it
---     answer_of       what is written for a line
---     state_after_line  the state after a line
---     run_text        what is written for all lines
---     transcript      what is written for a script
 --     AppendsPrefix, AfterFault      what a fault leaves in the writer
---     ConsumesMoreThan               a reader gave more bytes than a limit
 --     StopsAnswering, StopsRun       why the writing of answers, and a run, ended early
---     IsWrittenUpTo                  a part of a text was written, and this is left of it
 use Rattle.std.specs.Prelude.{◌≡◌, ◌⊎◌, ℕ, ◌<◌, Option, List, [], ◌∷◌, ◌++◌, length, take, codes, decimal, IfSome}
 use Rattle.std.specs.{Prelude.{Result, Ok, Err}, Io.KnownBytes.{Keeps, Appends, Consumes}}
 use Rattle.xa_xid.specs.declared.statement.Statement.{Statement}
@@ -33,18 +27,21 @@ state_then state session (Err place) = state
 
 -- what is written for a line; a bad one names no session
 unfoldable pub answer_of : State → Line → List ℕ
+-- what is written for a line
 answer_of state Blank = []
 answer_of state Bad = answer_text (codes "-") (syntax_text 0)
 answer_of state (Given session text) = answer_to state session (read_of text)
 
 -- the state after a line
 unfoldable pub state_after_line : State → Line → State
+-- the state after a line
 state_after_line state Blank = state
 state_after_line state Bad = state
 state_after_line state (Given session text) = state_then state session (read_of text)
 
 -- what is written for these lines, one after another
 unfoldable pub run_text : State → List (List ℕ) → List ℕ
+-- what is written for all lines
 run_text state [] = []
 run_text state (line ∷ lines) = answer_of state (line_of line) ++ run_text (state_after_line state (line_of line)) lines
 

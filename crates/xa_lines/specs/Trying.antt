@@ -1,9 +1,5 @@
 -- Tries to write a text. What a call may do is said as in `Calls`, and in addition by `interrupts old new`: that it may
 -- be interrupted, and leave the stream so.
---     IsTry          a write took bytes, or was interrupted and took none
---     Tries          so many writes one after another, which took bytes in all
---     HasTried       writes took all of the text
---     StopsTrying    writes took a part of the text, and then there was no further one
 use Rattle.std.specs.Prelude.{◌≡◌, ◌⊎◌, ℕ, zero, suc, ◌-◌, ◌^◌, ◌<◌, ◌≤◌, List, [], ◌++◌, length}
 
 -- a write took some bytes; or it was interrupted, and took none
@@ -12,6 +8,7 @@ IsTry takes interrupts old bytes new = (takes old bytes new × (0 < length bytes
 
 -- so many writes one after another took these bytes in all
 unfoldable pub Tries : {S : Type 0} → (S → List ℕ → S → Type 0) → (S → S → Type 0) → ℕ → S → List ℕ → S → Type 0
+-- so many writes one after another, which took bytes in all
 Tries takes interrupts zero old bytes new = (new ≡ old) × (bytes ≡ [])
 Tries {S} takes interrupts (suc count) old bytes new =
     (mid : S) × (before : List ℕ) × (piece : List ℕ) × Tries takes interrupts count old before mid

@@ -1,7 +1,5 @@
 -- A conversation while it is under way.
 --     IsUnderWay, UnderWay    all whole lines of what was received are answered, but for those that still wait
---     IsAllAnswered           none waits, and nothing more is to be received
---     IsReady                 none waits, and the client was told all
 use Rattle.std.specs.Prelude.{◌≡◌, ◌≤◌, ℕ, length, Option, Some, None, List, [], ◌++◌, ⊤}
 use Rattle.xa_lines.specs.{Received.{Received, received_line, IsCutIntoLines}, Exchange.Exchange}
 use Rattle.xa_lines.specs.{Served.{AnswersAll, AreAnswers}, Script.lines_of, declared.stage.Stage.Stage}

@@ -1,7 +1,5 @@
 -- What a job writes with `--json`: the objects of the lines that it writes without. All of it is an own rule.
---     AfterWriting      what a fault of writing a text leaves in the writer
 --     AppendsObjects, AppendsObjectsPrefix    the writer got these objects;  or a prefix of them
---     AfterObjects      what a fault of a job with `--json` leaves in the writer
 use Rattle.std.specs.{Prelude.{ℕ, Option, Some, List, []}, Io.KnownBytes.{Keeps, Appends}}
 use Rattle.xa_lines.specs.{Script.lines_of, Transcript.AppendsPrefix, declared.script_fault.ScriptFault.ScriptFault}
 use Rattle.xa_lines.specs.{declared.script_fault.ScriptFault.TheVariants.Write, Objects.objects_of}

@@ -1,16 +1,4 @@
 -- What a run of calls leaves of each transaction, after a recovery that came to its end.
---     branch_in        the branch that a transaction has in a store
---     HasAdded         the coordinator's session added a statement
---     IsPlain          a call that isn't RECOVER
---     IsAlone          of a transaction's branches, the coordinator began at most the one in this store
---     GoesWith         a statement goes with the decisions
---     LeavesBranches   a call that has no other client finish a branch of the coordinator's
---     ChangesRows      a statement that changes committed values
---     WasCommitted     a prepared branch was committed, with all its writes
---     AllOrNone        each transaction is in all of its stores, or in none
---     KeepsToDecisions     all that the coordinator added goes with the decisions, and none of its branches is
---                          prepared
---     LeavesWhole      KeepsToDecisions and AllOrNone hold after a recovery, if it came to its end
 use Rattle.std.specs.Prelude.{◌≡◌, ◌⊎◌, ◌<◌, ◌≤◌, ◌+◌, ◌^◌, ℕ, Bool, true, false, Some, Ok, slice_get, List, Contains}
 use Rattle.std.specs.Prelude.{codes}
 use Rattle.xa_words.specs.Entry.{Entry}

@@ -1,14 +1,5 @@
 -- A transaction manager whose sessions hold the other clients': what a call does to it.
 --     within, others_of        the coordinator's sessions without their limits, and the other clients'
---     LeavesAlone      no session of the coordinator's got a statement, and each passes on as many calls as
---                      before
---     HasRepliedBeside         AT
---     IsShownBeside            SHOW
---     CarriesBeside    a call was carried out, by the call
---     PerformsBeside   a call was refused or carried out
---     BeginsBeside     nothing has begun, and each session passes on 2^64 - 1 calls
---     IsRefusedBeside  memory was refused for a call, or for its answer
---     IsBesideAnswer   how a line may be answered
 use Rattle.std.specs.Prelude.{◌≡◌, ◌⊎◌, ◌<◌, ℕ, false, List, [], All, length, map, Result}
 use Rattle.xa_xid.specs.declared.statement.Statement.{Statement}
 use Rattle.xa_server.specs.declared.reply.Reply.{Reply}

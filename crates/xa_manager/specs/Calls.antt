@@ -1,7 +1,4 @@
 -- How a line is read as a call of a transaction manager. All of it is an own rule: docs/COORDINATOR.md#calls.
---     takes_rows       the statements that a transaction can give: GET, PUT and DEL
---     call_of          the call that a line is read as
---     IsWritten        a call as a line can spell it
 use Rattle.std.specs.Prelude.{◌≡◌, ℕ, Bool, true, false, bytes_eq, if◌then◌else◌, Option, Some, None, Result, Ok, Err}
 use Rattle.std.specs.Prelude.{List, [], ◌∷◌, codes}
 use Rattle.xa_xid.specs.{Bytes.unblank, declared.statement.Statement.{Statement, TheVariants.{Get, Put, Del}}}
@@ -92,6 +89,7 @@ filled_call (first ∷ rest) = call_named (first_word (first ∷ rest)) (behind_
 
 -- the call that a line is read as: its words are separated by blanks; a comment is no call
 unfoldable pub call_of : List ℕ → Call
+-- the call that a line is read as
 call_of line = if is_comment_line line then Call.Silent else filled_call (unblank line)
 
 -- work gives GET, PUT or DEL, as in each call that a line spells

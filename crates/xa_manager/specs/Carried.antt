@@ -1,21 +1,7 @@
 -- What each call of a transaction manager does if it isn't refused: its response, what the sessions did, and
 -- the state then.
---     WholeManager     a transaction manager, as contracts see it
---     SpeaksAlone      only the coordinator's sessions were used
 --     vote_answer_of, stage_after     the answer for a vote;  the transaction's stage after it
 --     IsBegun, IsSpent                BEGIN: a transaction began;  no number is left
---     HasWorked        WORK
---     HasVoted         PREPARE
---     IsDecided        DECIDE
---     HasEnded         a transaction ended, by FINISH or ABANDON
---     IsFinished       FINISH
---     IsAbandoned      ABANDON
---     IsLimited        FAIL
---     IsStopped        STOP
---     HasRecovered     RECOVER
---     HasReplied       AT
---     IsShown          SHOW
---     Carries          a call was carried out, by the call
 use Rattle.std.specs.Prelude.{◌≡◌, ◌⊎◌, ◌<◌, ◌≤◌, ◌+◌, ℕ, true, false, Option, Some, None, Result, IfOk, IfErr, OnOk}
 use Rattle.std.specs.Prelude.{List, [], ◌∷◌, ◌++◌, length, map, slice_get, codes}
 use Rattle.xa_xid.specs.declared.statement.Statement.{Statement}

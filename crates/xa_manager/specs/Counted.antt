@@ -1,7 +1,5 @@
 -- A store that notes if memory was refused, as contracts see it.
 --     own_of, other_of         the coordinator's session;  the other client's by itself
---     state_in         the state that the store's history leaves
---     IsNoted          it is noted that memory was refused, if a statement wasn't answered
 use Rattle.std.specs.Prelude.{◌≡◌, true, Result, OnOk, OnErr}
 use Rattle.xa_xid.specs.declared.statement.Statement.{Statement}
 use Rattle.xa_server.specs.State.{State}

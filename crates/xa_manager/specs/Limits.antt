@@ -1,7 +1,4 @@
 -- The limits of a coordinator's sessions, and what is open in them.
---     Passes           a store's session passes on so many calls
---     LimitsAlone      only one store's session got a new limit, and nothing else changed of the sessions
---     StartsAnew       nothing is open in any store, and each session passes on 2 ^ 64 - 1 calls
 use Rattle.std.specs.Prelude.{◌≡◌, ◌<◌, ◌-◌, ◌^◌, ℕ, List, length, map, Option, Some, None, slice_get}
 use Rattle.xa_coordinator.specs.{declared.{fused.Fused.Fused, branches.OpenBranch.OpenBranch}, Stores.ChangesAt}
 

@@ -1,5 +1,4 @@
 -- A transaction manager, as contracts see it.
---     whole_of   its whole
 use Rattle.std.specs.Prelude.{vec_len}
 use Rattle.xa_coordinator.specs.declared.speak.Speak.{Ghosts as SpeakOf}
 use Rattle.xa_manager.specs.{Carried.WholeManager, declared.manager.Manager.Manager}

@@ -1,6 +1,4 @@
 -- The passes of stores.
---     AreOf            passes of stores, one of each
---     AreNew           stores that hold nothing, and passes that have seen nothing
 use Rattle.std.specs.{Prelude.{◌≡◌, List, All}, List.AllZip}
 use Rattle.decision_log.specs.Known.{newcomer}
 use Rattle.xa_server.specs.State.{no_state}

@@ -1,8 +1,5 @@
 -- Why a call is refused.
 --     takes_work, takes_decision, takes_finish     whether a call is allowed in a stage
---     refusal_in       the refusal of a call that only some stages allow
---     refusal_at       the refusal of a call that needs a store
---     refusal_of       the refusal of a call
 use Rattle.std.specs.Prelude.{ℕ, Bool, true, false, nat_lt, if◌then◌else◌, Option, Some, None, List}
 use Rattle.xa_manager.specs.{declared.{call.Call.Call, stage.Stage.Stage, response.Response.Response}, Ledger.stage_of}
 

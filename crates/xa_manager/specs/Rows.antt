@@ -1,9 +1,4 @@
 -- The rows that are shown after a stop.
---     key_named        the key that a call names in a store
---     keys_named       the keys that calls name in a store, each once, ascending
---     AreNamed         the lists of those that they name in each store
---     row_line         the line of a row, with its committed value
---     rows_text        the rows of each store
 use Rattle.std.specs.Prelude.{◌≡◌, ℕ, ◌+◌, nat_eq, slice_get, if◌then◌else◌, Option, Some, None, List, [], ◌∷◌, ◌++◌}
 use Rattle.std.specs.{Prelude.{codes, decimal}, List.flat_map, BTreeSet.insert_key}
 use Rattle.xa_xid.specs.{Xid.{Text, bytes_cmp}, XidText.part_text, declared.statement.Statement.Statement}
@@ -54,6 +49,7 @@ row_line store state key = codes "ROW " ++ decimal store ++ codes " " ++ part_te
 
 -- the lines of the rows that calls name, in the stores from this one on, which have these states
 unfoldable pub rows_text : List Call → ℕ → List State → List ℕ
+-- the rows of each store
 rows_text calls store [] = []
 rows_text calls store (state ∷ states) =
     flat_map (row_line store state) (keys_named calls store) ++ rows_text calls (store + 1) states

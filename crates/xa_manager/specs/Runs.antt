@@ -1,15 +1,5 @@
 -- A transaction manager over unbounded stores that note when memory was refused, and calls that it carries out one
 -- after another.
---     Managing         such a manager, as contracts see it
---     IsAnswered       a call was refused or carried out
---     CarriesOut       calls were answered, one after another
---     IsFresh          nothing has begun
---     HasCarried       calls were answered by a manager with which nothing had begun
---     IsRun            HasCarried, and memory was refused for no statement
---     is_unanswered    whether a response tells that a session didn't answer a statement
---     AreAnswered      that was so in no call
---     passed           how many calls of a session were passed on
---     IsGiven          how many calls the coordinator's session of each store passed on in a run (`passed`)
 use Rattle.std.specs.Prelude.{◌≡◌, ◌-◌, ◌^◌, ℕ, Bool, true, false, Err, List, [], ◌∷◌, ◌++◌, All, map}
 use Rattle.xa_coordinator.specs.{declared.{ending.Ending.TheVariants.Unfinished, fault.Cause.Cause}, Lasting.own_view}
 use Rattle.xa_coordinator.specs.declared.{fault.RecoverFault.RecoverFault, store.LastingStore.LastingStore}

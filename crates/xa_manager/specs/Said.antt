@@ -1,8 +1,4 @@
 -- What a session did, by its answer.
---     reply_of         the reply of an answer
---     RepliesAs        a session answered a statement, or failed, with this result
---     IsGiven          a session was given a statement, with this result
---     IsListed         a session was given XA RECOVER, and answered as the list has it
 use Rattle.std.specs.Prelude.{◌≡◌, ℕ, true, Some, Result, Ok, Err, List, slice_get}
 use Rattle.xa_xid.specs.declared.statement.Statement.{Statement, TheVariants.Recover}
 use Rattle.xa_server.specs.declared.reply.Reply.{Reply}

@@ -1,8 +1,5 @@
 -- What a script of calls is, and the text that is written for it. All of it is an own rule:
 -- docs/COORDINATOR.md#stops.
---     calls_of         the calls of a script, one of each line
---     faults_from      the text of the lines that are refused
---     IsStopsText      the text of a script, and how the script ended
 use Rattle.std.specs.Prelude.{◌≡◌, ◌≢◌, ℕ, ◌+◌, Bool, true, false, if◌then◌else◌, Option, List, [], ◌∷◌, ◌++◌, map}
 use Rattle.std.specs.{Prelude.{codes, decimal, IfSome}, Io.KnownBytes.{Keeps, Appends}}
 use Rattle.xa_lines.specs.{Received.received_line, Script.lines_of, Transcript.AppendsPrefix}
@@ -46,6 +43,7 @@ fault_text number response = if is_refusal response then cause_text number respo
 
 -- the text of those lines, from this number on, that are refused
 unfoldable pub faults_from : ℕ → List Response → List ℕ
+-- the text of the lines that are refused
 faults_from number [] = []
 faults_from number (response ∷ responses) = fault_text number response ++ faults_from (number + 1) responses
 

@@ -1,9 +1,4 @@
 -- How a transaction manager answers lines, one after another.
---     call_said       the call that a line is
---     refused_text    the answer if memory is refused
---     has_few_words   a response whose words take no memory
---     IsRefusedCall   memory was refused for a call or for its answer
---     IsCallAnswer    how a line may be answered
 use Rattle.std.specs.Prelude.{◌≡◌, ◌⊎◌, ℕ, Bool, true, false, None, Ok, Err, List, codes}
 use Rattle.xa_server.specs.declared.reply.Reply.{Reply, TheVariants.{Ok as Done, Value}}
 use Rattle.xa_session.specs.View.{SessionView}

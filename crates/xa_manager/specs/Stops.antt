@@ -1,15 +1,6 @@
 -- The stops of a coordinator, and what a recovery leaves after each.
---     is_own           whether a call is one of the coordinator's
---     MakesCalls       how many calls of sessions a line makes in each store
---     stops_in         the stops of calls
---     limits_for       how many of a line's first calls go to each store
---     IsRecovered      STOP and then RECOVER were answered
---     ended_calls      calls, and then STOP and RECOVER
---     stopped_calls    the calls that are carried out for a stop
---     IsLeft           what a recovery leaves after calls
 --     IsWhole, IsCutAt         sessions answered all statements of the lines;  of those before a stop, and if it is
 --                              after some calls of its own line, not all of that line
---     IsShown          the text of calls of which none is faulty
 use Rattle.std.specs.Prelude.{◌≡◌, ℕ, zero, suc, ◌+◌, ◌-◌, min, Bool, true, false, if◌then◌else◌, Some, Err, List, []}
 use Rattle.std.specs.Prelude.{◌∷◌, ◌++◌, length, take, drop, map, slice_get, sum, codes, decimal}
 use Rattle.std.specs.List.{AllZip, concat}
@@ -66,6 +57,7 @@ stops_in calls made = stops_from 0 calls made
 
 -- how many of a line's first calls go to each store: its calls go to the stores in ascending order
 unfoldable pub limits_for : List ℕ → ℕ → List ℕ
+-- how many of a line's first calls go to each store
 limits_for [] calls = []
 limits_for (there ∷ made) calls = min there calls ∷ limits_for made (calls - min there calls)
 

@@ -1,14 +1,5 @@
 -- The text that is written for a call, by its response. All of it is an own rule: docs/COORDINATOR.md#calls.
 --     fault_text, cause_text       why a statement wasn't answered, or carried out
---     worked_text                  the result of work
---     vote_text                    what the stores voted
---     ending_text                  how a transaction ended
---     recovered_text               the result of a recovery
---     replied_text                 another client's answer
---     stores_shown_text            each store, and its other client's answer
---     decisions_text               the numbers by their states
---     response_text                the response to a call
---     answer_text                  the same with its line feed, and nothing for a line that is no call
 use Rattle.std.specs.Prelude.{ℕ, ◌+◌, Bool, true, false, if◌then◌else◌, Result, Ok, Err, List, [], ◌∷◌, ◌++◌, codes}
 use Rattle.std.specs.Prelude.{decimal}
 use Rattle.xa_server.specs.declared.reply.Reply.{Reply}

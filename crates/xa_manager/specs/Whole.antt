@@ -1,8 +1,4 @@
 -- A transaction manager: how it begins, and what a call does to it.
---     IsPair           the two sessions of a store that holds nothing
---     ManagerBegins    nothing has begun, and each session passes on 2^64 - 1 calls
---     IsRefused        a call was refused, and nothing changed
---     Performs         a call was refused or carried out
 use Rattle.std.specs.{Prelude.{◌≡◌, ◌⊎◌, Some, []}, List.AllZip}
 use Rattle.decision_log.specs.Known.{newcomer}
 use Rattle.xa_server.specs.State.{no_state}

@@ -1,9 +1,5 @@
 -- Ways that are counted by their numbers.
---     Chosen           as many of a list as were counted, no two of which have come to the same
---     chosen_none      before the first way none is chosen
 --     chosen_same, chosen_new      a number is noted, and no more are chosen;  one more is, whose number is new
---     chosen_differ    the list has as many ways that differ as were counted
---     wide_next        one more turn leads to more ways than allowed that differ
 use Rattle.std.proofs.Common.{◌≡◌, ◌≢◌, ℕ, ◌+◌, ◌<◌, Bool, true, false, not, cond, List, [], ◌∷◌, length, get_or, take}
 use Rattle.std.{proofs.{Common.{refl, ap, sym, ◌∙◌, subst, arith}, lemmas.Bool.false≢true}, specs.BTreeMap.is_at}
 use Rattle.std.{proofs.lemmas.List.Elements.{All-cons, All-nil, All-weaker}, specs.{List.All, Ordering.nat_cmp}}

@@ -1,7 +1,4 @@
 -- What ways come to after the later lines are carried out.
---     text_from          what all lines are answered on a way
---     IsOutcomeAdded     an outcome is added, unless one with its text is there
---     AreOutcomes        these are the outcomes of ways, each once
 use Rattle.std.specs.{Prelude.{◌≡◌, ◌≢◌, ◌⊎◌, ℕ, List, [], ◌∷◌, ◌++◌}, List.{All, concat}}
 use Rattle.xa_orders.specs.declared.{way.Way.Way, outcome.Outcome.Outcome}
 use Rattle.xa_orders.specs.Orders.{Told, told_text, AtMost, Pairwise, Any, IsAscending}

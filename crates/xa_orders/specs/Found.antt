@@ -1,15 +1,6 @@
 -- The ways that a search keeps.
---     config_of            the configuration to which a way has come
---     IsReached            a way's order leads there
---     HasBy                a list has a way with this configuration, and an order that is at most this one
---     IsLevel              the ways that have carried out equally many lines: each configuration to which so many
---                          turns lead, with its least order
 --     IsTurn, IsNextOf     a way is another one with one more turn;  ways are what one more turn leads to, each
 --                          configuration with its least order
---     IsTurnAdded          the way to which a session's turn leads is added, or one with its configuration is there
---     AreDifferent         no two ways of a list have come to the same
---     HasDifferent         a list has so many ways of which no two have come to the same
---     IsSpread             it has more than allowed of which no two have come to the same
 --     IsWideNext, IsWide   one more turn leads to more ways than allowed;  orders of one length do
 use Rattle.std.specs.{Prelude.{◌≡◌, ◌≢◌, ◌⊎◌, ℕ, ◌<◌, Some, None, List, [], ◌∷◌, ◌++◌, length}, List.All}
 use Rattle.xa_orders.specs.{declared.way.Way.Way, Orders.{Told, Config, opening, turn, IsSession, LeadsTo, Precedes}}

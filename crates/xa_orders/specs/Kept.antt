@@ -1,5 +1,4 @@
 -- How the program keeps what it reads.
---     read_kept     what was read of a script
 use Rattle.xa_orders.specs.{declared.script.Script.Script, Scripts.Reading}
 
 -- what was read of a script, as definitions see it: without the rows that its lines write

@@ -3,14 +3,9 @@
 --     Told, Parts          a line;  the lines of a script: those before, those side by side, those after
 --     Config, opening      a server, and what each line side by side was answered;  the same before any of
 --                          them is carried out
---     turn                 the session's next line is carried out
---     LeadsTo              turns in this order lead from one configuration to another
---     Gives                an order of the lines side by side gives this outcome
 --     Precedes, AtMost     one order comes before another;  or is the same
 --     Pairwise, Any        a relation holds of each two of a list, the earlier one first;  a property holds
 --                          of one of a list
---     IsAscending          orders ascend
---     IsExplored           these are all outcomes, each once, with its least order, in the order of these
 use Rattle.std.specs.Prelude.{◌≡◌, ◌≢◌, ◌⊎◌, ℕ, ◌<◌, ◌≤◌, Bool, ◌==◌, ◌&&◌, Option, Some, List, [], ◌∷◌, ◌++◌, length}
 use Rattle.std.specs.{Prelude.{replicate, position, slice_get, slice_set}, List.{All, zip, concat}}
 use Rattle.std.specs.Option.{option_map, option_map_or}
@@ -72,6 +67,7 @@ carried_out session text config place =
 
 -- the configuration after the session's next line is carried out; None if it has none left
 unfoldable pub turn : List Told → Config → ℕ → Option Config
+-- the session's next line is carried out
 turn lines config session = option_map (λ place. carried_out session (text_at lines place) config place)
     (next_place session lines config.answers)
 

@@ -1,11 +1,6 @@
 -- How a script to be explored is read, and what is written for it.
 -- Every rule here is the project's own: docs/COMMANDS.md#explore.
 --     Reading, script_read       what was read so far;  what is read of a script
---     fault_text                 what is written for a faulty line
---     read_more                  what was read after one more line
---     parts_of                   the lines of the script's parts
---     explored_text              what is written for outcomes
---     IsExploredText             what is written for a script, and how exploring it ends
 use Rattle.std.specs.Prelude.{◌≡◌, ℕ, ◌+◌, Bool, ◌&&◌, if◌then◌else◌, Option, nat_eq, Result, Ok, Err, List, [], ◌∷◌}
 use Rattle.std.specs.{Prelude.{◌++◌, length, codes, decimal, IfSome}, Cmp.Lexicographic.pointwise}
 use Rattle.std.specs.Io.KnownBytes.{Keeps, Appends}
@@ -77,6 +72,7 @@ is_word word line = pointwise nat_eq (first_word (unblank line)) word && is_empt
 
 -- what was read after the line of this number
 unfoldable pub read_more : Reading → ℕ → List ℕ → Reading
+-- what was read after one more line
 read_more read number line =
     if is_comment_line line
     then read

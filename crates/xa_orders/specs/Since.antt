@@ -1,6 +1,4 @@
 -- Servers that are kept as the statements that lead to them.
---     state_after     the state after a statement that was carried out
---     state_since     the state after all statements that were carried out
 use Rattle.std.specs.Prelude.{List, fold}
 use Rattle.xa_server.specs.{State.State, Step.after}
 use Rattle.xa_orders.specs.declared.done.Done.{Done}

@@ -1,6 +1,5 @@
 -- Lines of sessions at a gate.
 --     opened_each, all_opened     the gate can let in each line of each session
---     shut_beside                 it can stop one of them
 use Rattle.std.proofs.Common.{◌≡◌, ℕ, zero, suc, Bool, ◌+◌, ◌<◌, ◌≤◌, List, [], ◌∷◌, ◌++◌, length, map, take, drop}
 use Rattle.std.proofs.{Common.{Some, refl, ap, sym, ◌∙◌, subst, inl, inr, arith}, lemmas.Bool.cases_lt}
 use Rattle.std.proofs.lemmas.{Option.{none-some, same_Some}, List.Elements.{All-head, All-tail}}

@@ -1,5 +1,4 @@
 -- The order in which the lines of a race that is counted have their turns.
---     itself            what a line says
 --     counted_goes      turns of all lines that are left lead to the end of the history
 use Rattle.std.{proofs.Common.{◌≡◌, ℕ, Some, List, [], length, refl, ap, sym, ◌∙◌, arith}, specs.Prelude.slice_get}
 use Rattle.std.specs.List.{All}

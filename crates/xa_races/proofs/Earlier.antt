@@ -1,8 +1,4 @@
 -- Answers of a race, as those of a history that begins with it.
---     earlier          an answer, so many places earlier
---     state_over       the state after two histories
---     legal_earlier    a session that has seen all of a history is answered legally in what comes behind
---     laid_earlier     what is written for answers has no place
 use Rattle.std.proofs.Common.{◌≡◌, ℕ, zero, suc, Bool, true, false, cond, ◌+◌, ◌-◌, ◌≤◌, List, [], ◌∷◌, ◌++◌, length}
 use Rattle.std.proofs.Common.{map, take, refl, ap, sym, ◌∙◌, subst, arith, length-append}
 use Rattle.std.{proofs.lemmas.List.Elements.filter-append, specs.Prelude.slice_get}

@@ -1,5 +1,4 @@
 -- What a race leaves in the store.
---     lists_in                                              each session's answers
 --     ended_mine, ended_long, ended_few, ended_numbers, ended_holds     the sessions afterwards
 --     ended_opened                                          the gate can let in each line
 --     ended_raced, ended_by                                 the lines raced;  at a gate, with so much room

@@ -2,7 +2,6 @@
 --     all_more, numbered_more     one session more
 --     numbered, numbers_are       that sessions are numbered, as what each is and as one list
 --     IsNew, last_none, base_none     no session has seen anything, so neither has the last;  their state is empty
---     holds_none                  each has seen all of nothing
 use Rattle.std.proofs.Common.{◌≡◌, ℕ, ◌+◌, List, [], ◌∷◌, ◌++◌, length, map, refl, ap, sym, ◌∙◌, subst, arith}
 use Rattle.std.{proofs.lemmas.List.Elements.{All-nil, All-cons, All-head, All-tail, All-weaker}, specs.List.All}
 use Rattle.xa_words.specs.Entry.{Entry}

@@ -1,12 +1,6 @@
 -- Races of a script that are held at a gate, over stores of their own.
---     ends_beside      why a race of lines fails
 --     ends_same, ends_read     the same with an equal state and equal lines;  for all that the reader had
---     of_open          why a race that renews its store fails at a gate that is never shut
---     left_in          the state of an opened store is as `IsLeftIn` says
---     held_whole       one race of the parts
 --     held_none, held_next     races that were held, one after another
---     passed_on        a fault that is passed on
---     held_written     what is written for them
 use Rattle.std.proofs.Common.{◌≡◌, ℕ, Bool, true, false, Option, Result, Ok, Err, ◌+◌, ◌≤◌, ◌++◌, List, [], ◌∷◌, length}
 use Rattle.std.proofs.{Common.{refl, ap, sym, ◌∙◌, subst, inl, inr, IfSome, IfErr, OnOk}, lemmas.List.length_push}
 use Rattle.std.{proofs.lemmas.List.Elements.{All-nil, All-push}, specs.List.All}

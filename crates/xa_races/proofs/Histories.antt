@@ -1,6 +1,4 @@
 -- A history from a place on, and what a session has left to say there.
---     Said              a statement, and what it was answered
---     entries_of-other  a session's entries behind an entry of another session
 --     statements_in, answers_in     what a session's lines say;  what they were answered
 --     Remains           the session's lines that are left explain its entries from the place on
 --     Drained           the first line that is left doesn't stand at the place without entering there

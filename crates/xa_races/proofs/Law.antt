@@ -1,8 +1,5 @@
 -- What lines were answered in a race, some order of them gives.
---     Leads            turns lead to these texts
 --     raced_leads      turns lead to what lines that raced were answered
---     one_line         one line that raced has the answer and the state of the sequential server
---     came_given       what came of parts is given by an order
 --     came_outcome, came_listed     it is the text of an explored outcome;  it is among their texts
 use Rattle.std.proofs.Common.{◌≡◌, ℕ, suc, ◌+◌, ◌≤◌, ◌==◌, ◌&&◌, Bool, true, false, not, cond, Option, Some, None, List}
 use Rattle.std.proofs.Common.{[], ◌∷◌, ◌++◌, length, map, refl, ap, sym, ◌∙◌, subst, inl, inr, arith, append-nil}

@@ -1,16 +1,12 @@
 -- Sessions take turns at their lines, each of which is answered as it is to be in the end.
---     Agrees         lines, what they were answered so far, and what they are to be answered in the end
 --     Owed, left     what a line says and is to be answered;  what a session's lines that weren't carried out say, and
 --                    are to be answered
---     empties        how many lines weren't carried out
 --     Next, next     what is so once a session's first line without an answer got one;  that line can get it
 --     Lines, said_text, owed_by     what each session has left to say;  the printed answer of a line;  its lines, each
 --                    with that answer
 --     Stands, Goes   how things stand;  turns lead from there to the end
 --     emits          a line of a session has its turn
---     all_filled     no session has a line left, so all lines were carried out
 --     all_empty, opening_agrees, opening_left     no line was carried out yet
---     said_of        statements, each with its answer
 --     laid_one, laid_none     the answers laid out along lines, and along none
 use Rattle.std.proofs.Common.{◌≡◌, ◌≢◌, ◌⊎◌, ℕ, zero, suc, ◌+◌, ◌<◌, ◌≤◌, ◌==◌, ◌&&◌, Bool, true, false, cond, Option}
 use Rattle.std.proofs.Common.{Some, None, Result, Ok, List, [], ◌∷◌, ◌++◌, length, map, drop, replicate, decimal, refl}

@@ -1,7 +1,4 @@
 -- Entries that are put to their places.
---     Fits            an entry is that of a list at a place, and is of a session up to a number
---     HasOnly         each place that has an entry has one that fits there
---     IsWithin        an entry fits at its place, counted from the place where the list begins
 use Rattle.std.specs.Prelude.{◌≡◌, ◌≤◌, ◌-◌, ℕ, Option, Some, List, slice_get}
 use Rattle.xa_words.specs.Entry.{Entry}
 use Rattle.xa_races.specs.declared.added.Added.{Added}

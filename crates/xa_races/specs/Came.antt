@@ -1,23 +1,11 @@
 -- What is written for several races of a script.
 -- Every rule here is the project's own: docs/COMMANDS.md#race-statistics.
---     IsRunCount         how many races there may be
---     ways_limit         how many ways may differ when all outcomes are explored
---     times              how often a text came
---     came_text          what is written for an outcome that came so often
---     came_texts         what is written for the outcomes of a list that came
---     count_seen         how many texts of a list came
 --     seen_text, some_seen_text     what is written for a list, with how many outcomes there are;  without that
---     HaveCome           these are so many texts that races gave
 --     IsSeenOfAll, IsSeenOfSome     a text is what is written for races, if all outcomes are known;  if they
 --                                   aren't
---     IsPartsCome        one of the two
 --     IsRunsTold, IsRunsText     what is written for races of a script, and how they end
---     IsSomeRunsText     what is written for them, however they end
---     ComesBefore        a text comes before another one, byte by byte
 --     AppendsRuns, AppendsRunsPrefix     the writer got that text, or a prefix of it
---     IsWellRead         no line of the script is faulty
 --     IsOfRace, IsOfRuns     a fault with which a race ends;  a fault before anything is written
---     AfterRunsFault     what the writer got after a fault
 use Rattle.std.specs.Prelude.{◌≡◌, ℕ, zero, suc, ◌+◌, ◌≤◌, nat_lt, nat_eq, Bool, false, count_by, Option, List, [], ◌∷◌}
 use Rattle.std.specs.{Prelude.{◌++◌, length, map, codes, decimal, IfSome, ◌⊎◌}, List.{All, Contains}}
 use Rattle.std.specs.{Cmp.Lexicographic.pointwise, declared.cmp.Ordering.Ordering, Io.KnownBytes.{Keeps, Appends}}
@@ -49,6 +37,7 @@ came_text number (suc more) text =
 -- the outcomes of the list that came, each with its number and how often it came; the first of the list, also if it
 -- didn't come, has this number
 unfoldable pub came_texts : ℕ → List (List ℕ) → List (List ℕ) → List ℕ
+-- what is written for the outcomes of a list that came
 came_texts number came [] = []
 came_texts number came (text ∷ listed) = came_text number (times text came) text ++ came_texts (number + 1) came listed
 

@@ -1,5 +1,4 @@
 -- The state in which the sessions of a store are.
---     base_of       the state after all that the last session has seen
 use Rattle.xa_server.specs.State.{State, no_state}
 use Rattle.xa_session.specs.Replay.{state_after}
 use Rattle.xa_races.specs.{Long.seen_by_last, declared.counted_opened.Opened.Opened}

@@ -1,10 +1,4 @@
 -- What the program keeps of a race of lines.
---     list_at            the list at a place
---     answers_of         the answers of a session
---     AreWithin          lines of the sessions from 1 to a number, and of none above 16
---     AreNumbered        sessions of consecutive numbers
---     numbers_from       so many consecutive numbers
---     AreRunsOf          the runs of these sessions
 use Rattle.std.specs.{Prelude.{◌≡◌, ◌≤◌, ◌+◌, ◌-◌, ℕ, zero, suc, List, [], ◌∷◌}, List.All}
 use Rattle.xa_session.specs.declared.answer.Answer.{Answer}
 use Rattle.xa_endless.specs.declared.session.EndlessSession.{EndlessSession}

@@ -1,13 +1,6 @@
 -- Races of lines that several sessions give.
 -- Every rule here is the project's own: docs/COMMANDS.md#race-statistics.
---     statements_of      the statements that a session gives
---     line_text          what is written for a line with this answer
---     rank_in            how many lines a session gives
---     laid_texts         what is written for each line
 --     IsReadLine, AreRead     a line's statement is read;  those of all parts are
---     IsRaced            lines raced, and this was written for each
---     GivesRaced         the same as one text
---     HasCome            what all lines were answered in a race of the parts
 use Rattle.std.specs.Prelude.{◌≡◌, ℕ, Bool, false, cond, ◌==◌, count_by, Option, Some, None, Result, Ok, Err, List, []}
 use Rattle.std.specs.{Prelude.{◌∷◌, ◌++◌, slice_get, decimal}, List.{All, concat, filter_map}}
 use Rattle.xa_xid.specs.declared.statement.Statement.{Statement}
@@ -31,6 +24,7 @@ statement_by session told = cond (told.session == session) (statement_in (read_o
 
 -- the statements that the session gives, in order
 unfoldable pub statements_of : ℕ → List Told → List Statement
+-- the statements that a session gives
 statements_of session lines = filter_map (statement_by session) lines
 
 -- whether the statement that was read asks for identifiers in hexadecimal; false if none was read
@@ -51,6 +45,7 @@ rank_in lines session = count_by (λ told. told.session == session) lines
 -- what is written for each of these lines, which come after those in front: its session's answer at the place that is
 -- the number of that session's lines before it, or nothing if there is no such answer
 unfoldable pub laid_texts : List Told → (ℕ → List Answer) → List Told → List (List ℕ)
+-- what is written for each line
 laid_texts front answers [] = []
 laid_texts front answers (told ∷ lines) =
     line_text told (slice_get (answers told.session) (rank_in front told.session)) ∷ laid_texts

@@ -1,5 +1,4 @@
 -- The races that were held.
---     held_in      what all lines were answered in each of them, in order
 use Rattle.std.specs.Prelude.{ℕ, List, map}
 use Rattle.xa_races.specs.declared.counted_parts.Course.{Course}
 

@@ -1,11 +1,5 @@
 -- In which log or store, and with which gate, a race of a script is held.
---     HaveRoom        the runs' log has room for this number of entries
---     IsHeldInLog     a text is what is written for a race that was held in one log
---     IsHeldEndless   it is what is written for a race that was held over a store without an end
 --     EndsInLog, EndsEndless     a race was held, and ended with a fault
---     IsCaused        memory ran out, or such a race ended with this fault
---     AppendsHeld     if no line is faulty, the writer got such a text
---     IsCausedIn      a fault that only a race has is one with which such a race ended
 use Rattle.std.specs.{Prelude.{◌≡◌, ◌⊎◌, ℕ, Bool, Option, List, length, map}, List.All, Io.KnownBytes.Appends}
 use Rattle.xa_xid.specs.declared.statement.Statement.{Statement}
 use Rattle.xa_server.specs.State.{no_state}

@@ -1,20 +1,6 @@
 -- With which gate and with how much room races of a script are held that are counted, and why one fails.
 -- Every rule here is the project's own: docs/COMMANDS.md#race-statistics.
---     FitsIn           there is room for what a race adds
---     AllOpened        the gate can let in each line
---     IsRacedBy        lines raced at a gate, with room for so many entries
---     GivesRacedBy     the same as one text
---     IsLeftIn         a state is that after all that the last of some sessions has seen; their store has so many rows
---     IsHeldOnce       a text is what all lines were answered in one race of the parts
---     AreHeld          there are so many texts, each of which a race gave
---     IsSeenOf         what is written for the texts that came
---     AppendsHeldRuns  the writer got what is written for races that were held
---     IsShutBeside     the gate can stop a session at one of its lines
---     IsOverfull       lines add more than there is room for
---     EndsBeside       why a race of lines fails
---     EndsRuns         why races of a script fail
 --     IsOverlong, EndsLong     runs add more than there is room for;  why a race of runs fails
---     IsOfOpen         a fault that a race of one line has at a gate that is always open
 use Rattle.std.specs.Prelude.{◌≡◌, ◌<◌, ◌≤◌, ◌++◌, ◌⊎◌, ℕ, Bool, false, Option, List, length}
 use Rattle.std.specs.{List.{All, Contains, concat}, Io.KnownBytes.Appends}
 use Rattle.xa_words.specs.Entry.{Entry}

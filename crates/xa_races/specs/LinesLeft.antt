@@ -1,5 +1,4 @@
 -- What sessions have left of their lines, at each session's number.
---     with_lines     the lines of all sessions, with those of one replaced
 use Rattle.std.specs.Prelude.{ℕ, ◌==◌, cond, List}
 
 -- the lines of all sessions, with those of one session replaced; a line may be of any type

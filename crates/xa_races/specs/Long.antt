@@ -1,23 +1,4 @@
 -- A race over a store without an end.
---     known_in        what a session knows
---     IsAddedBy       an entry that a session added, at its place
---     WantsMemory     a session was let in, and its statement failed with NoMemory
---     HaltsAt         why a session's statement isn't answered
---     EndsOne         the statement is answered, or the run stops at it
---     SaysOne         what is noted of a statement that was answered
---     RunsOut         NoMemory has its cause at one of a session's statements
---     StopsAt         why a run stops, and that the session has done nothing after that
---     EndsAt          all statements were answered, or the run stopped
---     HasRaced        a session before its run, and what its thread returns
---     AreOfOne        sessions of one log
---     Keeps           a session is of its store, and has added nothing
---     HoldsAll        a session has seen a history, and has its own entries there
---     IsListed        an entry that was added is in the history
---     seen_by_last    what the last of some sessions has seen
---     Settles         the sessions have met, and the history is put together
---     IsLongOutcome   what a race over a store without an end gives
---     IsBlamed        one of the runs stopped with a fault
---     BlamesLong      why such a race fails
 use Rattle.std.specs.Prelude.{◌≡◌, ◌<◌, ◌≤◌, ◌++◌, [], ◌∷◌, ℕ, Bool, true, false, Option, Some, None, Result, Ok, Err}
 use Rattle.std.specs.{Prelude.{List, length, map, drop, slice_get}, List.{All, AllZip}}
 use Rattle.xa_xid.specs.declared.statement.Statement.{Statement}

@@ -1,10 +1,5 @@
 -- A race of lists of statements over a new store without an end.
 --     IsNewRun, AreNewRuns    a session that has seen nothing, with its statements;  those of consecutive sessions
---     AllAnswered             all statements of consecutive sessions were answered, legally in one history
---     AllLetIn                the gate can have let them all in
---     IsLongRace              what such a race gives
---     IsShutIn                the gate can stop one of the sessions
---     BlamesRace              why such a race fails
 use Rattle.std.specs.{Prelude.{◌≡◌, ◌<◌, ◌+◌, ℕ, Bool, Some, List, [], ◌∷◌, length, map, slice_get}, List.All}
 use Rattle.xa_xid.specs.declared.statement.Statement.{Statement}
 use Rattle.xa_words.specs.Entry.{Entry}

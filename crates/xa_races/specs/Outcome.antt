@@ -3,18 +3,9 @@
 -- `room` is `Some` number of entries for a race in one log, and `None` for a race over a store without an end, whose
 -- history has any length.
 --     history_text, answers_text   how a history and the answers are printed
---     AreAsked                     whether statements ask for identifiers in hexadecimal
---     outcome_text                 how an outcome is printed
---     IsHeld                       what a race of runs in one log gives
---     AreLists                     the statements of the sessions 1 to the last
 --     IsRacedInLog, IsRacedOn      a text is what is written for a race in one log;  over a store without an end
---     IsRaced                      one of the two
---     IsRaceText                   a text is what is written for a script
---     IsRaceTold                   a text is what is written for lines, by what is written for the faulty ones of them
 --     AppendsRace, AppendsRacePrefix      the writer got that text, or a prefix of it
 --     IsOfText, IsOfRace           a fault before anything is written;  a fault with which a race ends
---     script_fault_of              the fault that is returned for a race's fault
---     AfterRaceFault               what a fault leaves in the writer
 use Rattle.std.specs.Prelude.{◌≡◌, ◌≤◌, ◌⊎◌, ℕ, Bool, ◌+◌, Option, Some, None, List, [], ◌∷◌, ◌++◌, length, map, codes}
 use Rattle.std.specs.{Prelude.{decimal, IfSome}, Io.KnownBytes.{Keeps, Appends}}
 use Rattle.xa_statement.specs.Canonical.{statement_text}

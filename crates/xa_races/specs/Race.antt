@@ -1,8 +1,5 @@
 -- What a script gives to a race. Every rule here is the project's own: docs/COMMANDS.md#race.
 --     fault_place, faults_text     where a line is faulty;  what is written for all faulty lines
---     IsReadable                   no line is faulty, so a race is held
---     last_session                 the greatest session that a line names
---     statements_of                the statements that a session gives
 --     part_at, Gains               the list at a place;  lists of which each gets one item more, or none
 --     IsGiven, TakesLine, HasRead  lists are what the sessions give;  what reading a line adds;  a script is read
 --     IsRun, AreRuns               a session's run;  the runs of the sessions 1 to the last
@@ -47,6 +44,7 @@ session_in line = 0
 
 -- the greatest session that a line names, or 0 if no line names one
 unfoldable pub last_session : List (List ℕ) → ℕ
+-- the greatest session that a line names
 last_session [] = 0
 last_session (line ∷ lines) = max (session_in (line_of line)) (last_session lines)
 
@@ -62,6 +60,7 @@ statement_by session line = None
 
 -- the statements that a session gives, in order
 unfoldable pub statements_of : ℕ → List (List ℕ) → List Statement
+-- the statements that a session gives
 statements_of session lines = filter_map (λ line. statement_by session (line_of line)) lines
 
 -- the list at a place, or an empty list past the end

@@ -1,11 +1,4 @@
 -- How the program counts the texts that come.
---     texts_of           the texts of a list
---     once_if            1 if two texts are the same, else 0
---     counted_up         a tally after a text has come
---     Tallied            the list says how often each text came
---     AreFirst           the list before the first race
---     IsCounted          races were counted
---     tallies_text       what is written for a list
 --     counted_head, counted_text     the same, and how many of the list came;  and how many outcomes there are, if
 --                                    the list has all
 use Rattle.std.specs.Prelude.{◌≡◌, ℕ, ◌+◌, nat_eq, nat_lt, cond, Bool, true, false, List, [], ◌∷◌, ◌++◌, length, map}
@@ -51,6 +44,7 @@ pub record IsCounted (parts : Parts) (runs : ℕ) (came : List (List ℕ)) (old 
 
 -- the outcomes of a list that came; the first of the list, also if it didn't come, has this number
 unfoldable pub tallies_text : ℕ → List CameTally → List ℕ
+-- what is written for a list
 tallies_text number [] = []
 tallies_text number (one ∷ tallies) = came_text number one.came one.text.items ++ tallies_text (number + 1) tallies
 

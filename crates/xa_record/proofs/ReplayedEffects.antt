@@ -1,5 +1,4 @@
 -- The lines of an order along the moves that lead through the events.
---     Kept         at each session's number, the text of what it has called for that may still take effect
 use Rattle.std.proofs.Common.{◌≡◌, ℕ, zero, suc, ◌<◌, Option, Some, None, List, [], ◌∷◌, ◌++◌, length, codes, decimal}
 use Rattle.std.proofs.Common.{set, slice_get, replicate, refl, ap, sym, ◌∙◌, subst, inl, inr, arith}
 use Rattle.std.proofs.lemmas.Option.{none-some, same_Some, slice_get_within, cond_some}

@@ -1,9 +1,5 @@
 -- The committed values of rows, before and after a statement.
---     rows_left      a statement that leaves them as they are
---     row_named      after a `PUT` the keys with its own name all rows
 --     named_after, named_made     the same where the key was noted;  and after all rows and branches were made
---     is_listed      a text that is a server's listing
---     free_told      what a session that has nothing open is answered to `XA END`
 use Rattle.std.proofs.Common.{◌≡◌, ◌≢◌, ℕ, List, [], ◌∷◌, ◌++◌, ◌⊎◌, true, false, inl, inr, refl, ap, sym, ◌∙◌, subst}
 use Rattle.std.proofs.{Common.arith, lemmas.List.Elements.{Contains-append_left, Contains-append_right}}
 use Rattle.std.specs.{Prelude.{Option, Some, None}, List.Contains, Option.option_map_or, Ordering.eq_by_cmp}

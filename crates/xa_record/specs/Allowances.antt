@@ -1,13 +1,7 @@
 -- Known differences between a server and the rules, and how they are read.
 -- Every rule here is the project's own: docs/HISTORIES.md#allowances.
---     words_of          the words of a kind of statement
---     kind_of           the kind of a request
---     others_for        the rules' numbers for which a number that was seen may stand, in addition to its own
 --     no_kinds, kinds_after, kind_asked     the kind of what each session called for last: before the first event,
 --                       after one, and of a session
---     allowance_of      what a line allows
---     allowances_of     what the lines of a text allow, or the number of the first faulty line
---     IsAllowFaultOf    why a text couldn't be read
 use Rattle.std.specs.Prelude.{◌≡◌, ℕ, ◌+◌, ◌==◌, nat_lt, Bool, ◌&&◌, bytes_eq, if◌then◌else◌, Option, Some, None}
 use Rattle.std.specs.Prelude.{Result, Ok, Err, List, [], ◌∷◌, codes, replicate, slice_get, slice_set}
 use Rattle.xa_xid.specs.{Bytes.unblank, declared.statement.Statement.Statement}
@@ -141,6 +135,7 @@ allowance_from (Some rules) text = allowed rules (first_word text) (behind_word 
 -- what a text allows that doesn't begin with a blank: the rules' number, the words of a kind of statement
 -- with a colon, the server's number
 unfoldable pub allowance_of : List ℕ → Option Allowance
+-- what a line allows
 allowance_of text = allowance_from (number_of_word (first_word text)) (behind_word text)
 
 -- what one line allows, before what the others allow if none of them is faulty
@@ -173,6 +168,7 @@ allowances_in number (line ∷ lines) = first_allows (line_allows number line) (
 -- what the lines of a text allow, or the number of the first faulty one: neither an allowance, nor blank, nor a
 -- comment
 unfoldable pub allowances_of : List ℕ → Result (List Allowance) ℕ
+-- what the lines of a text allow, or the number of the first faulty line
 allowances_of text = allowances_in 1 (lines_of text)
 
 -- whether a fault is right for what the lines allow: `Line` has the number of the first faulty line; `NoMemory` may

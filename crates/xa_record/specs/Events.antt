@@ -1,10 +1,4 @@
 -- Which events the lines of a record say.
---     request_called     the request of a session that calls for a text
---     IsSeen             what is seen is what a return shows, with rows in ascending order
---     others_shown       the rules' numbers for which a refusal that is shown may stand, in addition to its own
---     IsEvent            an event is the one that a line tells
---     AreEvents          each event is the one that its line tells
---     AreCalls           the event of each call is that call
 use Rattle.std.specs.{Prelude.{◌≡◌, ℕ, Option, Result, Ok, Err, List, [], ◌∷◌}, List.AllZip}
 use Rattle.std.specs.List.Sorted.{IsPermutation, IsSorted}
 use Rattle.xa_xid.specs.{Xid.xid_cmp, declared.statement.Statement.Statement}

@@ -1,12 +1,5 @@
 -- What is written for an ILLEGAL line: what was seen there, and its call.
 -- Every rule here is the project's own: docs/HISTORIES.md#verdicts.
---     shown_text     what a return shows, as a reply
---     seen_line      a return as a line of a record, in canonical form
---     last_call      the last call of a session
---     call_line      a call as a line of a record, in canonical form
---     Exchange       what was seen, and the number and the line of its call
---     exchange_at    what was seen at a place, and the last call of its session before that
---     exchange_sought    the same, if it is asked for
 use Rattle.std.specs.Prelude.{ℕ, ◌==◌, Bool, true, false, if◌then◌else◌, Option, Some, None, List, [], ◌∷◌, ◌++◌, codes}
 use Rattle.std.specs.Prelude.{decimal, take, slice_get}
 use Rattle.xa_server.specs.declared.reply.Reply.TheVariants.{Value, Recovered}
@@ -34,6 +27,7 @@ is_call_by session told = false
 
 -- the last call of the session in a list, or `found` if the list has none
 unfoldable pub last_call : ℕ → Option NumberedEvent → List NumberedEvent → Option NumberedEvent
+-- the last call of a session
 last_call session found [] = found
 last_call session found (one ∷ more) =
     last_call session (if is_call_by session one.told then Some one else found) more

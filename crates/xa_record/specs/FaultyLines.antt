@@ -1,11 +1,5 @@
 -- Which lines of a record are faulty, and why: one rule for each line, by the lines before and after it.
 -- Every rule here is the project's own: docs/HISTORIES.md#records.
---     rows_due           how many rows are still to come after lines
---     said_by            what lines say that aren't in the place of a row
---     presence_said      whether a session has an open call or is lost, by what lines say
---     cause_said         why an event isn't possible after what lines say
---     fault_between      why a line is faulty that has these lines before it and those after it
---     faulty_text        what is written for the faulty lines
 use Rattle.std.specs.Prelude.{ℕ, zero, suc, ◌+◌, ◌==◌, nat_lt, Bool, true, false, if◌then◌else◌, Option, Some, None}
 use Rattle.std.specs.Prelude.{List, [], ◌∷◌, ◌++◌, length}
 use Rattle.xa_xid.specs.{Bytes.unblank, declared.xid.Xid.Xid}
@@ -27,6 +21,7 @@ due_after (suc due) line = if is_silent line then suc due else due
 
 -- how many rows are still to come after these lines, if so many were before them
 unfoldable pub rows_due : ℕ → List (List ℕ) → ℕ
+-- how many rows are still to come after lines
 rows_due due [] = due
 rows_due due (line ∷ lines) = rows_due (due_after due line) lines
 
@@ -37,6 +32,7 @@ said_alone (suc due) line = []
 
 -- what those of the lines say that aren't in the place of a row, if so many rows are to come before them
 unfoldable pub said_by : ℕ → List (List ℕ) → List LineSaid
+-- what lines say that aren't in the place of a row
 said_by due [] = []
 said_by due (line ∷ lines) = said_alone due line ++ said_by (due_after due line) lines
 

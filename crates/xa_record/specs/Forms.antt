@@ -1,9 +1,4 @@
 -- The forms of a report. Every rule here is the project's own: docs/HISTORIES.md#verdicts.
---     plain_text       as lines
---     text_value       a text as a JSON string
---     report_value     as a JSON object, with a definition for each of its keys
---     json_text        the text of that object, on one line
---     text_in          in the form that is asked for
 use Rattle.std.specs.Prelude.{ℕ, Option, Some, None, List, [], ◌∷◌, ◌++◌, codes, decimal, encode_utf8_all}
 use Rattle.json.specs.Json.{Json, string, number, array, object, Items, no_items, item, Members, no_members, member}
 use Rattle.json.specs.{Print.print, Tree.json_tokens}

@@ -1,17 +1,8 @@
 -- What judging a record comes to. Every rule here is the project's own: docs/HISTORIES.md.
 --     record_bytes, record_reads     the greatest length of a record;  the greatest number of reads
---     IsJudgement            a report is that of some right verdict on what the lines say
---     IsReportedOf           a report is right for lines without a fault; if they say nothing there is no
---                            verdict
---     IsReported             a report is right for lines: if some are faulty it is exactly these, each with its cause
---     IsReportedOfNotes      a report is right for what was read of lines: the faulty ones, or else the events
---     IsJudgedFrom           a record of this text, which begins in a state, ends so, and this is written for it
 --     AppendsJudgedFrom, AppendsJudgedPrefix      the writer got that text;  or a prefix of it
---     IsJudgedTextFrom       this may be written for a record of this text, however judging it ends
---     AfterJudgeFaultFrom    what a fault leaves in the writer
 --     IsJudged, AppendsJudged, IsJudgedText, AfterJudgeFault     the same of a record that begins with a server that
 --                            holds nothing
---     IsFaultOfJudging       a fault of judging: out of memory
 use Rattle.std.specs.{Prelude.{◌≡◌, ℕ, Option, List, [], ◌∷◌, IfSome}, Io.KnownBytes.{Keeps, Appends}}
 use Rattle.xa_server.specs.State.{State, no_state}
 use Rattle.xa_lines.specs.{declared.script_fault.ScriptFault.ScriptFault, Script.lines_of, Transcript.AppendsPrefix}

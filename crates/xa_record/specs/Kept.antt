@@ -1,14 +1,8 @@
 -- How the program keeps what it reads, as the definitions see it.
---     rows_kept                 the identifiers of these texts
 --     shown_kept, told_kept, line_kept      what a return shows;  an event;  what a line says
---     numbered_kept             an event, with its line's number
---     awaited_kept              rows that are still to come
---     notes_kept                what was read so far
 --     reason_kept, exchange_kept, grounds_kept, report_kept     what explains an illegal verdict;  what was seen, and
 --                               its call;  what is told beside the answers;  what is reported of a record
 --     text_told, text_at        the text of a call;  the text of the call at a place
---     calls_kept                at each session's number, the text that it called for last
---     with_place                at each session's number, the place of its last call, after an event
 use Rattle.std.specs.{Prelude.{ℕ, Option, Some, None, List, [], ◌∷◌, map, slice_get, slice_set}, Borrow.Bor}
 use Rattle.std.specs.Option.{option_map}
 use Rattle.xa_xid.specs.declared.xid.Xid.{Xid}

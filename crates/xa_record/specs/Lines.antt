@@ -1,12 +1,4 @@
 -- What a line of a record says. Every rule here is the project's own: docs/HISTORIES.md#records.
---     Shown            what a return shows
---     Told             an event of a session: it calls for a text, its call returns, or its client is gone
---     LineSaid         what a line says
---     is_silent        a line is blank, or a comment
---     trimmed          a text without the blanks at its end
---     reading_of_line  what a line says
---     is_bad           it isn't written as a line of a record is
---     is_no_row        a line in the place of a row isn't one
 use Rattle.std.specs.Prelude.{ℕ, nat_lt, Bool, true, false, not, ◌||◌, bytes_eq, if◌then◌else◌, Option, Some, None}
 use Rattle.std.specs.Prelude.{is_some, Ok, Err, List, [], ◌∷◌, codes, reverse}
 use Rattle.xa_xid.specs.{Bytes.unblank, Literal.{Reading, literal_ahead}, Xid.Text, declared.xid.Xid.Xid}
@@ -55,6 +47,7 @@ is_silent line = is_empty_line (unblank line) || is_comment_line line
 
 -- a text without the blanks at its end
 unfoldable pub trimmed : List ℕ → List ℕ
+-- a text without the blanks at its end
 trimmed text = reverse (unblank (reverse text))
 
 -- what is said, if no text follows; else the line is bad
@@ -112,6 +105,7 @@ filled_said (Given session text) = session_said session (first_word text) (behin
 
 -- what a line of a record says
 unfoldable pub reading_of_line : List ℕ → LineSaid
+-- what a line says
 reading_of_line line = if is_silent line then Nothing else filled_said (line_of line)
 
 -- whether a line isn't written as a line of a record is, by what it says

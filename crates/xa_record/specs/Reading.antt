@@ -3,17 +3,6 @@
 -- until all rows of that return have come, or the record ends, and comes after what is written for the return.
 --     session_of, presence_after, is_return_of     the session of an event;  whether that session is idle, has an open
 --                         call or is lost after it;  whether the event is a return to a session
---     cause_of            why an event isn't possible, by whether its session is idle, has an open call or is lost
---     fault_called        why a call is faulty if the texts of calls are tested
---     fault_text          what is written for a faulty line
---     Awaited             rows that are still to come, and the faulty lines among those that came
---     NumberedEvent       an event, with the number of its line
---     Notes               what was read so far
---     note_of             the notes after an event
---     note_closed         the notes after a connection was found closed
---     noted_line          the notes after a line
---     notes_by            the notes after the lines of a text, with the texts of calls tested or not
---     notes_of            the same without such a test
 use Rattle.std.specs.Prelude.{ℕ, zero, suc, ◌+◌, ◌-◌, ◌==◌, Bool, true, false, if◌then◌else◌, Option, Some, None}
 use Rattle.std.specs.Prelude.{Result, Ok, Err, List, [], ◌∷◌, ◌++◌, codes, decimal, slice_get, slice_set, replicate}
 use Rattle.std.specs.List.{insert}
@@ -209,6 +198,7 @@ noted_by strict (Some awaited) notes number line = noted_row notes awaited numbe
 
 -- the notes after the line of this number
 unfoldable pub noted_line : Bool → Notes → ℕ → List ℕ → Notes
+-- the notes after a line
 noted_line strict notes number line = noted_by strict notes.awaited notes number line
 
 -- the notes after these lines, the first of which has this number
@@ -225,6 +215,7 @@ ended_by (Some awaited) notes = blamed_too (blamed notes awaited.number LineFaul
 
 -- what was read of a record; if it is strict, each call has to be a statement
 unfoldable pub notes_by : Bool → List ℕ → Notes
+-- the notes after the lines of a text, with the texts of calls tested or not
 notes_by strict text = let notes = noted_lines strict no_notes 1 (lines_of text) in ended_by notes.awaited notes
 
 -- what was read of a record, whose calls don't have to be statements

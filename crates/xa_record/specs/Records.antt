@@ -1,14 +1,9 @@
 -- What the lines of a record tell, and which of them is the first faulty one: a rule for each kind of line
 -- and of fault.
 -- The rules know no order of reading; Reading.antt says how lines are read one by one. Texts of calls aren't tested.
---     RowsOf              so many rows are on these lines
---     on_next_line        an event, with the number of the line after these
 --     EndsInReturn, HasNoReturn      the last event, if there is one, is a return to the session;  no event is
 --     presence_in, Fits   whether a session has an open call or is lost after events;  an event is possible next
---     Tells               the lines tell these events, and none is faulty
 --     filled, AreRows     how many of the lines aren't silent;  each of the lines is silent, or a row
---     HasFault            the first faulty line has this number, for this cause
---     Begins              a text begins with this one
 use Rattle.std.specs.Prelude.{◌≡◌, ◌⊎◌, ℕ, suc, ◌+◌, ◌==◌, ◌<◌, ◌≤◌, true, false, if◌then◌else◌, Option, Some, None}
 use Rattle.std.specs.{Prelude.{List, [], ◌∷◌, ◌++◌, length}, List.AllByRecursion}
 use Rattle.xa_xid.specs.{Bytes.unblank, declared.xid.Xid.Xid}

@@ -1,19 +1,6 @@
 -- The script that is written for an order, and what its lines give.
 -- Every rule here is the project's own: docs/HISTORIES.md#verdicts.
 --     effect_line, order_lines     the line of an effect;  the lines of an order
---     joined                       lines, each with a line feed
---     GivesRequest                 a line gives a session's request
---     AnswersSo                    what `run` writes for a request
---     requested                    what an act of a session carries out
---     AreEffects                   the lines give what takes effect, in order, along moves that lead through
---                                  the events
---     IsWrittenBack                the canonical form of a statement is read as that statement
---     AreBare                      what sessions call for begins with no blank, and has no line feed
---     AreWellCalled                the same, and each supported statement among it is written back
---     IsAnswered                   what `run` writes for what takes effect
---     AnswersAlong                 the same for each effect, in order, along moves that lead through the
---                                  events
---     IsReplayed                   the same for the order of a legal verdict
 use Rattle.std.specs.Prelude.{◌≡◌, ◌≢◌, ℕ, ◌==◌, true, not, Option, Some, None, Ok, List, [], ◌∷◌, ◌++◌, codes, decimal}
 use Rattle.std.specs.{Prelude.slice_get, List.{AllByRecursion, list_all}}
 use Rattle.xa_xid.specs.{Bytes.unblank, declared.statement.Statement.Statement, XidText.IsWritable}
@@ -43,6 +30,7 @@ order_lines calls (numbered ∷ more) (Move.Event ∷ moves) = order_lines (with
 
 -- lines, each with a line feed
 unfoldable pub joined : List (List ℕ) → List ℕ
+-- lines, each with a line feed
 joined [] = []
 joined (line ∷ lines) = line ++ codes "\n" ++ joined lines
 

@@ -1,16 +1,5 @@
 -- What is reported of a record, in any form.
 -- Every rule here is the project's own: docs/HISTORIES.md#verdicts.
---     Reason              an order that explains what is before a line, and the store after it
---     Grounds             what is told beside the answers of an ILLEGAL verdict
---     Report              what is reported
---     outcome_of          which of the five ends it is
---     keys_named          the rows that calls name, each once, ascending
---     IsReason            the order explains what is before a place, and the store is the one after it
---     is_reason_asked     such a reason is asked for
---     IsReasonSought      if it is asked for, there is such a reason, unless too many configurations have to be
---                         kept before a place
---     AreGrounds          what is told beside the answers of an ILLEGAL verdict at a place
---     IsReportOf          what is reported of a verdict
 use Rattle.std.specs.Prelude.{◌≡◌, ℕ, Bool, true, false, not, ◌&&◌, Option, Some, None, List, [], ◌∷◌, take}
 use Rattle.std.specs.BTreeSet.{insert_key}
 use Rattle.xa_xid.specs.{Xid.bytes_cmp, declared.statement.Statement.Statement}

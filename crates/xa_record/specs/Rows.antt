@@ -1,7 +1,5 @@
 -- The rows of a return, as XA RECOVER CONVERT XID prints them: formatID, the lengths of gtrid and bqual, and
 -- the bytes of both together.
---     leading_number     the number of a text's first digits
---     row_said           the identifier that a line is
 use Rattle.std.specs.Prelude.{ℕ, ◌+◌, ◌==◌, ◌&&◌, nat_le, if◌then◌else◌, Option, Some, None, Result, Ok, Err, List, ◌∷◌}
 use Rattle.std.specs.Prelude.{take, drop}
 use Rattle.hex.specs.{Hex.decode_sized, declared.error.FromHexError.FromHexError}
@@ -11,6 +9,7 @@ use Rattle.xa_lines.specs.Script.{is_empty_line, first_word, behind_word, number
 
 -- the number of a text's first digits; None if there are none, if a zero stands before others, and for 2^64 or more
 unfoldable pub leading_number : List ℕ → Option ℕ
+-- the number of a text's first digits
 leading_number text = number_of_word (front (belongs Decimal) text)
 
 -- what a word has after its `0x`, where digits belong; None if it doesn't begin so
@@ -50,5 +49,6 @@ row_of first second third fourth =
 
 -- the identifier that a row is, from its first byte on that isn't a blank; None if it isn't a row
 unfoldable pub row_said : List ℕ → Option Xid
+-- the identifier that a line is
 row_said text =
     row_of text (behind_word text) (behind_word (behind_word text)) (behind_word (behind_word (behind_word text)))

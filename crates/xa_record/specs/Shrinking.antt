@@ -1,11 +1,5 @@
 -- A smaller record that no order explains either.
 -- Every rule here is the project's own: docs/HISTORIES.md#smaller-records.
---     chosen_text       some of the lines, in their order
---     is_illegal        a verdict says that no order explains what was seen
---     AreUnexplained    a right verdict on events is that no order explains them
---     IsUnexplained     no line of a record is faulty, and no order explains what its lines tell
---     IsSmaller         a record is made of some of the lines, and no order explains it
---     IsSmallerSought   there is one only if it is asked for
 use Rattle.std.specs.Prelude.{◌≡◌, ℕ, Bool, true, false, Option, Some, None, List, [], ◌∷◌, ◌++◌, codes}
 use Rattle.xa_xid.specs.Bytes.{unblank}
 use Rattle.xa_server.specs.State.{State}
@@ -21,6 +15,7 @@ line_if false line = []
 
 -- the lines that are chosen, in their order; lines without a choice aren't
 unfoldable pub chosen_text : List Bool → List (List ℕ) → List ℕ
+-- some of the lines, in their order
 chosen_text [] lines = []
 chosen_text (keeps ∷ more) [] = []
 chosen_text (keeps ∷ more) (line ∷ lines) = line_if keeps line ++ chosen_text more lines

@@ -1,7 +1,4 @@
 -- The state that a listing is of. Every rule here is the project's own: docs/HISTORIES.md#records-in-pieces.
---     NamesAllRows     each row that has a value is one of these
---     IsStateOf        the text lists the state: every branch, and rows, among them every row that has a value
---     leaves_rows      the session's statement leaves the committed values of rows as they are, as its kind shows
 use Rattle.std.specs.{Prelude.{◌≡◌, ◌≢◌, ℕ, Bool, true, false, None, List}, List.Contains}
 use Rattle.xa_xid.specs.declared.statement.Statement.{Statement, TheVariants.{Commit, Put, Del}}
 use Rattle.xa_server.specs.{declared.association.Association.Association, State.{State, committed_value}}

@@ -1,11 +1,4 @@
 -- How the parts of a verdict are written. Every rule here is the project's own: docs/HISTORIES.md#verdicts.
---     call_text          a statement in its canonical form, or else the text that a session called for
---     order_text         the effects of an order as a script
---     answer_text        an answer that was possible
---     texts_of           the texts of answers, each once, ascending by their bytes
---     answers_text       the COULD BE lines for these texts
---     line_number_at     the number of the line that tells the event at a place
---     line_text          the first line of a verdict that names a line
 use Rattle.std.specs.Prelude.{ℕ, true, Option, Some, None, Result, Ok, Err, List, [], ◌∷◌, ◌++◌, codes, decimal}
 use Rattle.std.specs.{Prelude.{slice_get, slice_set, replicate}, BTreeSet.insert_key}
 use Rattle.xa_xid.specs.{Xid.bytes_cmp, declared.statement.Statement.Statement}
@@ -50,6 +43,7 @@ effect_text calls session act = decimal session ++ codes " " ++ act_text act (sl
 -- the effects of an order, each on a line, if these events are still to happen, and the sessions called for these
 -- texts last before them
 unfoldable pub order_text : List (List ℕ) → List NumberedEvent → List Move → List ℕ
+-- the effects of an order as a script
 order_text calls numbered [] = []
 order_text calls numbered (Move.Effect session act ∷ moves) =
     effect_text calls session act ++ order_text calls numbered moves
@@ -77,6 +71,7 @@ texts_of answers = with_answers [] answers
 
 -- the COULD BE lines of an ILLEGAL verdict: one for each of these texts, in their order
 unfoldable pub answers_text : List (List ℕ) → List ℕ
+-- the COULD BE lines for these texts
 answers_text [] = []
 answers_text (text ∷ texts) = codes "COULD BE " ++ text ++ codes "\n" ++ answers_text texts
 

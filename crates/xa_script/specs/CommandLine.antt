@@ -1,13 +1,8 @@
 -- The command line of the program.
 --     capacity_rule and the like     an option or argument
 --     race_app and the like          a subcommand with its own options
---     script_app      the command and its subcommands
---     IsLocal         a command none of whose options is global
 --     IsCapacityText and the like    a text is a number in its range
 --     name_of, HasOptions            the name of a job's subcommand;  the values of its options say the job
---     IsJob           the job of a subcommand
---     Names           the job that the words of a command line name
---     CanBeDone       the numbers of a job are in their ranges
 --     audit_asked, ReadsInput      whether an audit is an object of JSON, of a job to audit;  the job isn't to audit
 use Rattle.std.specs.Prelude.{◌≡◌, ◌≢◌, ◌≤◌, ℕ, Bool, true, false, Option, Some, None, IfSome, List, [], ◌∷◌, codes}
 use Rattle.std.specs.{Option.IsSomeAnd, Str.Parse.{IsNumeral, digits_value, without_leading_plus}}

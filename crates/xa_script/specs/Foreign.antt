@@ -1,6 +1,5 @@
 -- Forms of a text whose lines are likely not read as its writer meant them. Every rule here is the project's own:
 -- docs/HISTORIES.md.
---     foreign_of    in which of these forms a text is, if it is in one
 use Rattle.std.specs.Prelude.{ℕ, Bool, true, false, not, ◌==◌, ◌&&◌, ◌||◌, nat_le, if◌then◌else◌, Option, Some, None}
 use Rattle.std.specs.{Prelude.{List, [], ◌∷◌}, List.list_any}
 use Rattle.xa_script.specs.declared.foreign.Foreign.{Foreign, TheVariants.{Marked, Utf16, Returns, Mixed}}

@@ -1,15 +1,6 @@
 -- What each job writes, and how it ends. `old` is what the writer had got before, where that is known.
---     End            a status or a fault
---     WritesAs       what is written with `--json`, and without
 --     AfterCame, AfterExploring, AfterStopping     what a fault of these jobs leaves in the writer
 --     HasRun, HasRaced, HasCame, HasJudged, HasExplored, HasStopped, HasAudited,
---     HasListed
---                    how each of these jobs ends, and what it leaves in the writer
---     HasRacedAll    how a race ends, held once or as often as is asked
---     HasConversed   how a job ends that answers line by line
---     IsFlushed      how a job ends, and what it leaves, behind a flush
---     HasDone        the same of any job that reads one input
---     IsLookedAt     the same where the lines that it reads are tested for faults
 -- Nothing here knows of `--verbose`, or of `--quiet` of `judge`: they change no byte of the output, as `--strict`
 -- doesn't, which changes a status alone (`HasListed`, `IsLookedAt`). `--quiet` of `audit` is in the audit's form.
 use Rattle.std.specs.Prelude.{◌≡◌, ◌⊎◌, ℕ, Bool, true, false, Option, Some, None, Result, Err, List, IfOk, IfSome, OnOk}

@@ -1,10 +1,4 @@
 -- The lines that a job reads and writes.
---     kind_of_lines    how a job reads its lines
---     most_bytes       how many bytes a line may have
---     form_of_job      the form of the lines that a job writes
---     form_of_lines    objects where they are asked for, else the form of the job's lines
---     form_of_texts    the form of the lines whose literals are written as texts, if some are
---     tells_length     whether the standard error says what is too long
 use Rattle.std.specs.Prelude.{ℕ, ◌-◌, ◌^◌, Bool, true, false, Option, Some, None}
 use Rattle.xa_lines.specs.declared.TheConstants.{LINE_BYTES}
 use Rattle.xa_script.specs.declared.{command.Job.Job, line_form.LineForm.LineForm, line_kind.LineKind.LineKind}

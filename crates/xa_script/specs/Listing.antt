@@ -1,12 +1,8 @@
 -- How the verdicts on several records are written, and with which status judging them ends. Every rule here is the
 -- project's own, but the form of TAP: the Test Anything Protocol, version 13.
 --     worse, worst_from    the worse of two statuses;  the worst of many
---     listed_line          a record as a line
 --     tap_point, tap_piece      a record as a test of TAP, without notes and with them
 --     piece, pieces        what is written for one of several records;  for many
---     heading              what is written before the first
---     is_list              whether verdicts are listed, a piece for each
---     only_of              the name of a single record
 use Rattle.std.specs.Prelude.{◌==◌, ◌+◌, ◌++◌, ◌∷◌, [], ◌||◌, if◌then◌else◌, nat_lt, ℕ, Bool, true, false, List, Option}
 use Rattle.std.specs.Prelude.{Some, None, codes, decimal}
 use Rattle.xa_lines.specs.Script.{lines_of}

@@ -1,9 +1,6 @@
 -- What a command line asks for.
---     IsManner     the manner that the values of the options give
 --     AreHistories, AreRecords      the files that they name, and how verdicts are listed
 --     IsLine, Says      all that was found for a subcommand;  all that the words say
---     HasExcess    more files than a job takes, or one that is named twice
---     ReadsLine    what is read of the words
 use Rattle.std.specs.Prelude.{◌≡◌, ◌≢◌, ◌<◌, ◌⊎◌, Option, None, List, [], codes, length, map, unwrap_or, Result}
 use Rattle.std.specs.{Prelude.MatchResult, Option.{IsSomeAnd, option_map}}
 use Rattle.clap.specs.Words.{HasKind, Row, Text, all_of, fault_of, first_of, one_of, subcommand_of}

@@ -1,9 +1,5 @@
 -- What a writer of texts has written, and has still to write.
---     sent_of        what was written, and what is due
---     known_of       what was written, what is due, and what has come of the line
---     IsEnded        what is written for a whole line
 --     Ends, Comes, Passes     bytes end a line;  come after those of a line;  pass unchanged
---     Takes          what a writer of texts does with the bytes that it takes: one of these three
 use Rattle.std.specs.Prelude.{◌≡◌, ◌≤◌, ◌<◌, ℕ, ◌+◌, true, false, not, List, [], ◌++◌, ◌⊎◌, length, take, drop, Option}
 use Rattle.std.specs.Io.KnownBytes.{Appends, append_known}
 use Rattle.xa_script.specs.declared.{line_form.LineForm.LineForm, texts.Texts.Texts}

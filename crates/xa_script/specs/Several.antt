@@ -1,12 +1,4 @@
 -- What is written for several records that are judged in one call, and how that ends.
---     IsVerdictOn          a verdict is right for a record
---     AreVerdicts          verdicts are right for records, one for each
---     ListsOne             one record more was judged and listed
---     IsListing            a text is what is written for records, and a status is their worst one
---     AppendsListing       the writer got such a text
---     ListsAll             the same, with what `--strict` makes of the status
---     AfterListing         what a fault leaves in the writer
---     judging_asked        what is asked of judging, if the job is to judge
 use Rattle.std.specs.Prelude.{◌≡◌, ◌+◌, ◌++◌, ◌∷◌, [], ℕ, Bool, Option, Some, None, List, length, map, IfSome}
 use Rattle.std.specs.Io.KnownBytes.{Keeps, Appends}
 use Rattle.xa_lines.specs.{Transcript.AppendsPrefix, declared.script_fault.ScriptFault.{ScriptFault, TheVariants.Write}}

@@ -1,24 +1,4 @@
 -- How the program ends.
---     status_after     the exit status after a fault
---     status_of_job    the exit status for how a job ended
---     strict_status    the exit status for whether a line was faulty
---     end_of           how a job ends whose lines were tested for faults
---     status_for       the exit status for how judging a record ended
---     AppendsVerdict   the writer got what is written for a record, and the status is for how judging it ended
---     status_of_end    the exit status for how exploring a script ended
---     AppendsOutcomes  the writer got what is written for a script that is explored, and the status is for how that
---                      ended
---     AppendsRaceBy    the writer got what is written for a race
---     AppendsCame      the writer got what is written for counted races, and the status is for how these ended
---     status_of_stops  the exit status for how stopping a coordinator ended
---     AppendsStopped   the writer got what is written for stops, and the status is for how stopping ended
---     status_of_audit  the exit status for how an audit ended
---     AppendsAuditBy   the writer got what is written for histories, and the status is for how their audit ended
---     AfterAuditing    what a fault leaves in the writer
---     audit_form       the form of an audit
---     form_of          the form of a verdict
---     asked_of         what is asked of judging
---     IsAllowedBy      what a text allows
 use Rattle.std.specs.Prelude.{◌≡◌, ◌==◌, ◌&&◌, ℕ, Bool, true, false, Option, Some, None, Result, Ok, Err, List, IfSome}
 use Rattle.std.specs.{Prelude.if◌then◌else◌, Io.KnownBytes.Keeps}
 use Rattle.xa_audit.specs.{Audits.{AppendsAudit, AppendsAuditPrefix}, declared.ended.Ended.Ended as AuditEnded}

@@ -1,10 +1,4 @@
 -- Which lines `--text` changes, and which are rows.
---     unfed          a line without its line feed
---     rows_after     how many rows a line says that the next lines are
---     is_whole_row   a row has all the bytes of its texts
---     keeps_line     which lines are written as they are
---     IsWrittenAs    what is written for a line that isn't a row
---     ends_line      the bytes that have come are a whole line
 use Rattle.std.specs.Prelude.{◌≡◌, ℕ, ◌+◌, ◌-◌, Bool, true, false, not, ◌&&◌, ◌||◌, ◌==◌, if◌then◌else◌, nat_le, nat_eq}
 use Rattle.std.specs.Prelude.{List, [], ◌∷◌, length, take, drop, Option, Some, None, Result, Ok, Err, codes, is_some}
 use Rattle.std.specs.List.{starts_with, ends_with}

@@ -1,9 +1,4 @@
 -- What `--text` writes in place of a line.
---     quoted          the text in quotes that stands for bytes
---     word_text       what is written for a word
---     with_texts      what is written for a line
---     IsTooLong       there is no room for so many bytes
---     IsWithTexts     a text is what is written for a line, or the line itself if there is no room
 use Rattle.std.specs.Prelude.{◌≡◌, ◌<◌, ◌⊎◌, ℕ, Bool, true, ◌==◌, ◌||◌, ◌&&◌, nat_le, if◌then◌else◌, List, [], ◌∷◌}
 use Rattle.std.specs.Prelude.{◌++◌, length, Ok, Err}
 use Rattle.xa_xid.specs.{Literal.{Reading, literal_ahead}, Xid.Text}

@@ -1,8 +1,4 @@
 -- Which lines aren't read, as `--strict` counts them.
---     is_silent      a line is blank, or a comment
---     is_unread_by   a line isn't one for a job that reads lines of this kind
---     kind_after     the kind that a line is of, and those after it until one of them changes it
---     is_unread      a line isn't read, by how long it may be, and by whether it is in the place of a row
 use Rattle.std.specs.Prelude.{ℕ, Bool, true, false, not, ◌&&◌, ◌||◌, if◌then◌else◌, nat_lt, nat_eq, Result, Ok, Err}
 use Rattle.std.specs.{Prelude.{List, [], length, codes}, Cmp.Lexicographic.pointwise}
 use Rattle.xa_xid.specs.{Bytes.unblank, declared.statement.Statement.Statement}

@@ -1,6 +1,4 @@
 -- What is wanted where a text stops being a statement.
---     goes_wrong_at    whether reading goes wrong at a place
---     takes_next       whether some statement goes on with a token behind a text that begins one
 use Rattle.std.specs.Prelude.{◌==◌, ◌++◌, ◌+◌, not, ℕ, Bool, false, List, Result, Ok, Err, length, codes}
 use Rattle.xa_xid.specs.declared.statement.Statement.{Statement}
 use Rattle.xa_statement.specs.Reading.{read_of}

@@ -1,10 +1,5 @@
 -- The numbers of refusals (MySQL 8.0 Reference Manual, 'Server Error Message Reference'; the XA codes are C193's return
 -- codes), and their texts (own rule).
---     number_of       the server's error number
---     sqlstate_of     its SQLSTATE, of five characters
---     xa_code_of      its XA return code, if it has one
---     state_text      the name of a branch's state, as the text of a refusal has it
---     message_of      the text of a refusal
 use Rattle.std.specs.Prelude.{ℕ, ℤ, negsuc, Option, Some, None, List, ◌++◌, codes}
 use Rattle.xa_server.specs.declared.xa_error.{XaError.XaError, BranchState.BranchState}
 

@@ -1,8 +1,5 @@
 -- Finishing a prepared branch: which statements do it, and at which places of a history a branch is finished or
 -- prepared.
---     Finishes        the statement finishes the branch, if it is accepted while the branch is PREPARED
---     FinishesAt      a place of a history at which a prepared branch is finished
---     PreparesAt      a place at which a branch is prepared
 use Rattle.std.specs.Prelude.{◌≡◌, ℕ, true, false, Some, List, take, slice_get}
 use Rattle.xa_xid.specs.declared.{xid.Xid.Xid, statement.Statement.{Statement, TheVariants.{Prepare, Commit, Rollback}}}
 use Rattle.xa_server.specs.{declared.reply.Reply.Reply, State.{State, is_prepared}, Replies.reply_to, Step.after_all}

@@ -1,10 +1,4 @@
 -- The branches, and the rows that a branch holds, by the records.
---     recorded_entry     a branch without its rows, by its record
---     hold_in            how this branch holds a row, if it does, by the row's lock
---     with_held          a list of held rows with one more in front, if that one is held
---     held_among         the rows that this branch holds, of those in a list of records
---     held_recently      the same, of those in a list of the records of recent rows
---     recorded_entries   every branch, by its record
 use Rattle.std.specs.{Prelude.{ℕ, cond, Option, Some, None, List, [], ◌∷◌, map}, Option.option_map_or}
 use Rattle.xa_xid.specs.{declared.xid.Xid.Xid, Xid.same_xid}
 use Rattle.xa_server.specs.declared.{branch.BranchRecord.BranchRecord, hold.{Hold.Hold, HeldRow.HeldRow}}

@@ -1,6 +1,4 @@
 -- Words of the laws of every state and every history.
---     IsPreparedBetween    there is an accepted XA PREPARE of the branch between two places of a history
---     LeavesSession        what a session has open is as it was
 use Rattle.std.specs.Prelude.{◌≡◌, ℕ, ◌<◌, true, List}
 use Rattle.xa_xid.specs.declared.{xid.Xid.Xid, statement.Statement.Statement}
 use Rattle.xa_server.specs.{State.{State, owns, own_xid, phase_at, association_of}, Finish.PreparesAt}

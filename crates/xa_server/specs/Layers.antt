@@ -1,12 +1,7 @@
 -- Rows in layers: the records of the rows that were touched lately, and below them runs that never change.
 --     RecentMap, Writes      the records of the recent rows;  what a run has, each by key
 --     change_of, change_at   what a record makes of the value below it
---     recent_lock            who holds a row, by its record
---     row_over               a row, by its record and the value below it
---     layered                all rows, by the records and the values below
---     under                  the values of runs, the newest first
 --     first_of, merged_at    what two runs have for a key:  as they are;  merged into one
---     gathered               what is found in each of a list of entries, in their order
 --     value_of, hides_below, freed_recent, is_needed_over, held_as_below      the parts of what the records do
 use Rattle.std.specs.Prelude.{ℕ, Bool, true, false, not, cond, ◌||◌, Option, Some, None, List, [], ◌∷◌}
 use Rattle.std.specs.{Option.{option_and_then, unwrap_or}, Ordering.eq_by_cmp}
@@ -58,6 +53,7 @@ over_entries (e ∷ es) below = with_row e.0 (row_over (Some e.1) (map.get below
 
 -- all rows, by the records of recent ones and the values below
 unfoldable pub layered : RecentMap → map.FinMap bytes_cmp Text → RowMap
+-- all rows, by the records and the values below
 layered recent below = over_entries (map.entries recent) below
 
 -- the values of runs, the newest first: what a run has of a row hides what older runs have

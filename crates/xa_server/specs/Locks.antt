@@ -1,11 +1,5 @@
 -- The branches that hold a row, and the lock law that every state of a server keeps.
---     lock_at              how the branch holds the row, if it does
 --     holds, holds_exclusively      whether the branch holds the row, in either way;  exclusively
---     is_held_against      whether a branch that isn't the session's own holds the row, in either way
---     is_locked_against    whether such a branch holds it exclusively
---     LockLaw              what every state of a server keeps
---     is_exclusive         whether a branch's hold of a row is exclusive
---     is_another           the branch isn't the session's own
 use Rattle.std.specs.{Prelude.{◌≡◌, ℕ, Bool, true, false, not, ◌&&◌, Option, Some, None, List, is_some}, List.list_any}
 use Rattle.std.specs.Option.{option_and_then}
 use Rattle.xa_xid.specs.{declared.xid.Xid.Xid, Xid.same_xid}
@@ -39,11 +33,13 @@ is_another (Idle own) xid = not (same_xid xid own)
 
 -- a branch that isn't the session's own holds the row, in either way
 unfoldable pub is_held_against : State → Association → List ℕ → Bool
+-- whether a branch that isn't the session's own holds the row, in either way
 is_held_against state association key =
     list_any (λ xid. is_another association xid && holds state xid key) (map.keys state.branches)
 
 -- a branch that isn't the session's own holds the row exclusively
 unfoldable pub is_locked_against : State → Association → List ℕ → Bool
+-- whether such a branch holds it exclusively
 is_locked_against state association key =
     list_any (λ xid. is_another association xid && holds_exclusively state xid key) (map.keys state.branches)
 

@@ -1,10 +1,6 @@
 -- A state as a person looks at it.
 --     entry_of, branches_of      a branch without its rows;  every branch, ascending
---     hold_of                    how a branch holds a row, by its newest write of the row
 --     rows_held, rows_of         the rows that a branch holds, ascending;  that the branch of an identifier holds
---     keys_of                    the keys of these rows
---     keys_about                 the keys of the rows that a statement is about
---     keys_open                  the keys of the rows that the session's branch holds
 use Rattle.std.specs.{Prelude.{ℕ, Option, Some, None, List, [], ◌∷◌, map}, Option.option_map_or}
 use Rattle.xa_xid.specs.declared.{xid.Xid.Xid, statement.Statement.Statement}
 use Rattle.xa_server.specs.declared.{hold.{Hold.Hold, HeldRow.HeldRow}, overview.BranchEntry.BranchEntry}
@@ -54,6 +50,7 @@ keys_open state (Idle own) = keys_of (rows_of state own)
 -- and XA ROLLBACK those that the named branch holds; of DISCONNECT those that the session's branch holds; of others
 -- none
 unfoldable pub keys_about : State → ℕ → Statement → List (List ℕ)
+-- the keys of the rows that a statement is about
 keys_about state session (Statement.Commit xid one_phase) = keys_of (rows_of state xid)
 keys_about state session (Statement.Rollback xid) = keys_of (rows_of state xid)
 keys_about state session (Statement.Get key) = key ∷ []

@@ -1,5 +1,4 @@
 -- Rows that are packed: bytes with their keys and values, and the places where each row is among these.
---     PackedRow            a row of a run: its key, and its value, if it wasn't deleted
 --     row_of, rows_of      the row of a place, the rows of places
 --     end_of, Fits         where a row ends;  that it ends within the bytes, and its value isn't too long
 --     seen, FitsText       a row that is looked at;  that its value isn't too long

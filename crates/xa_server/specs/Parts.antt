@@ -1,10 +1,8 @@
 -- The values of rows in parts: each key belongs to one of 64.
 --     with_byte, part_of     a number after one more byte;  the part of a key
---     of_part                what a part has of its own keys
 --     in_parts, parted       the same of each part, from the one with this number on;  the values of all parts
 --     only, sorted_out       the writes to rows of one part;  of each part
 --     first_part, other_parts      the first of some parts;  the others
---     all_rewritten          all parts after writes to the rows of each
 --     rows_at, AllAscend     the writes to the rows of one of several parts;  each part's are in order
 use Rattle.std.specs.Prelude.{◌≡◌, true, ◌+◌, ◌*◌, ◌/◌, ◌%◌, ◌^◌, ◌==◌, ℕ, zero, suc, cond, List, [], ◌∷◌, Some, None}
 use Rattle.std.specs.{Prelude.{filter, fold}, FinMap.is_sorted}
@@ -26,6 +24,7 @@ part_of key = (fold with_byte 0 key / 65536) % 64
 
 -- what a part has of the keys that belong to it, as a run
 unfoldable pub of_part : ℕ → Values → Writes
+-- what a part has of its own keys
 of_part number values =
     gather (λ (row : List ℕ × Text). cond (part_of row.0 == number) (Some (Some row.1)) None)
     (mapped (λ key value. (key, value)) values)

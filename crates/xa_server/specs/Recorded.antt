@@ -1,5 +1,4 @@
 -- The record of a row, as contracts see it.
---     RowRecord      the committed value of a row, if it has one, and the branches that hold it
 use Rattle.std.specs.Prelude.{Option}
 use Rattle.xa_xid.specs.Xid.{Text}
 use Rattle.xa_server.specs.declared.lock.Lock.{Lock}

@@ -1,7 +1,5 @@
 -- The reply to each statement, in each state of a session.
 --     ok_if, refused_if      OK or a refusal by a test;  a refusal by a test, or else another reply
---     table      the table of replies, by statement and state of the session
---     reply_to   the reply to a session's statement
 use Rattle.std.specs.Prelude.{ℕ, Bool, true, false, not}
 use Rattle.xa_xid.specs.{Xid.same_xid, declared.statement.Statement.{Statement, TheVariants.{Start, End, Prepare}}}
 use Rattle.xa_xid.specs.declared.statement.Statement.TheVariants.{Commit, Rollback, Recover, Unsupported, Get, Put, Del}
@@ -30,6 +28,7 @@ refused_if false error reply = reply
 -- of the refusals, the reply to an identifier that isn't the session's, ONE PHASE of a PREPARED branch, and the
 -- statements about rows are our own rules.
 unfoldable pub table : State → Association → Statement → Reply
+-- the table of replies, by statement and state of the session
 table state Free (Start xid) = refused_if (is_known state xid) Dupid Accepted
 table state (Active own) (Start xid) = Refused (Rmfail StateActive)
 table state (Idle own) (Start xid) = Refused (Rmfail StateIdle)
@@ -64,4 +63,5 @@ table state association Disconnect = Accepted
 
 -- the reply to a session's statement
 unfoldable pub reply_to : State → ℕ → Statement → Reply
+-- the reply to a session's statement
 reply_to state session statement = table state (association_of state session) statement

@@ -1,5 +1,4 @@
 -- The branches that share a row, as its record keeps them.
---     set_of        the set of these branches
 use Rattle.std.specs.FinSet as set
 use Rattle.xa_xid.specs.Xid.{xid_cmp}
 use Rattle.xa_server.specs.declared.sharers.Branches.{Branches, TheVariants.{Nobody, One, Several}}

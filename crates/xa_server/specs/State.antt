@@ -2,18 +2,9 @@
 --     Write, LockMode, RowLocks     what a branch does to a row at its commit;  how it holds a row;  the rows that it
 --                                   holds
 --     Branch, State        a transaction branch;  all branches, and the committed values of all rows
---     no_state             no branch, no row
 --     is_known, is_prepared      whether a branch has this identifier;  and is PREPARED
---     is_prepared_phase    whether a phase is PREPARED
---     association_in       what a session has open whose branch is in this phase
---     owns                 whether the session owns the branch of an identifier
---     association_of       what the session has open
---     IsOpen               the branch that an association names is in that phase
 --     committed_value, value_within      the value of a row as all see it;  as the branch sees it
---     prepared_xids        the prepared branches, ascending
 --     phase_at, owner_at   the phase of the branch of an identifier;  the session that owns it
---     own_xid              the branch that a session owns
---     write_at             the branch's own newest write of a row
 use Rattle.std.specs.Prelude.{◌≡◌, ℕ, Bool, true, false, ◌==◌, Option, Some, None, List, find, filter}
 use Rattle.std.specs.Option.{option_map_or, option_and_then, option_map, unwrap_or}
 use Rattle.xa_xid.specs.{declared.xid.Xid.Xid, Xid.{Text, bytes_cmp, xid_cmp}}
@@ -51,6 +42,7 @@ pub record State : Type 0 where
 
 -- the empty store: no branch, no row
 unfoldable pub no_state : State
+-- no branch, no row
 no_state = record { branches = map.empty; rows = map.empty }
 
 -- whether a branch has this identifier
@@ -81,6 +73,7 @@ owns state session xid = option_map_or (λ owner. owner == session) (owner_at st
 
 -- the identifier of the branch that the session owns; None if it owns none
 unfoldable pub own_xid : State → ℕ → Option Xid
+-- the branch that a session owns
 own_xid state session = find (owns state session) (map.keys state.branches)
 
 -- what a session has open whose branch is in this phase; nothing if it has none (None), or if the branch is PREPARED,
@@ -94,6 +87,7 @@ association_in (Some Phase.Prepared) xid = Association.Free
 -- what the session has open: the branch that it owns, with its phase, or nothing if it is free (manual, 'XA Transaction
 -- States')
 unfoldable pub association_of : State → ℕ → Association
+-- what the session has open
 association_of state session =
     option_map_or (λ xid. association_in (phase_at state xid) xid) (own_xid state session) Association.Free
 
@@ -112,6 +106,7 @@ value_within state xid key = unwrap_or (write_at state xid key) (committed_value
 -- the identifiers of the prepared branches of the whole resource manager, ascending (manual, XA RECOVER; the order is
 -- our own)
 unfoldable pub prepared_xids : State → List Xid
+-- the prepared branches, ascending
 prepared_xids state = filter (is_prepared state) (map.keys state.branches)
 
 -- the branch that an association names is in the phase that it names; of `Free`, which names none, nothing is asked

@@ -1,16 +1,6 @@
 -- What each statement does, and what a history of statements leaves.
---     effect          what an accepted statement does to the state
---     after           the state after a session's statement
---     Step            state, session, statement, reply and new state belong together
---     enters          whether the statement is logged
---     after_all       the state after a history
---     may_take_memory     carrying the statement out may take memory
 --     with_branch, with_changed, without_branch    the state with a branch set;  with one changed;  with one gone
 --     is_refused, is_list, is_recover      the reply is a refusal;  a list;  the statement is an XA RECOVER
---     committed       the state after a branch's commit
---     row_written     the state after a write, at once or in a branch
---     may_enter       whether the statement is logged if it is accepted
---     makes_record    carrying the statement out may make a record or add to one, if it is accepted
 use Rattle.std.specs.Prelude.{◌≡◌, ℕ, Bool, true, false, cond, not, ◌&&◌, ◌||◌, Some, None, List, [], ◌∷◌}
 use Rattle.std.specs.Option.{option_map_or}
 use Rattle.xa_xid.specs.{declared.{xid.Xid.Xid, statement.Statement.Statement}, Xid.{Text, bytes_cmp}}
@@ -48,6 +38,7 @@ with_writes (write ∷ writes) rows = with_write write.0 write.1 (with_writes wr
 
 -- the state after the branch's commit: its writes are the committed values, and it is gone with its locks
 unfoldable pub committed : State → Xid → State
+-- the state after a branch's commit
 committed state xid =
     option_map_or (λ branch. record (without_branch state xid)
     { rows = with_writes (map.entries branch.writes) state.rows })
@@ -76,6 +67,7 @@ row_written state (Idle own) key write = state
 -- what an accepted statement does, one line for each statement (the phases are the manual's and C193's; rows and
 -- DISCONNECT are our own)
 unfoldable pub effect : State → ℕ → Association → Statement → State
+-- what an accepted statement does to the state
 effect state session association (Statement.Start xid) = with_branch state xid (started_by session)
 effect state session association (Statement.End xid) = with_changed state xid
     (λ branch. record branch { phase = Phase.Idle })
@@ -103,6 +95,7 @@ unless_refused (Reply.Refused error) old new = old
 
 -- the state after a session's statement
 unfoldable pub after : State → ℕ → Statement → State
+-- the state after a session's statement
 after state session statement = unless_refused (reply_to state session statement) state
     (effect state session (association_of state session) statement)
 
@@ -125,6 +118,7 @@ is_list reply = false
 -- whether the statement, if it is accepted, is logged (own rule): XA RECOVER and unsupported ones never are; GET is
 -- only in an ACTIVE branch that doesn't hold the row yet, DISCONNECT only if it ends a branch; all others are
 unfoldable pub may_enter : State → Association → Statement → Bool
+-- whether the statement is logged if it is accepted
 may_enter state association (Statement.Start xid) = true
 may_enter state association (Statement.End xid) = true
 may_enter state association (Statement.Prepare xid) = true
@@ -143,6 +137,7 @@ may_enter state (Idle own) Statement.Disconnect = true
 
 -- whether the statement is logged: it isn't refused, and is one of those that are logged if they are accepted
 unfoldable pub enters : State → ℕ → Statement → Bool
+-- whether the statement is logged
 enters state session statement =
     not (is_refused (reply_to state session statement)) && may_enter state (association_of state session) statement
 

@@ -1,17 +1,4 @@
 -- The records of branches as a finite map.
---     BranchMap              the records by identifier
---     owner_of               the session that owns the branch of an identifier, if it has an owner
---     phase_in               the phase of the branch of an identifier
---     opened_at              what a session has open, by the index
---     named_in               the branch that an association names
---     idle_of                what a session has open after XA END
---     with_record            the records with one changed, if there is one
---     without_last           a list of keys without its last one
---     prepared_keys          the identifiers of the PREPARED branches in a list of records
---     is_prepared_at         the branch of an identifier is PREPARED
---     prepared_among         the identifiers of the PREPARED branches, ascending
---     IsIndexed              the index has exactly the branches that have owners, each at its owner's place and in its
---                            phase
 use Rattle.std.specs.Prelude.{◌≡◌, ℕ, ◌-◌, Bool, false, cond, [], ◌∷◌, filter, Option, Some, None, List, slice_index_or}
 use Rattle.std.specs.{Prelude.{take, length}, Option.{option_and_then, option_map, option_map_or}}
 use Rattle.xa_xid.specs.{declared.xid.Xid.Xid, Xid.xid_cmp}

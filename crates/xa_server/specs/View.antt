@@ -1,11 +1,6 @@
 -- How the records of branches and rows stand for a state.
 --     gather               the map of what is found in each record; keys at which nothing is found aren't in it
 --     mapped               the map with each value changed
---     branch_seen          the branch that a record stands for, with its writes and locks from the rows' records
---     state_of             the state that the records stand for
---     times_listed         how often a branch's record lists a row
---     is_holder            a row's record says that the branch holds the row
---     IsWhole              what holds of the records of branches and rows together
 use Rattle.std.specs.Prelude.{◌≡◌, ℕ, Bool, cond, Option, Some, List, [], ◌∷◌, filter, length, is_none, is_some}
 use Rattle.std.specs.{Option.{option_map_or, option_and_then}, declared.cmp.Ordering.Ordering, Ordering.eq_by_cmp}
 use Rattle.xa_xid.specs.{declared.xid.Xid.Xid, Xid.bytes_cmp}
@@ -48,6 +43,7 @@ branch_seen rows xid branch =
 
 -- the state that the records stand for
 unfoldable pub state_of : BranchMap → RowMap → State
+-- the state that the records stand for
 state_of branches rows =
     record { branches = mapped (branch_seen rows) branches; rows = gather (λ row. row.committed) rows }
 

@@ -1,5 +1,4 @@
 -- A call that has appended its statement ends with the reply of the server right before that entry.
---     Appended     the session's call has appended its statement, right after this history
 use Rattle.std.proofs.Common.{◌≡◌, ◌≢◌, ℕ, ◌+◌, ◌≤◌, Some, None, List, [], ◌∷◌, ◌++◌, length, take, drop, refl, ap, sym}
 use Rattle.std.proofs.{Common.{◌∙◌, subst, inl, inr, arith, length-append}, lemmas.Bool.cases_lt}
 use Rattle.std.proofs.lemmas.Option.{none-some, same_Some}

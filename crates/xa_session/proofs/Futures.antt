@@ -1,8 +1,5 @@
 -- What comes next of a session in a run: whether its call returns before it looks or appends again, and what its call
 -- returns.
---     Soon     before anything else of the session its call returns this answer
---     Late     something else of the session comes first, or nothing
---     Ends     its call ends in no fault, and what it returns has this reply; it appends nothing before that
 use Rattle.std.proofs.Common.{◌≡◌, ◌≢◌, ◌⊎◌, ℕ, Some, None, List, [], ◌∷◌, refl, ap, sym, ◌∙◌, subst, inl, inr}
 use Rattle.std.proofs.lemmas.Option.{none-some, same_Some}
 use mathlib.Core.Logic.{dite}

@@ -1,6 +1,5 @@
 -- Runs of the log machine are linearizable: the instant of a call is its append, or if there is none, its last look.
 --     Waits, Has     an open call whose statement hasn't taken effect;  whose statement has
---     Stand          a session has no call, or one of these
 use Rattle.std.proofs.Common.{◌≡◌, ◌≢◌, ◌⊎◌, ℕ, Some, None, List, [], ◌∷◌, ◌++◌, refl, ap, sym, ◌∙◌, subst, inl, inr}
 use Rattle.std.{proofs.Common.{arith, false}, specs.Prelude.Option}
 use mathlib.Core.Logic.{dite}

@@ -1,5 +1,4 @@
 -- If all calls are over at the end of a run, each has appended at most its own entry, once.
---     Finishes     with some more entries of its own a session has none of its call's, or its call's one
 use Rattle.std.proofs.Common.{◌≡◌, ◌≢◌, ◌⊎◌, ℕ, Some, None, List, [], ◌∷◌, ◌++◌, length, refl, ap, sym, ◌∙◌, subst, inl}
 use Rattle.std.proofs.Common.{inr, arith, length-append, append_assoc, append-nil}
 use Rattle.std.{proofs.lemmas.Option.{none-some, same_Some}, specs.Prelude.{Option, slice_get}}

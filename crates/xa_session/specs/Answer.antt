@@ -1,17 +1,4 @@
 -- The meaning of a session's answer and of its faults, in words of what the session knows before and after a call.
---     entry_of         a session's statement as an entry
---     AnswersAt        a reply at a place of a history
---     Advances         the same number, no less seen, no fewer looks and tries
---     IsEntered        the statement was appended right after its answer's place
---     IsOutside        the statement was not appended, and was answered from all that is seen
---     IsAnswered       a statement was answered
---     IsUnanswered     nothing of the statement was appended
---     IsFull           there is no room for the statement, which would be logged
---     Fails            the cause for which a statement was not answered
---     IsFinal          a fault after which `execute` doesn't try again
---     FullAfter        at Full the replica has replayed all that is seen
---     IsKept           the replica has replayed all that is seen, unless the statement may take memory
---     WantsMemory      the only causes of NoMemory
 use Rattle.std.specs.Prelude.{◌≡◌, ◌<◌, ◌≤◌, ℕ, Bool, true, false, IsTrue, ◌⊎◌, List, [], ◌∷◌, ◌++◌, length, take}
 use Rattle.std.specs.Prelude.{slice_get, Some}
 use Rattle.xa_words.specs.Entry.{Entry}

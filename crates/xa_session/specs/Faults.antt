@@ -1,6 +1,4 @@
 -- A session's faults: their numbers, and the faults that correspond to those of an append.
---     number_of_fault       the number of a fault
---     fault_of              the session's fault for a fault of an append
 use Rattle.std.specs.Prelude.{ℕ}
 use Rattle.decision_log.specs.declared.fault.AddFault.{AddFault}
 use Rattle.xa_session.specs.declared.fault.Fault.{Fault, TheVariants.{Overtaken, Full, NoMemory, Busy}}

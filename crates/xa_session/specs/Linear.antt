@@ -1,9 +1,4 @@
 -- Linearizable: each call takes effect at one instant between its call and its return.
---     Sight            what a caller sees: its call, its return, or a fault
---     sights           what callers see of a run
---     Client           a session has no call, has called, or has its reply
---     Serves           the sequential server, of which each call is served at one instant
---     IsLinearized     it serves these sights from a state in which no session has called
 use Rattle.std.specs.Prelude.{◌≡◌, ℕ, List, [], ◌∷◌}
 use Rattle.xa_xid.specs.declared.statement.Statement.{Statement}
 use Rattle.xa_server.specs.{State.State, Step.after, Replies.reply_to, declared.reply.Reply.Reply}

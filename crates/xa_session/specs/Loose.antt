@@ -1,6 +1,4 @@
 -- Runs of which it is only known that sessions append within their calls.
---     LooselyComes     one moment; an append is of any entry, and any of the call's appends
---     LooselyPasses    moments, one after another
 use Rattle.std.specs.Prelude.{◌≡◌, Some, List, [], ◌∷◌}
 use Rattle.xa_server.specs.State.{State}
 use Rattle.decision_log.specs.Machine.{Look, Add, Appends}

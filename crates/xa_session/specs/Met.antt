@@ -1,5 +1,4 @@
 -- The answer that a session can get at a stage.
---     answer_now       the answer right after a history
 use Rattle.std.specs.Prelude.{ℕ, List, length}
 use Rattle.xa_words.specs.Entry.{Entry}
 use Rattle.xa_xid.specs.declared.statement.Statement.{Statement}

@@ -1,8 +1,4 @@
 -- How a session's call for a statement ends.
---     HasAnswered      the statement was answered
---     HasFailed        it wasn't, for the cause of this fault
---     Answers          HasAnswered after Ok, HasFailed after Err
---     Finds            what Answers says, of a replica and of what its pass knew and knows
 use Rattle.std.specs.Prelude.{◌≤◌, ℕ, Bool, Result, Ok, Err}
 use Rattle.decision_log.specs.declared.{known.Known.Known, log.DecisionLog.Ghosts as LogOf}
 use Rattle.xa_xid.specs.declared.statement.Statement.{Statement}

@@ -1,8 +1,4 @@
 -- The state after a history of entries, from the state in which it begins.
---     call_of          an entry as the server's definitions take it
---     state_after      the state after a history
---     state_at         the state after a prefix of a history
---     Stands           a replica stands for the state after a prefix
 use Rattle.std.specs.Prelude.{◌≡◌, ◌≤◌, ℕ, List, length, map, take}
 use Rattle.xa_words.specs.Entry.{Entry}
 use Rattle.xa_xid.specs.declared.statement.Statement.{Statement}
@@ -15,6 +11,7 @@ call_of entry = (entry.session, entry.statement)
 
 -- the state after all entries of a history, from the state in which it begins
 unfoldable pub state_after : State → List Entry → State
+-- the state after a history
 state_after base history = after_all base (map call_of history)
 
 -- the state after the given number of entries of a history

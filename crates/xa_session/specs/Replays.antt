@@ -1,6 +1,4 @@
 -- A replica before and after it replays entries.
---     ReplaysOne       it has replayed the next entry, or is as before
---     CatchesUp        it has replayed all that is seen, or some entries are left
 use Rattle.std.specs.Prelude.{◌≡◌, ◌<◌, ◌+◌, length, Result, Ok, Err}
 use Rattle.decision_log.specs.declared.known.Known.{Known}
 use Rattle.xa_session.specs.declared.replica.Replica.{Replica}

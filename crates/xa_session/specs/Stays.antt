@@ -1,5 +1,4 @@
 -- What every call keeps of a session.
---     Stays            it is of the log and of the state that it was of, and has replayed no fewer entries
 use Rattle.std.specs.Prelude.{◌≡◌, ◌≤◌}
 use Rattle.decision_log.specs.declared.log.DecisionLog.{Ghosts as LogOf}
 use Rattle.xa_session.specs.declared.session.Session.{Session}

@@ -1,13 +1,4 @@
 -- Runs of the log machine in time: what happens to it, with the calls, returns and faults of its sessions in between.
---     Moment           a call, a return, a fault, or an event of the log machine
---     Open             a call that isn't over
---     Stage            the machine, how often each session has looked, and the calls that aren't over
---     changed          a function with another value at one number
---     known_at         what a session knows at a stage
---     looked           how often each session has looked after an event
---     IsOwn            who appends has a call, and appends its entry, at most once in it
---     Comes            one moment, from one stage to the next
---     Passes           moments, one after another
 use Rattle.std.specs.Prelude.{◌≡◌, ℕ, ◌+◌, ◌==◌, cond, Option, Some, None, List, [], ◌∷◌}
 use Rattle.xa_xid.specs.declared.statement.Statement.{Statement}
 use Rattle.xa_server.specs.State.{State}

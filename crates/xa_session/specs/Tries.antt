@@ -1,8 +1,4 @@
 -- How often a call for a statement has looked, and has tried to append.
---     Tries            how often an attempt without an answer has tried
---     TriesOnce        an attempt has looked, and has tried to append at most once
---     LooksLast        there were more looks than tries, so that no try followed the last look
---     Leaves           how much the replica has replayed, or that the look came last, by an attempt's fault
 use Rattle.std.specs.Prelude.{◌≡◌, ◌<◌, ◌≤◌, ◌+◌, length, Result, IfErr}
 use Rattle.decision_log.specs.declared.known.Known.{Known}
 use Rattle.xa_session.specs.declared.{answer.Answer.Answer, replica.Replica.Replica, fault.Fault.Fault}

@@ -1,13 +1,4 @@
 -- What a contract sees of a session, or of any other value that answers statements as one.
---     SessionView      its log, whether that has turns, the state in which its history begins, what it knows, what
---                      its other sessions know, how many more statements it takes, and whether memory may have been
---                      refused for one
---     KeepsLimit       a limit is neither lifted nor raised
---     StaysOfLog       it is of the same log, the value's other sessions know what they knew, and its limit is neither
---                      lifted nor raised
---     Takes            so many statements fewer are left, if there is a limit
---     TakesUnanswered  how many are left after a fault: one fewer, or none as before at NoMemory
---     TakesBy          how many are left after a result
 use Rattle.std.specs.Prelude.{◌≡◌, ◌≤◌, ◌+◌, ◌⊎◌, ℕ, Bool, true, List, Option, Some, None, Result, Ok, Err}
 use Rattle.xa_server.specs.State.{State}
 use Rattle.decision_log.specs.{Known.LogIdentity, declared.known.Known.Known}

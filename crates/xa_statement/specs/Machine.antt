@@ -2,9 +2,7 @@
 --     after_token state token  the state after one more token
 --     finish state           the statement, if the tokens so far are one
 --     after_word, after_comma, after_value      the state after one more token of this kind
---     xid_word               the state after a word behind an identifier
 --     unended state          the statement before its ;
---     statement_of           the statement of a verb and an xid
 use Rattle.std.specs.Prelude.{ℕ, true, false, Option, Some, None, List, [], ◌∷◌}
 use Rattle.xa_xid.specs.{Xid.Text, XidText.{xid_of, no_text}, declared.{xid.Xid.Xid, statement.Statement.Statement}}
 use Rattle.xa_statement.specs.declared.{token.{Keyword.Keyword, Token.Token}, state.{Verb.Verb, RowVerb.RowVerb}}

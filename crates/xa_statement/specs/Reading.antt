@@ -1,7 +1,6 @@
 -- A text read as a statement: the statement, or the place of the fault.
 --     read_from state pieces     the statement, or the number of bytes from the faulty token to the end
 --     read_of text               the statement, or the place of the fault
---     seen_of                    the same as a program sees it
 use Rattle.std.specs.Prelude.{ℕ, ◌-◌, Option, Some, None, Result, Ok, Err, List, [], ◌∷◌, length}
 use Rattle.xa_xid.specs.declared.statement.Statement.{Statement}
 use Rattle.xa_statement.specs.declared.{state.State.{State, TheVariants.AtFirst}, syntax_fault.SyntaxFault.SyntaxFault}

@@ -1,6 +1,4 @@
 -- What the sessions of a race leave after they have met.
---     HasLeft         a session's pass, before it met the others and after it left
---     HasClosed       the history and the passes that all of them leave
 use Rattle.std.specs.{Prelude.{◌≡◌, ◌<◌, List, length, map}, List.AllZip}
 use Rattle.xa_words.specs.Entry.{Entry}
 use Rattle.decision_log.specs.Known.{LogIdentity}

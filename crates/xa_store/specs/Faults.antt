@@ -1,5 +1,4 @@
 -- The numbers of the faults of a race.
---     number_of_race_fault       the number of a fault
 use Rattle.std.specs.Prelude.{ℕ}
 use Rattle.xa_store.specs.declared.race_fault.RaceFault.{RaceFault}
 

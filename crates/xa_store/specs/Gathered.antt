@@ -1,7 +1,4 @@
 -- What sessions have seen after they have met.
---     IsTakenIn       a history has all that a session has seen, and exactly its own entries of its number
---     AddsNothing     a session has added nothing; it may have seen more
---     last_known      what the last session of a list knows
 use Rattle.std.specs.Prelude.{◌≡◌, ◌≤◌, List, [], ◌∷◌}
 use Rattle.xa_words.specs.Entry.{Entry}
 use Rattle.decision_log.specs.{declared.known.Known.Known, Known.newcomer, History.{Begins, entries_of}}

@@ -2,23 +2,6 @@
 --     next_place      the first place at which the next answer can be
 --     Answered        statements were answered in order, each after a prefix of the history
 --     entered         those of them that are logged, as entries
---     IsLegal         one session's answers
---     Legal           the answers of all runs
---     IsReturned      a run's pass after the race
---     IsOutcome       what a race gives
---     LetsIn          a gate can let a session give its first statements
---     IsTurnedAway    the gate can stop a session at a line, and the session does nothing
---     Halts           why a session's statement isn't answered
---     fault_at        the fault of a race for a session's fault
---     IsLetIn         the gate can have let a session go on, and its statement is answered
---     EndsOne         the statement is answered, or the run stops at it
---     IsReachedInRun  the statements of a run before a line were answered
---     GoesNoFurther   a run has done nothing after the statement at which it stops
---     IsShutAt        the gate can stop a run at a statement
---     IsFullAt        a run's statement has no room in the history
---     Stops           why a run stops
---     IsBlamed        some run stops with a fault
---     Blames          why a race fails
 use Rattle.std.specs.Prelude.{◌≡◌, ◌<◌, ◌≤◌, ◌+◌, ℕ, Bool, true, false, cond, List, [], ◌∷◌, ◌++◌, length, map, take}
 use Rattle.std.specs.{Prelude.{slice_get, Some, Result, Ok, Err}, List.AllZip}
 use Rattle.xa_xid.specs.declared.statement.Statement.{Statement}

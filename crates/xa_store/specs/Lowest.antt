@@ -1,15 +1,4 @@
 -- Which fault of a race is returned: that of the lowest session that has one.
---     speaks          a run has a statement
---     IsOwn           the fault of a session's task
---     IsOutside       a fault that no task has
---     IsLower         of two faults that of the lower session
---     Joins           the fault that is returned after one more task has ended
---     IsOfLowest      the fault of the lowest session that has one
---     IsOfNone        no task has a fault
---     IsTold          the fault is as IsOfLowest or as IsOfNone says
---     IsRunThrough    a run was answered to its end
---     AreRunThrough   the runs of all lower sessions were answered to their ends
---     TellsLowest     the fault that a race returns is that of the lowest session that has one
 use Rattle.std.specs.Prelude.{◌≡◌, ◌<◌, ◌≤◌, ◌==◌, ◌⊎◌, ℕ, Bool, not, List, length, slice_get, Some, Result, Ok, Err}
 use Rattle.std.specs.Prelude.{vec_len}
 use Rattle.xa_server.specs.State.{State}

@@ -1,7 +1,4 @@
 -- What a store begins with after it is renewed.
---     disconnected    the state after sessions 1 to the last have disconnected, in order
---     renewed         the state that a renewed store's history begins in
---     AreGathered     passes that a renewal takes
 use Rattle.std.specs.{Prelude.{◌≡◌, ◌<◌, ℕ, zero, suc, List, length, map}, List.All}
 use Rattle.xa_words.specs.Entry.{Entry}
 use Rattle.xa_xid.specs.declared.statement.Statement.TheVariants.{Disconnect}

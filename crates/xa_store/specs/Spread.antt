@@ -1,8 +1,4 @@
 -- Runs, sessions and answers, place by place.
---     HasAnswered     a session has answered all statements of its run
---     HasRun          HasAnswered, with the same log and the same base
---     HasStopped      one of some runs stops
---     StopsSome       why not all of some runs were answered
 use Rattle.std.specs.Prelude.{◌≡◌, ◌⊎◌, ℕ, Bool, List, length, slice_get, Some}
 use Rattle.xa_xid.specs.declared.statement.Statement.{Statement}
 use Rattle.xa_server.specs.State.{State}

@@ -1,11 +1,4 @@
 -- The statements of a session that make a log entry.
---     Entry           an entry as a contract sees it: a session and a statement
---     IsText          a text of at most `text_bytes` bytes
---     IsXid           an identifier within its limits
---     IsNonEmptyText  a key within its limits
---     may_be_entry    whether statements of this kind can be logged
---     KeepsLimits     the texts and the formatID of a statement are within their limits
---     IsEntry         the session's number and the statement are those of an entry
 use Rattle.std.specs.Prelude.{ℕ, ◌<◌, ◌≤◌, ◌^◌, Bool, true, false, IsTrue, List, length, slice_index}
 use Rattle.xa_xid.specs.{Limits.text_bytes, declared.{xid.Xid.Xid, statement.Statement.Statement}}
 

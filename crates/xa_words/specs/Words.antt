@@ -1,13 +1,5 @@
 -- The 21 numbers by which a log entry is written.
---     Parts           the parts of a statement that the numbers hold: its kind, its formatID and its two texts
---     parts_of        the table of kinds, one line for each
---     eight_bytes     eight bytes of a text from a place on, zeros past its end
---     text_words      a text of at most 64 bytes as eight numbers of eight bytes, the highest byte first
---     words_of        the numbers of an entry
---     RowParts        the parts are those of a statement without an identifier
---     byte_of         the byte at a place of eight such numbers
 --     of_xid, of_texts    the parts of a statement about a branch;  of another one
---     lay_out         the numbers of a session and parts
 use Rattle.std.specs.Prelude.{◌≡◌, ◌≢◌, ◌<◌, ◌≤◌, ℕ, ◌+◌, ◌/◌, ◌%◌, List, [], ◌∷◌, ◌++◌, length, slice_index, true}
 use Rattle.std.specs.{Prelude.false, Int.{w64, from_be_bytes, to_be_bytes}}
 use Rattle.xa_xid.specs.declared.{xid.Xid.Xid, statement.Statement.Statement}
@@ -68,10 +60,12 @@ lay_out session parts =
 
 -- the 21 numbers of an entry
 unfoldable pub words_of : Entry → List ℕ
+-- the numbers of an entry
 words_of entry = lay_out entry.session (parts_of entry.statement)
 
 -- the byte that eight numbers hold at a place, the highest byte of each first
 unfoldable pub byte_of : List ℕ → ℕ → ℕ
+-- the byte at a place of eight such numbers
 byte_of words place = slice_index (to_be_bytes w64 (slice_index words (place / 8))) (place % 8)
 
 -- the parts of a row statement or a Disconnect: all but Disconnect have a key, and only Put has a second text

@@ -1,5 +1,4 @@
 -- Why a text begins with no literal, no number or no identifier: the table of faults, a constructor for each row.
---     number_of_literal_fault       the number of a fault
 --     AreHex digits                 there are only hexadecimal digits
 --     HexRunAt text digits rest     the text begins with `0x` and these digits, and `rest` comes after them
 --     FaultyLiteral text fault      the text begins with no literal of at most `text_bytes` bytes, and this is the

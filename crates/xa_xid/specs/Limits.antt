@@ -1,6 +1,4 @@
 -- How long the texts of statements are at most.
---     text_bytes       bytes of a gtrid, a bqual, a key or a value
---     text_digits      hexadecimal digits of so many bytes
 use Rattle.std.specs.Prelude.{ℕ}
 
 -- how many bytes a text has at most: of gtrid and bqual X/Open C193's length, of keys and values our own rule

@@ -7,7 +7,6 @@
 --     evened digits                  an odd number of digits with a 0 in front
 --     text_literal_of, hex_in_quotes_of, hex_run_of     the reading of each of the three forms
 --     kept bytes, sized              the bytes, if they aren't too many;  that as a reading
---     placed                         a reading with a place instead of the rest of the text
 use Rattle.std.specs.Prelude.{◌≡◌, ℕ, ◌-◌, ◌≤◌, ◌%◌, Bool, false, ◌==◌, ◌||◌, ◌&&◌, not, nat_le, nat_lt, if◌then◌else◌}
 use Rattle.std.specs.Prelude.{IsTrue, List, [], ◌∷◌, ◌++◌, length, drop, slice_index, Option, Some, None, Result, Ok}
 use Rattle.std.specs.Prelude.{Err}

@@ -1,8 +1,4 @@
 -- Identity and order of transaction branch identifiers, and of the texts in them.
---     Text            a text as a contract sees it: `text.items` is the list of its bytes
---     bytes_cmp       the order of two lists of bytes
---     xid_cmp         the order of two identifiers
---     same_xid        whether two identifiers are one
 --     coded_text, coded_xid      how they are encoded in finite maps
 use Rattle.std.specs.{Prelude.{ℕ, Bool, List, refl}, declared.cmp.Ordering.Ordering}
 use Rattle.std.specs.{Ordering.{nat_cmp, ordering_then, eq_by_cmp}, Cmp.Lexicographic.slice_cmp}

@@ -6,7 +6,6 @@
 --     part_text, xid_text    the canonical text of a gtrid, bqual, key or value, and of an identifier
 --     gtrid_next, bqual_next, format_id_next     reading an identifier from this part on
 --     no_text, xid_of        the empty text;  the identifier of three parts
---     IsWritable             what the types of an identifier's parts allow
 use Rattle.std.specs.Prelude.{◌≡◌, ℕ, ◌-◌, ◌≤◌, ◌<◌, ◌^◌, ◌==◌, if◌then◌else◌, List, [], ◌∷◌, ◌++◌, length, drop, codes}
 use Rattle.std.specs.Prelude.{decimal, Option, Some, None, Result, Ok, Err}
 use Rattle.hex.specs.Hex.{encode_lower, IsBytes}
