@@ -1,4 +1,5 @@
 """The sessions of a script, each with a connection of its own, and the record of what they see."""
+import contextlib
 import random
 import threading
 import time
@@ -96,9 +97,10 @@ class Session:
             self.client.break_off()
 
     def settle(self):
-        """Waits until the server has noticed that the client is lost."""
+        """Waits until the server has ended what a lost client left. A server that is gone has."""
         if self.lost and self.client is not None:
-            self.client.await_end()
+            with contextlib.suppress(Gone):
+                self.client.await_end()
 
     def answer(self, statement, cutting):
         """What the server answers the statement, as lines of a record. A row statement that takes a lock waits until it
@@ -154,17 +156,21 @@ def run_together(sessions, lines, options):
 
 
 def run_in_turn(sessions, lines):
-    """The statements are given in the script's order, each once the one before it has returned."""
+    """The statements are given in the script's order, each once the one before it has returned, and once the server has
+    ended what a lost client left: else its locks would be held for as long as the server takes to notice."""
     for _, number, statement in lines:
         if not sessions[number].lost:
             sessions[number].give(statement)
+            sessions[number].settle()
 
 
 def end(sessions):
-    """Closes what is open yet. The record is whole, so a server that is gone by now is no fault."""
+    """Closes what is open yet, and then waits for what lost clients left: a next record may begin at once. This one is
+    whole, so a server that is gone by now is no fault."""
     for session in sessions.values():
-        try:
-            if not session.lost:
+        if not session.lost:
+            with contextlib.suppress(Exception):
                 session.close()
-        except Exception:
-            pass
+    for session in sessions.values():
+        with contextlib.suppress(Exception):
+            session.settle()

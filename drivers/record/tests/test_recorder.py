@@ -14,6 +14,7 @@ sys.path.insert(0, str(Path(__file__).resolve().parent.parent))
 import record as recorder  # noqa: E402
 import sessions  # noqa: E402
 from databases import mysql  # noqa: E402
+from faults import Gone  # noqa: E402
 
 
 class MySQLError(Exception):
@@ -115,6 +116,58 @@ class Recorded(unittest.TestCase):
 
     def test_a_late_answer_is_looked_at_without_a_time_out(self):
         self.assertEqual(self.lines({b"XA END 'a'": 600.0}, b"XA END 'a'")[1], [b"3 > XA END 'a'", b"3 < OK"])
+
+
+class Noticing:
+    """A server that lists a connection as open for some questions more, and is gone then if it is asked to be."""
+    is_mariadb, is_killed = True, False
+
+    def __init__(self, questions, then_gone=False):
+        self.questions, self.then_gone = questions, then_gone
+
+    def ask(self, _):
+        self.questions -= 1
+        if self.questions < 0 and self.then_gone:
+            raise Gone
+        return [(1,)] if self.questions >= 0 else []
+
+
+class Losses(unittest.TestCase):
+    """What a lost client left is over before anything else is sent."""
+
+    def sessions(self, database):
+        self.addCleanup(setattr, mysql, "pymysql", mysql.pymysql)
+        mysql.pymysql = types.SimpleNamespace(MySQLError=MySQLError)
+        self.seen = []
+        found = {}
+        for number in (1, 2):
+            options = types.SimpleNamespace(cut={}, lose={1: 1}, timeout=None)
+            found[number] = sessions.Session(number, options, sessions.Record(), database, {})
+            found[number].client = mysql.Client(database, Connection({}))
+            found[number].client.connection.tells = lambda text: self.seen.append((text, database.questions))
+        return found
+
+    def test_in_turn_the_next_statement_waits_for_it(self):
+        for then_gone in (False, True):
+            with self.subTest(then_gone=then_gone):
+                database = Noticing(3, then_gone)
+                given = self.sessions(database)
+                sessions.run_in_turn(given, [(1, 1, b"XA START 'a'"), (2, 1, b"XA END 'a'"), (3, 2, b"XA START 'b'")])
+                self.assertEqual([text for text, _ in self.seen], [b"XA START 'a'", b"XA START 'b'"])
+                self.assertEqual(self.seen[0][1], 3)
+                self.assertLess(self.seen[1][1], 0, "the server has ended the first one")
+                self.assertEqual(given[1].record.lines, [b"1 > XA START 'a'", b"1 < OK", b"1 ! LOST"])
+
+    def test_a_record_ends_with_it(self):
+        for then_gone in (False, True):
+            with self.subTest(then_gone=then_gone):
+                database = Noticing(3, then_gone)
+                given = self.sessions(database)
+                given[1].give(b"XA START 'a'")
+                given[2].client = None
+                self.assertEqual(database.questions, 3, "nobody has waited for it")
+                sessions.end(given)
+                self.assertLess(database.questions, 0)
 
 
 class Scripts(unittest.TestCase):
