@@ -42,6 +42,7 @@ export class Commit {
     this.shown = null;
     this.stops = []; // of the whole lines, or of those that stand here
     this.stopped = null; // the lines of which these are
+    this.sought = null; // the call to which the slider was moved last, until it is shown
     this.sequence = new Sequence(byId("sequence"), {
       go: (place) => this.goToLine(place),
       fail: (place, { store, call }) => this.tape.insert(place, [`FAIL ${store} AFTER ${call}`], 1),
@@ -153,9 +154,19 @@ export class Commit {
     return this.tape.goTo(place + 1);
   }
 
-  goToCall(number) {
+  // The slider stays where it was moved until the tape has come there, so that the next key goes on from it.
+  async goToCall(number) {
     this.player.pause();
-    return this.tape.goTo(this.tape.stops()[number] ?? 0);
+    const sought = { number };
+    this.sought = sought;
+    try {
+      await this.tape.goTo(this.tape.stops()[number] ?? 0);
+    } finally {
+      if (this.sought === sought) { // it wasn't moved on meanwhile
+        this.sought = null;
+        this.showProgress();
+      }
+    }
   }
 
   offer({ scenarios, calls }) {
@@ -367,7 +378,7 @@ export class Commit {
     const given = stops.findLastIndex((place) => place <= this.tape.at);
     const range = byId("progress");
     range.max = stops.length - 1;
-    range.value = given;
+    range.value = this.sought?.number ?? given;
     const count = this.count(); // 0 until it is drawn
     const within = this.messages.shown === null || !count ? "" : `, message ${this.messages.shown} of ${count}`;
     const said = this.tape.lines.length ? `${given} of ${stops.length - 1}${within}` : "";
