@@ -18,7 +18,8 @@ SERVER = os.environ["NIGBARU_SERVER"]
 LONG = bool(os.environ.get("NIGBARU_LONG"))
 SEED = int(os.environ.get("NIGBARU_SEED", "62"))
 PYTHON = "/usr/bin/python3"
-PATIENCE = 90  # seconds for whatever has to come, on a machine that does much else
+PATIENCE = 240  # seconds for whatever has to come, on a machine that does much else
+TRIES = 6
 LONGEST = 600  # seconds for a program: one of Java has taken minutes to begin where the machine was very busy
 LISTENS = re.compile(r"store (\d+) listens on [^ ]*:(\d+)")
 
@@ -102,6 +103,11 @@ class Server:
 def verdict(record, *words):
     ran = subprocess.run([PROGRAM, "judge", "--quiet", *words], input=record, stdout=subprocess.PIPE, timeout=300)
     return ran.stdout.split(b"\n")[0].decode()
+
+
+def quick(seconds, took):
+    """Whether it takes less than so long, at least at one of some times: else the machine may just have been busy."""
+    return any(took() < seconds for _ in range(TRIES))
 
 
 def wait_for(holds, what, seconds=PATIENCE):

@@ -18,7 +18,7 @@ class CommandLine(Case):
         server = self.serve()
         script = (HERE / "command_line.sql").read_text()
         ran = subprocess.run(self.command(server, "--force", "--table", "--unbuffered"), input=script,
-                             stdout=subprocess.PIPE, stderr=subprocess.STDOUT, text=True, timeout=60)
+                             stdout=subprocess.PIPE, stderr=subprocess.STDOUT, text=True, timeout=PATIENCE)
         self.assertEqual(ran.stdout, (HERE / "command_line.transcript").read_text())
         self.assertEqual(server.verdicts(), ["LEGAL"])
 
@@ -76,7 +76,7 @@ class Bench(unittest.TestCase):
         for words, status, wanted in cases:
             with self.subTest(words=words):
                 ran = subprocess.run([HERE.parent / "bench", *words], stdout=subprocess.PIPE, stderr=subprocess.STDOUT,
-                                     text=True, timeout=60)
+                                     text=True, timeout=PATIENCE)
                 self.assertEqual(ran.returncode, status)
                 self.assertTrue(ran.stdout.startswith("usage: bench"), ran.stdout)
                 self.assertIn(wanted, ran.stdout)

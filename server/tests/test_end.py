@@ -5,7 +5,7 @@ import tempfile
 import time
 from pathlib import Path
 
-from support import Case, wait_for
+from support import Case, quick, wait_for
 from test_lending import Worker
 from wire import Closed
 
@@ -44,6 +44,10 @@ class End(Case):
         self.assertNotIn("XA PREPARE 0x61,X'',1\n", server.record.read_text())
 
     def test_a_signal_while_a_branch_waits_for_a_session(self):
+        """It isn't cut off after ten seconds, as a statement is that goes on."""
+        self.assertTrue(quick(9, self.end_while_a_branch_waits))
+
+    def end_while_a_branch_waits(self):
         server = self.serve("--wait", "600")
         clients = [self.client(server) for _ in range(17)]
         for number, client in enumerate(clients[:16]):
@@ -52,9 +56,9 @@ class End(Case):
         self.wait_for_one_that_waits(server)
         began = time.monotonic()
         self.assertEqual(server.end(), 0)
-        # (a statement that goes on is cut off after ten)
-        self.assertLess(time.monotonic() - began, 9)
+        took = time.monotonic() - began
         self.assertEqual(server.verdicts(), ["LEGAL"])
+        return took
 
     def test_a_signal_during_an_outage(self):
         server = self.serve(faults=["NOW outage 600"])

@@ -155,7 +155,7 @@ class Lending(Case):
             each.setblocking(False)
             each.connect_ex(("127.0.0.1", server.port))
         for each in sockets:
-            each.settimeout(60)
+            each.settimeout(240)
             self.assertEqual(self.packet(each)[0], 10)
         for each in sockets:
             each.sendall(self.framed(Client.login_packet(b"root", b"", b"mysql_native_password"), 1))

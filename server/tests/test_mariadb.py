@@ -7,7 +7,7 @@ import unittest
 from pathlib import Path
 
 from mariadb import mariadb
-from support import LONG, Case
+from support import LONG, PATIENCE, Case
 from wire import Client
 
 STAYS = "a prepared branch is listed"  # MariaDB's stays with its session, whose flag says so until the end
@@ -149,7 +149,7 @@ class Speed(Case):
         ran = subprocess.run(["sysbench", script, "--db-driver=mysql", "--mysql-host=127.0.0.1", f"--mysql-port={port}",
                               "--mysql-user=root", "--mysql-db=db", "--db-ps-mode=disable", f"--threads={connections}",
                               f"--time={seconds}", "--report-interval=0", "run"], stdout=subprocess.PIPE,
-                             stderr=subprocess.STDOUT, text=True, timeout=120)
+                             stderr=subprocess.STDOUT, text=True, timeout=PATIENCE)
         found = re.search(r"total number of events: *(\d+)", ran.stdout)
         self.assertTrue(found and ran.returncode == 0, ran.stdout)
         return int(found[1]) * 5 / seconds

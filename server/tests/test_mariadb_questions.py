@@ -6,7 +6,7 @@ import subprocess
 import unittest
 
 from mariadb import mariadb
-from support import HERE, Case, wait_for
+from support import HERE, PATIENCE, Case, wait_for
 from test_java import CLASSPATH, compiled
 from wire import CAN, Client
 
@@ -295,7 +295,7 @@ class Connections(Case):
         """Who would compress is refused at its login, and doesn't hang."""
         for driver in ("pdo", "mysqli"):
             ran = subprocess.run(["php", HERE / "clients" / "compressed.php", driver, str(self.server.port)],
-                                 stdout=subprocess.PIPE, stderr=subprocess.STDOUT, text=True, timeout=60)
+                                 stdout=subprocess.PIPE, stderr=subprocess.STDOUT, text=True, timeout=PATIENCE)
             self.assertRegex(ran.stdout, "^1043 .*takes no compression")
 
     def test_values_as_texts(self):
@@ -311,7 +311,7 @@ class Connections(Case):
                             (["kill", "99"], "Unknown thread id: 99"), (["shutdown"], "")):
             ran = subprocess.run(["mariadb-admin", "--no-defaults", "--host=127.0.0.1", f"--port={server.port}",
                                   "--user=root", "--password=secret", *words], stdout=subprocess.PIPE,
-                                 stderr=subprocess.STDOUT, text=True, timeout=60)
+                                 stderr=subprocess.STDOUT, text=True, timeout=PATIENCE)
             self.assertIn(said, ran.stdout)
         self.assertEqual(server.ended(), 0)
 

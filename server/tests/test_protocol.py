@@ -8,7 +8,7 @@ import tempfile
 import time
 from pathlib import Path
 
-from support import PROGRAM, SERVER, Case, wait_for
+from support import PATIENCE, PROGRAM, SERVER, Case, wait_for
 from test_statements import FAULTS, any_text
 from wire import CAN, Client, proof_of
 
@@ -242,7 +242,7 @@ class Passwords(Case):
                         words = ["mariadb", "--no-defaults", "--host=127.0.0.1", f"--port={server.port}", "--user=judy",
                                  f"--password={password}", f"--default-auth={plugin}", "-Ne", "SELECT 1"]
                         ran = subprocess.run(words, stdout=subprocess.PIPE, stderr=subprocess.STDOUT, text=True,
-                                             timeout=60)
+                                             timeout=PATIENCE)
                         self.assertEqual(ran.stdout, "ERROR 1045 (28000): Access denied\n"
                                          if account and password != "right" else "1\n", words)
 
@@ -327,7 +327,7 @@ class Patience(Case):
 
 class CommandLine(Case):
     def said(self, *words):
-        ran = subprocess.run([SERVER, *words], stderr=subprocess.PIPE, stdout=subprocess.PIPE, text=True, timeout=30)
+        ran = subprocess.run([SERVER, *words], stderr=subprocess.PIPE, stdout=subprocess.PIPE, text=True, timeout=PATIENCE)
         return ran.returncode, ran.stderr + ran.stdout
 
     def test_what_is_refused(self):
@@ -365,7 +365,7 @@ class CommandLine(Case):
         server = self.serve("--socket", folder / "socket")
         for _ in range(2):
             ran = subprocess.run(["mariadb", "--no-defaults", f"--socket={folder / 'socket'}", "--user=root"],
-                                 input="PUT 'k','v';\nGET 'k';\n", stdout=subprocess.PIPE, text=True, timeout=60)
+                                 input="PUT 'k','v';\nGET 'k';\n", stdout=subprocess.PIPE, text=True, timeout=PATIENCE)
             self.assertEqual(ran.stdout, "value\nv\n")
         self.assertEqual(self.value(self.client(server), "k"), b"v")
         server.process.kill()

@@ -6,7 +6,7 @@ import tempfile
 from pathlib import Path
 
 from pieces import pieces_of, verdict_of, verdicts
-from support import PROGRAM, SERVER, Case
+from support import PATIENCE, PROGRAM, SERVER, Case
 from test_lending import Worker
 
 SIZE = 4096
@@ -140,7 +140,7 @@ class Pieces(Case):
         folder = Path(self.ends.enter_context(tempfile.TemporaryDirectory()))
         (folder / "r.1").write_text("mine")
         ran = subprocess.run([SERVER, "--port", "0", "--record", folder / "r", "--record-size", "5000"],
-                             stderr=subprocess.PIPE, text=True, timeout=30)
+                             stderr=subprocess.PIPE, text=True, timeout=PATIENCE)
         self.assertEqual(ran.returncode, 1)
         self.assertIn("is there already", ran.stderr)
         self.assertEqual((folder / "r.1").read_text(), "mine")

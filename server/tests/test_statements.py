@@ -4,7 +4,7 @@ import random
 import re
 import subprocess
 
-from support import PROGRAM, Case
+from support import PATIENCE, PROGRAM, Case
 
 COUNT = 30_000
 WORDS = ["XA", "xa", "START", "begin", "END", "Prepare", "COMMIT", "rollback", "RECOVER", "CONVERT", "XID", "ONE",
@@ -89,7 +89,7 @@ class Statements(Case):
 
     def answers_to(self, asked):
         """The program's answers, without the rows of lists, which are empty here."""
-        ran = subprocess.run([PROGRAM, "serve"], input=asked, stdout=subprocess.PIPE, timeout=120)
+        ran = subprocess.run([PROGRAM, "serve"], input=asked, stdout=subprocess.PIPE, timeout=PATIENCE)
         lines = ran.stdout.split(b"\n")
         self.assertEqual(len(lines), 1 + asked.count(b"\n"))
         return lines

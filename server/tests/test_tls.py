@@ -9,7 +9,7 @@ import unittest
 from pathlib import Path
 
 import pymysql
-from support import LONG, LONGEST, SERVER, Case, wait_for
+from support import LONG, LONGEST, PATIENCE, SERVER, Case, wait_for
 from test_lending import memory
 from wire import CAN, Client
 
@@ -37,7 +37,7 @@ class Tls(Case):
     def asked(self, *words, text="SHOW STATUS LIKE 'Ssl_version'; SELECT @@have_ssl"):
         ran = subprocess.run(["mariadb", "--no-defaults", "--host=127.0.0.1", f"--port={self.server.port}",
                               "--user=root", "--skip-column-names", *words, "-e", text], stdout=subprocess.PIPE,
-                             stderr=subprocess.STDOUT, encoding="utf-8", errors="surrogateescape", timeout=60)
+                             stderr=subprocess.STDOUT, encoding="utf-8", errors="surrogateescape", timeout=PATIENCE)
         return ran.returncode, ran.stdout
 
     def test_the_command_line(self):
@@ -162,6 +162,6 @@ class Tls(Case):
                             (["--tls-cert", "/none", "--tls-key", self.folder / "rsa.key"], "/none"),
                             (["--tls-cert", self.folder / "rsa.key", "--tls-key", self.folder / "rsa.key"],
                              "no certificate"), (["--tls-cert", self.cert, "--tls-key", self.cert], "no private key")):
-            ran = subprocess.run([SERVER, *words], stderr=subprocess.PIPE, text=True, timeout=30)
+            ran = subprocess.run([SERVER, *words], stderr=subprocess.PIPE, text=True, timeout=PATIENCE)
             self.assertEqual(ran.returncode, 2, ran.stderr)
             self.assertIn(said, ran.stderr)

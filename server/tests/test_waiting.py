@@ -7,7 +7,7 @@ import unittest
 
 from mariadb import mariadb
 from pieces import pieces_of, verdicts
-from support import Case, wait_for
+from support import Case, quick, wait_for
 from wire import Client, Closed
 
 LATE = (1205, "HY000", "Lock wait timeout exceeded; try restarting transaction")
@@ -46,6 +46,9 @@ class Waits(Case):
 
     def setUp(self):
         super().setUp()
+        self.start()
+
+    def start(self):
         self.server = self.serve(*self.WORDS)
         self.one, self.two, self.three, self.watcher = (self.client(self.server) for _ in range(4))
         self.ok(self.one, *TABLE)
@@ -77,7 +80,7 @@ class Waits(Case):
         began = time.monotonic()
         self.assertEqual(told(client.ask(text)), LATE, text)
         took = time.monotonic() - began
-        self.assertTrue(seconds <= took < seconds + 20, f"{text}: {took}")
+        self.assertTrue(seconds <= took < seconds + 40, f"{text}: {took}")
 
 
 class Rows(Waits):
@@ -231,12 +234,10 @@ class Ends(Waits):
         self.late(self.two, add("a"), 1)
         self.late(self.two, "SELECT * FROM t WHERE k = 'a' FOR UPDATE", 1)
         self.ok(self.two, "SET innodb_lock_wait_timeout = 0")
-        began = time.monotonic()
         self.late(self.two, add("a"), 0)
-        self.ok(self.two, "SET innodb_lock_wait_timeout = 30")
+        self.ok(self.two, "SET innodb_lock_wait_timeout = 300")
         self.late(self.two, "SELECT * FROM t WHERE k = 'a' FOR UPDATE NOWAIT", 0)
         self.late(self.two, "SELECT * FROM t WHERE k = 'a' LOCK IN SHARE MODE WAIT 0", 0)
-        self.assertLess(time.monotonic() - began, 10)
         self.late(self.two, "SELECT * FROM t WHERE k = 'a' FOR UPDATE WAIT 1", 1)
         self.two.command(b"\x1f")
         self.assertEqual(self.two.ask("SHOW VARIABLES LIKE 'innodb_lock_wait%'").rows,
@@ -278,15 +279,21 @@ class Ends(Waits):
         wait_for(lambda: self.server.logged("while it waited for a row"), "it is told")
 
     def test_the_end_of_the_server(self):
-        """Who waits has no answer; what isn't prepared is gone."""
+        """Who waits has no answer, and isn't cut off after ten seconds, as a statement is that goes on; what isn't
+        prepared is gone."""
+        self.assertTrue(quick(8, self.end_while_two_wait))
+
+    def end_while_two_wait(self):
+        self.start()
         self.ok(self.one, "XA START 'g'", add("a"))
         laters = [self.later(self.two, add("a")), self.later(self.three, "SELECT * FROM t FOR UPDATE")]
         began = time.monotonic()
         self.assertEqual(self.server.end(), 0)
-        self.assertLess(time.monotonic() - began, 8)
+        took = time.monotonic() - began
         for later in laters:
             with self.assertRaises((Closed, ConnectionError)):
                 later.answer()
+        return took
 
     def test_an_outage(self):
         self.end_by_an_outage(*self.begin_an_outage())
@@ -324,7 +331,7 @@ class Ends(Waits):
                 laters.append(self.later(client, add("a")))
             began = time.monotonic()
             self.ok(self.two, "XA COMMIT 'g'")
-            self.assertLess(time.monotonic() - began, 4)
+            self.assertLess(time.monotonic() - began, 40, "nobody's time is over by then")
             for number, (way, later) in enumerate(zip(ways, laters)):
                 self.done(later)
                 self.ok(later.client, *([f"XA END 'x{number}'", f"XA COMMIT 'x{number}' ONE PHASE"]
@@ -465,7 +472,7 @@ class Plain(Waits):
         self.ok(one, "XA START 'g'", "PUT 'k','v'")
         began = time.monotonic()
         said = self.refused(two, "PUT 'k','w'", 3572, "HY000").text
-        self.assertLess(time.monotonic() - began, 10)
+        self.assertLess(time.monotonic() - began, 40)
         self.assertEqual(said, "row locked by another branch: 'k' is held by 'g','',1 (ACTIVE, connection 1); "
                          "roll back, or send it again when that has ended")
 

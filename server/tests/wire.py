@@ -65,7 +65,7 @@ class Client:
     def __init__(self, port, user=b"root", password=b"", log_in=True, plugin=b"mysql_native_password",
                  host="127.0.0.1"):
         self.port = port
-        self.socket = socket.create_connection((host, port), timeout=120)
+        self.socket = socket.create_connection((host, port), timeout=240)
         self.socket.setsockopt(socket.IPPROTO_TCP, socket.TCP_NODELAY, 1)
         self.held, self.sequence, self.due = b"", 0, 0
         self.number = 0

@@ -16,7 +16,7 @@ from .audit import Auditor, Global
 from .client import Client, Refused
 from .points import KILLS, MARKED, PAUSES, ROLLED_BACK, RUN, Point, Site, counting, sites
 from .rows import Rows, lost, rows_of
-from .server import Server
+from .server import PATIENCE, Server
 
 FOREIGN = b"\0another manager's "  # how the gtrid of a planted branch begins: before any other in a list
 OWN = b"local "  # how the server names branches of its own, for local transactions
@@ -240,7 +240,7 @@ class Trial:
         """How many branches of the manager are prepared in each store. A store that is away is waited for."""
         found = []
         for port in self.server.ports:
-            deadline = time.monotonic() + 60
+            deadline = time.monotonic() + PATIENCE
             while True:
                 try:
                     with Client(port) as client:

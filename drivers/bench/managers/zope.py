@@ -16,7 +16,7 @@ import transaction  # noqa: E402
 from nigbaru import Branch, Error, Remote  # noqa: E402
 
 MANAGER = b"zope "  # its gtrids begin so
-STORES = [Remote(int(port), timeout=30) for port in os.environ["PORTS"].split()]
+STORES = [Remote(int(port), timeout=240) for port in os.environ["PORTS"].split()]
 DECISIONS = Path("decisions")
 
 

@@ -104,7 +104,7 @@ class Installed(unittest.TestCase):
                 command.write_text(f"#!{sys.executable}\nfrom nigbaru.programs import {function}\n{function}()\n")
                 command.chmod(0o755)
                 ran = subprocess.run([command, "--version"], env={"PATH": folder, "PYTHONPATH": str(DRIVER)},
-                                     capture_output=True, text=True, timeout=30)
+                                     capture_output=True, text=True, timeout=240)
                 self.assertEqual((ran.returncode, ran.stdout), (1, ""))
                 self.assertRegex(ran.stderr, f"^{name}: .* from {re.escape(str(DRIVER))}/nigbaru, which has no "
                                              r"programs; does PYTHONPATH name it\?\n$")
@@ -118,7 +118,7 @@ class Installed(unittest.TestCase):
 class Example(unittest.TestCase):
     def test_no_sale_is_lost(self):
         ran = subprocess.run([sys.executable, DRIVER / "examples/stock.py", "--program", PROGRAM, "--clerks", "6",
-                              "--sales", "50"], stdout=subprocess.PIPE, text=True, timeout=300, check=True)
+                              "--sales", "50"], stdout=subprocess.PIPE, text=True, timeout=1200, check=True)
         self.assertRegex(ran.stdout, r"^300 were to be sold; 0 are left\na row was locked \d+ times, and the sale was "
                          r"tried again\n$")
 
