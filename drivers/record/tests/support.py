@@ -19,14 +19,14 @@ NO_SESSION = (
 def says(job, text, *words):
     """What the program writes for an input, and its status."""
     ran = subprocess.run(
-        [PROGRAM, job, *words], input=text, stdout=subprocess.PIPE, stderr=subprocess.DEVNULL, timeout=60
+        [PROGRAM, job, *words], input=text, stdout=subprocess.PIPE, stderr=subprocess.DEVNULL, timeout=600
     )
     return ran.stdout, ran.returncode
 
 
 def converted(text, *words):
     ran = subprocess.run(
-        [*COMMAND, *words], input=text.encode("utf-8", "surrogateescape"), capture_output=True, timeout=60
+        [*COMMAND, *words], input=text.encode("utf-8", "surrogateescape"), capture_output=True, timeout=600
     )
     return ran.stdout.decode(), ran.stderr.decode(), ran.returncode
 

@@ -116,7 +116,7 @@ class FromHistory(Converted):
         self.assertIn("/nowhere", said)
 
     def test_a_standard_input_that_is_closed(self):
-        ran = subprocess.run(["sh", "-c", 'exec "$@" <&-', "sh", *COMMAND], capture_output=True, text=True, timeout=60)
+        ran = subprocess.run(["sh", "-c", 'exec "$@" <&-', "sh", *COMMAND], capture_output=True, text=True, timeout=600)
         self.assertEqual(
             (ran.returncode, ran.stdout, ran.stderr),
             (2, "", "from_history: the standard input is closed; give it the history, or name its file\n"),

@@ -68,7 +68,7 @@ class MariaDb(unittest.TestCase):
         with forwarded(self.server.socket) as address:
             ran = subprocess.run([*RECORD, "--address", address, "--in-turn",
                                   ROOT / "drivers/record/scripts/in_turn/formats.script"], stdout=subprocess.PIPE,
-                                 stderr=subprocess.PIPE, text=True, timeout=60)
+                                 stderr=subprocess.PIPE, text=True, timeout=600)
         self.assertEqual((ran.stderr, ran.returncode), ("", 0))
         self.assertEqual(numbers(ran.stdout), numbers((EXAMPLES / "mariadb_formats.record").read_text()))
 

@@ -28,7 +28,7 @@ class Outputs(unittest.TestCase):
             with open("/dev/full", "wb") as full:
                 for target, why in ((full, "No space left on device"), (writer, "Broken pipe")):
                     ran = subprocess.run(
-                        command, input=given, stdout=target, stderr=subprocess.PIPE, text=True, timeout=60
+                        command, input=given, stdout=target, stderr=subprocess.PIPE, text=True, timeout=600
                     )
                     self.assertEqual(
                         (ran.returncode, ran.stderr), (status, f"{name}: the {what} can't be written: {why}\n")
@@ -36,7 +36,7 @@ class Outputs(unittest.TestCase):
         finally:
             os.close(writer)
         ran = subprocess.run(
-            ["sh", "-c", 'exec "$@" >&-', "sh", *command], input=given, stderr=subprocess.PIPE, text=True, timeout=60
+            ["sh", "-c", 'exec "$@" >&-', "sh", *command], input=given, stderr=subprocess.PIPE, text=True, timeout=600
         )
         self.assertEqual(
             (ran.returncode, ran.stderr), (status, f"{name}: the {what} can't be written: Bad file descriptor\n")
@@ -76,7 +76,7 @@ class Outputs(unittest.TestCase):
             ("/bin/true", "the server gave up before all were answered"),
         ):
             ran = subprocess.run(
-                [ROOT / "scripts/serve_record", "1", "20", "2", program], capture_output=True, text=True, timeout=60
+                [ROOT / "scripts/serve_record", "1", "20", "2", program], capture_output=True, text=True, timeout=600
             )
             self.assertEqual((ran.returncode, ran.stdout, ran.stderr), (1, "", f"serve_record: {why}\n"))
 

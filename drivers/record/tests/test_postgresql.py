@@ -132,7 +132,7 @@ class PostgreSql(unittest.TestCase):
         with forwarded(self.server.socket) as address:
             ran = subprocess.run([*RECORD, "--postgresql", "--address", address, "--in-turn",
                                   ROOT / "drivers/record/scripts/in_turn/stays.script"], stdout=subprocess.PIPE,
-                                 stderr=subprocess.PIPE, text=True, timeout=60)
+                                 stderr=subprocess.PIPE, text=True, timeout=600)
         self.assertEqual((ran.stderr, ran.returncode), ("", 0))
         self.assertEqual(numbers(ran.stdout), numbers((EXAMPLES / "postgresql_stays.record").read_text()))
 
@@ -259,7 +259,7 @@ class CommandLine(unittest.TestCase):
                          ("record.py: error: argument --address: not allowed with argument --socket", 2))
 
     def said(self, *words):
-        ran = subprocess.run([*RECORD, *words], stdout=subprocess.PIPE, stderr=subprocess.PIPE, text=True, timeout=60)
+        ran = subprocess.run([*RECORD, *words], stdout=subprocess.PIPE, stderr=subprocess.PIPE, text=True, timeout=600)
         return ran.stderr.splitlines()[-1], ran.returncode
 
     def test_options_of_one_database(self):

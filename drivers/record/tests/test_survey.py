@@ -70,7 +70,7 @@ class Table(unittest.TestCase):
             for number, text in enumerate((LEGAL, DIRTY, DIRTY), 1):
                 Path(folder, f"{number}.record").write_text(f"# MariaDB 10.11, load {number} of seed 1\n{text}")
             ran = subprocess.run([*SURVEY, "mariadb", "--count", "3", folder], stdout=subprocess.PIPE,
-                                 stderr=subprocess.PIPE, text=True, timeout=60)
+                                 stderr=subprocess.PIPE, text=True, timeout=600)
             self.assertEqual((ran.stdout, ran.stderr, ran.returncode), (
                 "MariaDB 10.11: 3 records\n     2 ILLEGAL\n     2    GET: VALUE, could be NONE: 2 3\n     1 LEGAL\n",
                 "", 0))
@@ -78,7 +78,7 @@ class Table(unittest.TestCase):
 
     def test_a_server_that_is_not_there(self):
         ran = subprocess.run([*SURVEY, "mysql", "/nowhere"], stdout=subprocess.PIPE, stderr=subprocess.PIPE, text=True,
-                             timeout=60)
+                             timeout=600)
         self.assertEqual((ran.stderr.splitlines()[-1], ran.returncode),
                          ("survey.py: error: name a server by --socket or --address", 2))
 
