@@ -15,12 +15,12 @@
  *
  * Threads. Sessions of one store may be on threads of their own, without a lock of yours. Each session
  * answers from its own copy of the rows, and adds to the one history that all share. A handle takes one call
- * at a time: a second call on it at the same time returns NIGBARU_BUSY. No call takes a lock of the
- * library's. A statement without a limit is tried again as long as other sessions are faster, or its session is
- * behind; then it may need a thread that was stopped to go on (docs/EMBEDDING.md#threads). A handle may be moved
- * to another thread between calls.
+ * at a time: a second call on it at the same time returns NIGBARU_BUSY. The library takes no lock; malloc may
+ * take one of its own, and wait for it. A statement without a limit is tried again as long as other sessions are
+ * faster, or its session is behind; then it may need a thread that was stopped to go on
+ * (docs/EMBEDDING.md#threads). A handle may be moved to another thread between calls.
  *
- * The history has no end. It is kept in a ring of `rows` entries: each new entry overwrites the oldest one. A
+ * The history has no end. It is kept in a ring of `rows` slots: each new entry overwrites the oldest one. A
  * session that isn't used while others add more entries than that is behind. Its next statement then goes on
  * from a checkpoint, a copy of the store's state that the other sessions leave near the end of the history.
  *
@@ -275,7 +275,7 @@ static inline nigbaru_xid *nigbaru_room_(nigbaru_xid *xids) {
  *
  * answer: gets the answer. tries: how often it is tried at most, from 1 on; 0 means without a limit. It is tried
  * again while the session is overtaken or behind. While it is behind it pauses between two tries, for a tenth of a
- * millisecond at most. No call waits.
+ * millisecond at most. A try takes no lock of the library's, and waits for no other thread, unless malloc does.
  * Returns 0 to 4 if the statement was answered. Errors: NO_POINTER, BUSY, NO_HANDLE (no session is held), SYNTAX
  * (of a text), OUT_OF_RANGE, then BEHIND, NO_MEMORY and OVERTAKEN; OVERTAKEN and BEHIND only after `tries` tries.
  * After an error nothing of the statement is in the history. The session may have seen more of it. ---- */

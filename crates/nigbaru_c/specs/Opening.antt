@@ -5,7 +5,7 @@ use Rattle.chain_log.specs.RingOpens.{AreRows}
 use Rattle.xa_endless.specs.{Opens.Opens, declared.store.EndlessStore.EndlessStore}
 use Rattle.nigbaru_c.specs.declared.chair.Chair.{Chair}
 
--- a store is held, and is one that opening with so many rows and sessions gives
+-- a store is held, and is one that opening with so many slots and sessions gives
 abbrev pub Opened : ℕ → ℕ → Option EndlessStore → Type 0
 Opened rows sessions None = ⊥
 Opened rows sessions (Some store) = Opens rows sessions store

@@ -40,7 +40,7 @@ pub extern "C" fn nigbaru_raw_attempt(
     //   statement that is logged is the next entry, once.
     // Proved (c, attempt-fails): At any other status nothing of the text's statement was added, and the status' cause
     //   holds. At `OVERTAKEN` the one try was lost to a longer history. At `BEHIND` the history has at least as many
-    //   entries as the ring has rows, from the next one on that the session would replay. `NO_MEMORY` is for a list,
+    //   entries as the ring has slots, from the next one on that the session would replay. `NO_MEMORY` is for a list,
     //   for a session that hasn't replayed all that is seen and whose next entry may take memory or that needs a copy
     //   of a checkpoint, or after more than 2^59 entries. The statuses for syntax and range change nothing, and a
     //   handle without a session stays as it is.

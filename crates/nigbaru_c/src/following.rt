@@ -103,7 +103,7 @@ fn next(alloc: Global, session: &mut Handle) -> Option<Next>
 pub extern "C" fn nigbaru_raw_follow(alloc: Global, session: &mut Handle, entry: &mut Handed) -> u32
     // Proved (c, follow): C gets each entry of the history once and in order, with its session's number and its
     //   statement's canonical text, or is told how many are counted as lost. Entries are counted as lost only if the
-    //   history has, from the first of them on, at least as many as the ring has rows. `NONE` is returned only at the
+    //   history has, from the first of them on, at least as many as the ring has slots. `NONE` is returned only at the
     //   end of what the session has seen, after a look. A handle without a session stays as it is.
     ensures next { (next : Option NextOf) × (result ≡ status_of_next next) × Shows next entry.new
         × Follows next (session_of session.old.held) (session_of session.new.held) }

@@ -51,7 +51,7 @@ pub extern "C" fn nigbaru_raw_open(
     sessions: u64,
     store: &mut Handle,
 ) -> u32
-    // Proved (c, open): A store that C opens has as many rows and sessions as were asked for, and the handle was
+    // Proved (c, open): A store that C opens has as many slots and sessions as were asked for, and the handle was
     //   empty. After a fault the handle is as before. `HELD` and `OUT_OF_RANGE` have their causes; of `NO_MEMORY`
     //   only that is known that the tests before it were passed.
     ensures ok { result ≡ 0 → (store.old.held ≡ None) × Opened rows sessions (store_of store.new.held) }

@@ -64,7 +64,7 @@ fn handed_out(session: &mut EndlessSession) -> (u64, u64) {
     (entries, lost)
 }
 
-/// Two threads write a row a thousand times each, in a store with 64 rows of cells. What a third session then hands
+/// Two threads write a row a thousand times each, in a store with 64 slots. What a third session then hands
 /// out.
 pub fn followed<R: Threads + Wait + Sync>(rt: &R, alloc: Global) -> Result<(u64, u64)> {
     let store = EndlessStore::open(alloc, 64, 3)?;

@@ -25,7 +25,7 @@ pub record IsHeldInLog (gate : ℕ → ℕ → Bool → Type 0) (capacity : ℕ)
   pub held : IsHeld capacity runs outcome
   pub text_is : text ≡ outcome_text lines outcome.history.items (map (λ answers. answers.items) outcome.answers.items)
 
--- the text of the outcome of a race that was held at the gate, over a store without an end whose ring has so many rows
+-- the text of the outcome of a race that was held at the gate, over a store without an end whose ring has so many slots
 pub record IsHeldEndless (gate : ℕ → ℕ → Bool → Type 0) (rows : ℕ) (lines : List (List ℕ))
     (text : List ℕ) : Type 0 where
   pub lists : List (List Statement)

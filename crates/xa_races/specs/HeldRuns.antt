@@ -37,7 +37,7 @@ abbrev pub GivesRacedBy : (ℕ → ℕ → Bool → Type 0) → ℕ → Bool →
 GivesRacedBy gate capacity renews base lines text new =
     (texts : List (List ℕ)) × IsRacedBy gate capacity renews base lines texts new × (text ≡ concat texts)
 
--- the state is that after all that the last of some sessions has seen; their store's ring has so many rows
+-- the state is that after all that the last of some sessions has seen; their store's ring has so many slots
 pub record IsLeftIn (rows : ℕ) (state : State) : Type 0 where
   pub store : EndlessStore
   pub rows_are : store.log.rows ≡ rows
@@ -46,7 +46,7 @@ pub record IsLeftIn (rows : ℕ) (state : State) : Type 0 where
   pub mine : All (λ session. session.store.value ≡ store) sessions
   pub state_is : state ≡ state_after no_state (seen_by_last sessions)
 
--- the parts were raced over a store with so many rows, the lines side by side at the gate and, unless the race renews
+-- the parts were raced over a store with so many slots, the lines side by side at the gate and, unless the race renews
 -- its store, with room for as many entries; and this is what all lines were answered
 pub record IsHeldOnce (gate : ℕ → ℕ → Bool → Type 0) (capacity : ℕ) (renews : Bool) (parts : Parts)
     (text : List ℕ) : Type 0 where

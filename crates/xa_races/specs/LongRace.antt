@@ -39,7 +39,7 @@ abbrev pub AllLetIn : (ℕ → ℕ → Bool → Type 0) → ℕ → List (List S
 AllLetIn gate session [] = Unit {0}
 AllLetIn gate session (statements ∷ lists) = LetsIn gate session (length statements) × AllLetIn gate (session + 1) lists
 
--- one history, from the first entry of a store with so many rows on, explains all answers, and has entries of these
+-- one history, from the first entry of a store with so many slots on, explains all answers, and has entries of these
 -- sessions alone. All sessions are of that store, and the gate can let in each statement
 pub record IsLongRace (gate : ℕ → ℕ → Bool → Type 0) (rows : ℕ) (lists : List (List Statement))
     (outcome : LongOutcome) : Type 0 where

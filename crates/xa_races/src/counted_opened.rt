@@ -68,7 +68,7 @@ fn enter_all(
 }
 
 impl Opened {
-    /// Opens a store for `sessions` sessions, in `[1, 16]`, whose ring has `rows` rows, in `[1, 65536]`.
+    /// Opens a store for `sessions` sessions, in `[1, 16]`, whose ring has `rows` slots, in `[1, 65536]`.
     ///
     /// May return `NoMemory`.
     pub fn new(alloc: Global, rows: u64, sessions: u64) -> Result<Opened, NoMemory>

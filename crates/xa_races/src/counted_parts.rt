@@ -61,7 +61,7 @@ fn sessions_of(script: &Script<'_>) -> u64
 /// Races the script once, in a store of its own, and appends what all lines are answered to `text`, which is empty.
 ///
 /// The lines before are carried out one after another, then the lines side by side race, each session on its
-/// own thread, then the later lines are carried out one after another. The store's ring has `capacity` rows. If
+/// own thread, then the later lines are carried out one after another. The store's ring has `capacity` slots. If
 /// `renews` is false, the lines side by side have room for `capacity` entries, else for any number. Errors and gate: as
 /// for `race_parts`; after an error `text` may have the first answers.
 fn race_into<G: Gate + Sync, R: Threads + Wait + Sync>(
@@ -99,7 +99,7 @@ fn race_into<G: Gate + Sync, R: Threads + Wait + Sync>(
 
 /// Races the script once, returns what all lines are answered, and notes that text in the course.
 ///
-/// The store's ring has `capacity` rows, in `[1, 1024]`. If `renews` is false, the lines side by side have room for
+/// The store's ring has `capacity` slots, in `[1, 1024]`. If `renews` is false, the lines side by side have room for
 /// `capacity` entries, else for any number. Only for these lines `gate` is asked.
 /// Errors: `NoMemory`, `GateShut` and `ThreadRefused`, and if the race doesn't renew its store `Full`, as the
 /// race returns them.

@@ -112,7 +112,7 @@ fn hold_in_log<G: Gate + Sync, R: Threads + Wait + Sync>(
     }
 }
 
-/// Holds a race of the sessions 1 to `greatest` over a store of their own without an end, whose ring has `rows` rows,
+/// Holds a race of the sessions 1 to `greatest` over a store of their own without an end, whose ring has `rows` slots,
 /// and gives the text of its outcome. `lists` has the statements of each of the sessions 1 to 16. Faults of the race
 /// are returned.
 fn hold_endless<G: Gate + Sync, R: Threads + Wait + Sync>(
@@ -191,7 +191,7 @@ pub fn text_in_log<G: Gate + Sync, R: Threads + Wait + Sync>(
 }
 
 /// Gives what is written for a script: its faulty lines, or the outcome of a race of its sessions over a store without
-/// an end, whose ring has `rows` rows, in `[1, 65536]`.
+/// an end, whose ring has `rows` slots, in `[1, 65536]`.
 ///
 /// Otherwise as `text_in_log`, but the fault is never `Full`.
 /// May return `NoMemory`. Waits for its threads.

@@ -16,7 +16,7 @@ use xa_store::Gate;
 /// Races the sessions of a script over a store without an end, and writes one history that explains all answers, and
 /// the answers.
 ///
-/// It reads and writes as `race_script` does. The store's ring has `rows` rows, in `[1, 65536]`; their memory is used
+/// It reads and writes as `race_script` does. The store's ring has `rows` slots, in `[1, 65536]`; their memory is used
 /// again as often as need be. The text has the whole history, and places count from the store's first entry.
 /// Errors: those of `race_script`, but never `Full`. `NoMemory` is also returned if there is no memory for the whole
 /// history.

@@ -145,8 +145,8 @@ pub fn race_on<G: Gate + Sync, R: Threads + Wait + Sync>(
 
 /// Races lists of statements over a new store without an end, each list by a session of its own on a thread of its own.
 ///
-/// The first list is that of session 1; there are at most 16. The store's ring has `rows` rows, in `[1, 65536]`. Fewer
-/// rows than the race adds entries are enough: a session that is behind goes on by itself. Places count from the
+/// The first list is that of session 1; there are at most 16. The store's ring has `rows` slots, in `[1, 65536]`. Fewer
+/// slots than the race adds entries are enough: a session that is behind goes on by itself. Places count from the
 /// store's first entry, and the history that is returned has all entries. Errors and gate: as for `race_on`.
 /// After an error everything is dropped.
 /// May return `NoMemory`. Waits for its threads, which may wait: no number of tries is promised.
@@ -161,7 +161,7 @@ pub fn hold_long_race<G: Gate + Sync, R: Threads + Wait + Sync>(
     requires rows { AreRows rows }
     requires few { length lists.items ≤ 16 }
     // Proved (races, long-race): One history explains all answers of lists that are raced over a store without an end:
-    //   from its first entry on, of any length, with entries of the lists' sessions alone. The store has as many rows
+    //   from its first entry on, of any length, with entries of the lists' sessions alone. The store has as many slots
     //   as were asked for, and the gate can let in each statement.
     ensures outcome { IfOk result (IsLongRace (G.may_answer gate.now) rows (map (λ list. list.items) lists.items)) }
     // Proved (races, long-fault)

@@ -38,7 +38,7 @@ fn write_came<O: PieceWriter>(writer: &mut O, came: &Came) -> Result<Ended, Scri
 /// The script is one for `xa_orders::explore_script`, and is read whole. `runs` is in `[1, 1000000]`. Each
 /// race has a store of its own. The lines before are carried out one after another, then the lines side by
 /// side race, each session on its own thread, then the later lines are carried out one after another. The
-/// store's ring has `capacity` rows, in `[1, 1024]`. If `renews` is false, the lines side by side have room for
+/// store's ring has `capacity` slots, in `[1, 1024]`. If `renews` is false, the lines side by side have room for
 /// as many entries, else for any number. All races ask the same `gate`, before the lines side by side alone. If
 /// more than 100,000 ways that have carried out equally many lines are known to differ, not all outcomes are known:
 /// those that came are then numbered in ascending order, and only how many came is written. Nothing is written before
@@ -76,7 +76,7 @@ pub fn runs_script<I: PieceReader, O: PieceWriter, G: Gate + Sync, R: Threads + 
         (λ ended. IfSome (I.remaining reader.old) (λ script. AppendsRuns runs ended script (O.contents writer.old)
         (O.contents writer.new))) }
     // Proved (races, runs-held-as-asked): For each of the N texts that are counted there is a race over a store with
-    //   as many rows as were asked for. The gate can let in each line side by side, and these add no more entries
+    //   as many slots as were asked for. The gate can let in each line side by side, and these add no more entries
     //   than were asked for, unless races renew their stores. Two texts may be of one race. After `GateShut` the gate
     //   can stop a session at one of its lines side by side; after `Full` these lines can add more entries, and races
     //   don't renew their stores.

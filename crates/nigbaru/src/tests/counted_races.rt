@@ -69,7 +69,7 @@ impl Gate for LetsOne {
     }
 }
 
-/// Races a script `runs` times, in logs with room for `capacity` entries, or if `renews` over rings of as many rows.
+/// Races a script `runs` times, in logs with room for `capacity` entries, or if `renews` over rings of as many slots.
 /// Returns the fault, if there is one, and what is written.
 fn raced<G: Gate + Sync, R: Threads + Wait + Sync + Alloc<A = Global>>(
     rt: &R,

@@ -1,4 +1,4 @@
-//! Races of lists of statements over stores without an end, whose rings have from 1 to 1,024 rows.
+//! Races of lists of statements over stores without an end, whose rings have from 1 to 1,024 slots.
 ghost use Rattle.std.specs.Prelude.{◌≤◌, length, IfSome};
 ghost use Rattle.chain_log.specs.RingOpens.{AreRows};
 
@@ -74,7 +74,7 @@ fn is_whole(outcome: &LongOutcome, count: u64) -> bool {
         && are_there(history, 3, third.as_slice())
 }
 
-/// Whether a race of those three lists over a ring of so many rows gives that.
+/// Whether a race of those three lists over a ring of so many slots gives that.
 fn races<R: Threads + Wait + Sync>(rt: &R, alloc: Global, rows: u64, count: u64) -> bool
     requires { AreRows rows }
 {
@@ -92,7 +92,7 @@ fn history_is_whole_after_many_laps(rt: HostRuntime) {
     assert!(rt; races(&rt, rt.alloc(), 1, 60));
     assert!(rt; races(&rt, rt.alloc(), 3, 200));
     assert!(rt; races(&rt, rt.alloc(), 64, 600));
-    // No lap: 300 entries in 1,024 rows.
+    // No lap: 300 entries in 1,024 slots.
     assert!(rt; races(&rt, rt.alloc(), 1_024, 100));
 }
 
