@@ -6,13 +6,6 @@ use Rattle.xa_endless.specs.declared.session.EndlessSession.{EndlessSession}
 use Rattle.nigbaru_c.specs.{Holds.session_of, Outcome.{Fits, HasTried, status_of}, Telling.Tells}
 use Rattle.nigbaru_c.specs.declared.{asked.Asked.Asked, chair.Chair.Chair, outcome.Outcome.Outcome, told.Told.Told}
 
--- a text asks for the statement that it spells; for nothing if it spells none, for this fault, or one whose formatID is
--- too large
-abbrev pub Reads : List ℕ → Asked → Type 0
-Reads text (Asked.For statement) = Spells text statement
-Reads text (Asked.Unspelled fault) = FaultAt text fault.at
-Reads text Asked.Unfit = (statement : Statement) × Spells text statement × (Fits statement → ⊥)
-
 -- what comes of it: a session that is held has tried the statement, and answered it or not for a cause; asked for
 -- nothing it is unchanged, and the outcome says why. Without a session the outcome is Vacant, and none is held
 -- afterwards. There is no other outcome
@@ -20,7 +13,6 @@ abbrev pub Answers : Asked → Outcome → Option EndlessSession → Option Endl
 Answers asked Outcome.Vacant None None = Unit {0}
 Answers (Asked.For statement) (Outcome.Answered answer) (Some old) (Some new) = HasTried statement (Ok answer) old new
 Answers (Asked.For statement) (Outcome.Unanswered fault) (Some old) (Some new) = HasTried statement (Err fault) old new
-Answers (Asked.Unspelled fault) (Outcome.Misspelled told) (Some old) (Some new) = (told ≡ fault) × (new ≡ old)
 Answers Asked.Unfit Outcome.OutOfRange (Some old) (Some new) = new ≡ old
 Answers asked outcome old new = ⊥
 

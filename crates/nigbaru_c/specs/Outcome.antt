@@ -1,6 +1,4 @@
 -- The result of a text that C gives to a session.
---     status_of_reply, status_of_fault, status_of      the status that C gets
---     HasTried, Tried  what one try at a statement did, by its outcome
 use Rattle.std.specs.Prelude.{◌≡◌, ◌<◌, ◌^◌, ℕ, List, Result, Ok, Err, Option, None, Some}
 use Rattle.xa_xid.specs.declared.statement.Statement.{Statement}
 use Rattle.xa_statement.specs.{Grammar.Spells, FaultPlace.FaultAt}
@@ -56,10 +54,10 @@ pub record HasTried (statement : Statement) (result : Result Answer EndlessFault
   pub once : TriesOnce result (known_of old.member.pass) (known_of new.member.pass)
 
 -- one try at a statement, by the outcome: it was answered; it wasn't, for a cause; or its formatID is too large, and
--- the session is unchanged. No other outcome comes of a try
+-- the session is unchanged: such a statement isn't tried. No other outcome comes of a try
 abbrev pub Tried : Statement → Outcome → EndlessSession → EndlessSession → Type 0
-Tried statement (Outcome.Answered answer) old new = HasTried statement (Ok answer) old new
-Tried statement (Outcome.Unanswered fault) old new = HasTried statement (Err fault) old new
+Tried statement (Outcome.Answered answer) old new = Fits statement × HasTried statement (Ok answer) old new
+Tried statement (Outcome.Unanswered fault) old new = Fits statement × HasTried statement (Err fault) old new
 Tried statement (Outcome.Misspelled fault) old new = ⊥
 Tried statement Outcome.Vacant old new = ⊥
 Tried statement Outcome.OutOfRange old new = (Fits statement → ⊥) × (new ≡ old)

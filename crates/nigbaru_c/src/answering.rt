@@ -9,7 +9,7 @@ use xa_endless::EndlessSession;
 use xa_xid::Statement;
 
 /// Has the session attempt once to answer a statement.
-fn attempt(session: &mut EndlessSession, statement: &Statement) -> Outcome
+pub(crate) fn attempt(session: &mut EndlessSession, statement: &Statement) -> Outcome
     ensures { Answers (For statement.now) result (Some session.old) (Some session.new) }
 {
     match session.attempt(statement) {
@@ -28,7 +28,6 @@ impl Chair {
         match &mut self.hold {
             Some(Hold::Session(session)) => match asked {
                 Asked::For(statement) => attempt(session, statement),
-                Asked::Unspelled(fault) => Outcome::Misspelled(*fault),
                 Asked::Unfit => Outcome::OutOfRange,
             },
             _ => Outcome::Vacant,

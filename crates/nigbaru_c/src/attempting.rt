@@ -1,11 +1,58 @@
 //! The call that gives a session a statement.
-ghost use Rattle.std.specs.Prelude.{◌≡◌, Some, None};
-ghost use Rattle.nigbaru_c.specs.{Holds.session_of, Outcome.{status_of, Comes}, Telling.{Tells, Lists}};
+ghost use Rattle.std.specs.Prelude.{◌≡◌, IsTrue, Some, None};
+ghost use Rattle.nigbaru_c.specs.{Holds.{session_in, session_of}, Outcome.{status_of, Fits, Goes, Comes}};
+ghost use Rattle.nigbaru_c.specs.Telling.{Tells, Lists};
 ghost use Rattle.nigbaru_c.specs.declared.outcome.Outcome.{Outcome as OutcomeOf};
 
 use crate::telling::list;
-use crate::{Asked, Handle, Outcome, Told, XidPart, answering};
+use crate::{Chair, Handle, Hold, Outcome, Told, XidPart, answering};
 use std::alloc::Global;
+use xa_endless::EndlessSession;
+use xa_statement::read_statement;
+use xa_xid::Statement;
+
+/// Whether X/Open's layout, whose formatID is a number of 64 bits with a sign, can hold the statement's identifier;
+/// true if the statement has none.
+fn fits(statement: &Statement) -> bool
+    ensures yes { IsTrue result → Fits statement.now }
+    ensures no { Fits statement.now → IsTrue result }
+{
+    match statement {
+        Statement::Start(xid)
+        | Statement::End(xid)
+        | Statement::Prepare(xid)
+        | Statement::Commit { xid, .. }
+        | Statement::Rollback(xid) => xid.format_id < 1 << 63,
+        _ => true,
+    }
+}
+
+/// Has the session attempt once to answer the statement that a text spells, unless its formatID is above 2^63 - 1.
+fn attempt(session: &mut EndlessSession, text: &[u8]) -> Outcome
+    ensures { Goes text.now result session.old session.new }
+{
+    // The statement is answered where it was read: moving it costs more than reading a short text.
+    match read_statement(text) {
+        // X/Open's formatID has a sign, so a list of branches can't show one from 2^63 on.
+        Ok(statement) if !fits(&statement) => Outcome::OutOfRange,
+        Ok(statement) => answering::attempt(session, &statement),
+        Err(fault) => Outcome::Misspelled(fault),
+    }
+}
+
+impl Chair {
+    /// Has the session that is held attempt once to answer the statement that a text spells. If none is held, the
+    /// outcome is `Vacant`.
+    fn attempt(&mut self, text: &[u8]) -> Outcome
+        ensures comes { Comes text.now result (session_in self.old.hold) (session_in self.new.hold) }
+        ensures same { session_in self.old.hold ≡ None → self.new.hold ≡ self.old.hold }
+    {
+        match &mut self.hold {
+            Some(Hold::Session(session)) => attempt(session, text),
+            _ => Outcome::Vacant,
+        }
+    }
+}
 
 /// Has the handle's session attempt once to answer the statement that a text spells. If the handle holds no session,
 /// the outcome is `Vacant`.
@@ -13,8 +60,15 @@ fn answer(alloc: Global, session: &mut Handle, text: &[u8]) -> Outcome
     ensures comes { Comes text.now result (session_of session.old.held) (session_of session.new.held) }
     ensures same { session_of session.old.held ≡ None → session.new.held ≡ session.old.held }
 {
-    let asked = Asked::by(text);
-    answering::answer(alloc, session, &asked)
+    match session.empty(alloc) {
+        // The handle gets its box back, whatever the outcome.
+        Some(mut chair) => {
+            let outcome = chair.attempt(text);
+            session.fill(chair);
+            outcome
+        }
+        None => Outcome::Vacant,
+    }
 }
 
 /// Has a session try once to answer the statement that a text spells. See `nigbaru_attempt` of
