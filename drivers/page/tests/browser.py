@@ -1,11 +1,16 @@
-"""Chromium without a window, driven by its keys, as a person without a mouse would."""
+"""Chromium without a window, driven by its keys, as a person without a mouse would.
+
+Behind each key the page is waited for until it is at rest: whatever it asks its server is answered, and drawn. So what is
+looked at next doesn't depend on how fast the machine is. Keys that are to come while it works are given at once, as
+`press(one, other)`.
+"""
 import atexit
 import functools
 import os
 import time
 
 from selenium import webdriver
-from selenium.common.exceptions import NoSuchElementException
+from selenium.common.exceptions import JavascriptException, NoSuchElementException, StaleElementReferenceException
 from selenium.webdriver.common.action_chains import ActionChains
 from selenium.webdriver.common.by import By
 from selenium.webdriver.common.keys import Keys
@@ -13,6 +18,7 @@ from selenium.webdriver.chrome.options import Options
 from selenium.webdriver.chrome.service import Service
 
 PATIENCE = float(os.environ.get("PAGE_PATIENCE", 240))  # seconds: a machine may be busy with other work
+FORGOTTEN = 2  # seconds after which what was typed to choose is no longer the beginning of a word
 ROUNDS = 50  # the page may change under the keys, so what is left to go is counted anew after each round of them
 # How many elements the tabulator has to pass from the focus to the wanted one; fewer than 0 where it lies behind, 0
 # where it has the focus. Nothing where it isn't there, or takes no focus.
@@ -27,6 +33,41 @@ STEPS = """
 """
 
 
+# Keeps what is chosen in a list, or was already.
+CHOSEN = """
+    const list = document.querySelector(arguments[0]);
+    const keep = () => { window.chosen = list.selectedOptions[0]?.textContent ?? ''; };
+    list.addEventListener('change', keep);
+    keep();"""
+# Counts what each page asks and isn't answered yet. An answer counts as open until what waits for it has had its turn.
+COUNTING = """
+    window.asking = 0;
+    const counted = (real) => function (...all) {
+        window.asking += 1;
+        const done = () => setTimeout(() => { window.asking -= 1; });
+        const found = real.apply(this, all);
+        found.then(done, done);
+        return found;
+    };
+    window.fetch = counted(window.fetch);
+    for (const read of ['json', 'text']) Response.prototype[read] = counted(Response.prototype[read]);
+"""
+# Waits until nothing is asked, and what was drawn is laid out: a change of the size or of the address is told to the page
+# in a turn of its own, and may have it ask once more. (A page that isn't drawn has no frames, so these aren't waited for
+# in vain.)
+REST = """
+    const done = arguments[0];
+    const frame = () => new Promise((go) => { requestAnimationFrame(go); setTimeout(go, 200); });
+    const turn = () => new Promise((go) => setTimeout(go));
+    (async () => {
+        for (let quiet = 0; quiet < 2; ) {
+            await frame();
+            await turn();
+            quiet = window.asking ? 0 : quiet + 1;
+        }
+        done();
+    })();
+"""
 ELSEWHERE = "elsewhere.example"  # a name that leads to this machine
 SIZE = (1000, 800)
 WORDS = ("--headless=new", "--disable-gpu", "--disable-dev-shm-usage", "--force-prefers-reduced-motion",
@@ -54,6 +95,8 @@ def open_browser():
     options.set_capability("goog:loggingPrefs", {"browser": "ALL"})
     driver = webdriver.Chrome(options=options, service=Service("/usr/bin/chromedriver"))
     driver.set_page_load_timeout(PATIENCE)
+    driver.set_script_timeout(PATIENCE)
+    driver.execute_cdp_cmd("Page.addScriptToEvaluateOnNewDocument", {"source": COUNTING})
     return Browser(driver)
 
 
@@ -66,6 +109,18 @@ class Browser:
         self.driver.get("about:blank")
         self.driver.get(address)
         self.until(lambda: self.text("#program"), "the page says the program's version")
+        self.rest()
+
+    def rest(self):
+        """Waits until the page is at rest. (While a page gives way to another one, it can't be asked.)"""
+        def is_at_rest():
+            try:
+                self.driver.execute_async_script(REST)
+            except JavascriptException:
+                return False
+            return True
+
+        self.until(is_at_rest, "the page is at rest")
 
     def leave(self):
         """Leaves the page while its server is still there, to which it says so; what the browser complained of is no
@@ -102,8 +157,8 @@ class Browser:
     def _is_so(holds):
         try:
             return holds()
-        except NoSuchElementException:
-            return False
+        except (NoSuchElementException, StaleElementReferenceException):
+            return False  # it isn't there yet, or was made anew while it was looked at
 
     # texts that are shown for a while
 
@@ -117,13 +172,36 @@ class Browser:
     def heard(self):
         return self.run("return window.heard")
 
-    # a keyboard
+    # a keyboard and a pointer
 
     def press(self, *keys):
         ActionChains(self.driver).send_keys(*keys).perform()
+        self.rest()
 
     def chord(self, held, key):
         ActionChains(self.driver).key_down(held).send_keys(key).key_up(held).perform()
+        self.rest()
+
+    def click(self, css):
+        """Clicks by a pointer. What was drawn anew before the pointer came to it is looked for again."""
+        def is_clicked():
+            try:
+                ActionChains(self.driver).move_to_element(self.one(css)).click().perform()
+            except StaleElementReferenceException:
+                return False
+            return True
+
+        self.until(is_clicked, f"{css} stays where it is")
+        self.rest()
+
+    def sized(self, width, height):
+        """Gives the page another size, as a screen of its own."""
+        self.driver.execute_cdp_cmd("Emulation.setDeviceMetricsOverride",
+                                    {"width": width, "height": height, "deviceScaleFactor": 1, "mobile": False})
+        self.rest()
+
+    def unsized(self):
+        self.driver.execute_cdp_cmd("Emulation.clearDeviceMetricsOverride", {})
 
     def focus(self, css):
         """Comes to an element by the tabulator alone, from where the focus is."""
@@ -156,14 +234,18 @@ class Browser:
     def choose(self, css, beginning):
         """Chooses an option by typing its first word; where that was too slow to be taken for one word, once more. (A
         blank that comes late opens the list.)"""
-        self.focus(css)
-        for _ in range(5):
+        self.run(CHOSEN, css)
+
+        def is_chosen():
+            self.focus(css)
             self.press(beginning.split(" ")[0])
-            if self.run("return document.querySelector(arguments[0]).selectedOptions[0].textContent",
-                        css).startswith(beginning):
-                return
-            time.sleep(2)
-        raise AssertionError(f"{beginning} can't be chosen in {css}")
+            # (what was chosen may have had the page make the list anew)
+            if self.run("return window.chosen").startswith(beginning):
+                return True
+            time.sleep(FORGOTTEN)
+            return False
+
+        self.until(is_chosen, f"{beginning} is chosen in {css}")
 
     def complaints(self):
         """What the browser itself says is wrong, as a breach of the policy or an error of a script."""

@@ -17,31 +17,31 @@ ROOT = PAGE.parents[1]
 PROGRAM = Path(os.environ["XA_SCRIPT"])
 # MiB for each child, or unlimited where the program has an address sanitizer
 MEMORY = os.environ.get("XA_SCRIPT_MEMORY", "1024")
-PATIENCE = 120  # seconds: a machine may be busy with other work
+# the page, as a person starts it, but for its patience
+SERVE = [sys.executable, HERE / "patient.py", "--memory", MEMORY]
 PICTURES = Path(os.environ.get("PAGE_PICTURES", PAGE / "out"))
 sys.path.insert(0, str(PAGE))
 
-from classroom.limits import Limits  # noqa: E402
+from patient import PATIENCE, Patient as Limits  # noqa: E402
 from classroom.server import Classroom  # noqa: E402
 
 
 def says(job, text, *words):
     """What the program itself writes for an input, and its status."""
     ran = subprocess.run([PROGRAM, job, *words], input=text, stdout=subprocess.PIPE, stderr=subprocess.DEVNULL,
-                         timeout=60)
+                         timeout=PATIENCE)
     return ran.stdout, ran.returncode
 
 
 def help_of(*words):
-    return subprocess.run([PROGRAM, *words, "--help"], capture_output=True, text=True, timeout=60).stdout
+    return subprocess.run([PROGRAM, *words, "--help"], capture_output=True, text=True, timeout=PATIENCE).stdout
 
 
 class Page:
     """A page that is served by a process of its own, as a person starts it."""
 
     def __init__(self, *words, program=PROGRAM):
-        self.process = subprocess.Popen([PAGE / "serve", "--port", "0", "--program", program, "--memory", MEMORY,
-                                         *words], stdout=subprocess.PIPE)
+        self.process = subprocess.Popen([*SERVE, "--port", "0", "--program", program, *words], stdout=subprocess.PIPE)
         self.address = self.process.stdout.readline().decode().strip()
         assert self.address.startswith("http://127.0.0.1:"), self.address
         self.port = int(self.address.split(":")[2].strip("/"))
@@ -89,7 +89,7 @@ def room(program=PROGRAM, status=None, **limits):
 
 def send(port, method, path, body=None, headers=(), length=True):
     """A request with just these headers: its status, headers and body."""
-    connection = http.client.HTTPConnection("127.0.0.1", port, timeout=60)
+    connection = http.client.HTTPConnection("127.0.0.1", port, timeout=2 * PATIENCE)
     try:
         connection.putrequest(method, path, skip_host=True, skip_accept_encoding=True)
         for name, value in headers:

@@ -1,19 +1,19 @@
 """For a lecture hall: the projector, zoom, a clicker, the marked line, the quiz and the hand-out, and how much of it is
 in sight on small and large screens."""
-import contextlib
 import re
+import tempfile
 import unittest
+from itertools import permutations
 
-from selenium.common.exceptions import StaleElementReferenceException
-from selenium.webdriver.common.action_chains import ActionChains
+from browser import the_browser
+from racing import Racing, came, script_of
 from selenium.webdriver.common.keys import Keys
-from support import PAGE, ROOT, says
+from support import PAGE, ROOT, Page, says
 from views import View
 
 STORY = (ROOT / "cases/show/two_phase_commit.script").read_text()
 CALLS = (PAGE / "scenarios/04_crash_after_the_decision.calls").read_text()
 RECORD = (PAGE / "records/dirty_read.record").read_text()
-CLICKS = 5  # so often a click is tried
 LEAST = 28  # pixels of type on a projector of 1920
 # The sizes of the letters that are seen, each with where they stand.
 FONTS = """return [...document.querySelectorAll('body *')].filter((it) => it.checkVisibility({ visibilityProperty: true }) && !it.closest('.unseen') &&
@@ -45,13 +45,8 @@ OF_MESSAGE = """const box = (css) => document.querySelector(css).getBoundingClie
     return message.top >= box('#sequence-heads svg').bottom - 1 && low <= box('#commit-said').top + 1;"""
 
 
-class Hall(View):
+class Room(View):
     view = "sessions"
-
-    def sized(self, width, height):
-        self.browser.driver.execute_cdp_cmd("Emulation.setDeviceMetricsOverride",
-                                            {"width": width, "height": height, "deviceScaleFactor": 1, "mobile": False})
-        self.addCleanup(self.browser.driver.execute_cdp_cmd, "Emulation.clearDeviceMetricsOverride", {})
 
     def at(self, view, **state):
         self.view = view
@@ -63,6 +58,11 @@ class Hall(View):
             return len(self.browser.all("#given > li"))
         return int(self.browser.run("return document.querySelector('#sequence').dataset.given ?? 0"))
 
+    def focused(self):
+        return self.browser.run("return document.activeElement.dataset.do ?? document.activeElement.tagName")
+
+
+class Hall(Room):
     def test_type_is_large_on_a_projector(self):
         self.sized(1920, 1080)
         for view, state, there in [("sessions", {"script": STORY, "at": 8}, "#given > li"),
@@ -152,17 +152,6 @@ class Hall(View):
             self.browser.press(Keys.PAGE_DOWN)
             self.until(lambda: self.given() == 1, "also while a story is chosen")
 
-    def click(self, css):
-        """Clicks by a pointer. What was drawn anew before the pointer came to it is looked for again."""
-        for _ in range(CLICKS):
-            with contextlib.suppress(StaleElementReferenceException):
-                ActionChains(self.browser.driver).move_to_element(self.browser.one(css)).click().perform()
-                return
-        self.fail(f"{css} goes away again and again")
-
-    def focused(self):
-        return self.browser.run("return document.activeElement.dataset.do ?? document.activeElement.tagName")
-
     def test_a_clickers_space_steps_behind_a_click(self):
         """What was clicked last isn't pressed again."""
         lines = "\n".join(f"1 PUT 'k','{at}'" for at in range(6))
@@ -175,7 +164,7 @@ class Hall(View):
             self.at(view, **state, at=4)
             self.until(lambda: self.given() == 4, "four lines")
             for css, wanted in clicks:
-                self.click(f"#{view} {css}")
+                self.browser.click(f"#{view} {css}")
                 self.until(lambda wanted=wanted: self.given() == wanted, f"{wanted} lines behind {css}")
                 self.until(lambda: self.focused() == "step", f"Step has the focus behind {css}")
             self.browser.press(Keys.SPACE)
@@ -187,7 +176,7 @@ class Hall(View):
 
     def test_a_clickers_space_steps_behind_what_was_opened(self):
         for view, story in [("sessions", "#first-stories button"), ("commit", "#first-scenarios button")]:
-            for opened in (self.click, self.browser.push):
+            for opened in (self.browser.click, self.browser.push):
                 self.at(view)
                 self.until(lambda story=story: self.browser.all(story), "stories are offered")
                 opened(f"{story}:first-child")
@@ -195,28 +184,10 @@ class Hall(View):
                 self.browser.press(Keys.SPACE)
                 self.until(lambda: self.given() > 0, "a step")
         self.browser.push("#own-transfer summary")
-        self.click("#transfer-form .main")
+        self.browser.click("#transfer-form .main")
         self.until(lambda: self.given() == 0 and self.focused() == "step", "the transfer is open")
         self.browser.press(Keys.SPACE)
         self.until(lambda: self.given() > 0, "a step in it")
-
-    def test_a_clickers_space_goes_on_behind_race_and_judge(self):
-        self.at("race", script="1 XA START 'a'\n2 XA START 'a'", runs=20, seed=1)
-        self.click("#race-form .main")
-        self.until(lambda: self.browser.text("#race-progress") == "20 of 20 runs", "all runs came back")
-        self.assertEqual(self.focused(), "BODY")
-        self.browser.press(Keys.SPACE)
-        second = '#histories .history:nth-child(2)[aria-pressed="true"]'
-        self.until(lambda: self.browser.all(second), "the next history")
-        self.assertIn("&go=1&", self.browser.run("return location.hash"), "it isn't raced again")
-        self.click("#histories .history:first-child")
-        self.until(lambda: not self.browser.all(second), "the first one is picked")
-        self.browser.press(Keys.SPACE)
-        self.until(lambda: self.browser.all(second), "the next one")
-        self.at("judge", record=RECORD)
-        self.click("#judge-form .main")
-        self.until(lambda: self.browser.all("#picture svg"), "it is judged")
-        self.assertEqual(self.focused(), "BODY")
 
     def test_the_current_line_is_marked(self):
         self.open(script=STORY, at=8)
@@ -328,16 +299,16 @@ class Hall(View):
         last = len(CALLS.splitlines())
         self.until(lambda: self.given() == last, "the end")
         self.until(lambda: self.browser.run(OF_CALL, last) == 0, "the last call is in sight")
-        self.click('#commit [data-do="start"]')
+        self.browser.click('#commit [data-do="start"]')
         self.until(lambda: self.given() == 0 and self.browser.run(OF_CALL, 1) == 0, "the first call is in sight")
         while self.given() < last:
             before = self.given()
-            self.click('#commit [data-do="call"]')
+            self.browser.click('#commit [data-do="call"]')
             self.until(lambda before=before: self.given() > before, "a call")
             self.until(lambda: self.browser.run(OF_CALL, self.given()) == 0, f"line {self.given()} is in sight")
         for _ in range(8):
             before = self.place()
-            self.click('#commit [data-do="back"]')
+            self.browser.click('#commit [data-do="back"]')
             self.until(lambda before=before: self.place() != before and self.browser.run(OF_MESSAGE, *self.place()),
                        f"back from line {before}, in sight")
         self.browser.push("#own-transfer summary")
@@ -503,47 +474,6 @@ class Hall(View):
         self.browser.press(Keys.PAGE_UP)
         self.until(lambda: self.as_printed("#hand-lines .reply") == ["NONE", "OK"], "one back")
 
-    def test_a_clicker_goes_through_histories_and_along_a_record(self):
-        self.at("race", script="1 XA START 'a'\n2 XA START 'a'", runs=20, seed=1, go=1)
-        self.until(lambda: self.browser.text("#race-progress") == "20 of 20 runs", "all runs came back")
-        self.assertEqual(len(self.browser.all("#histories .history")), 2)
-        pressed = (
-            "return [...document.querySelectorAll('#histories .history')].map((it) => it.getAttribute('aria-pressed'))")
-        for key, wanted in [(Keys.PAGE_DOWN, ["false", "true"]), (Keys.PAGE_UP, ["true", "false"])]:
-            self.browser.press(key)
-            self.until(lambda wanted=wanted: self.browser.run(pressed) == wanted, "the next one, and back")
-        self.sized(1280, 800)
-        self.at("judge", record=RECORD + "1 > GET 'k'\n1 < NONE\n" * 30, go=1)
-        self.until(lambda: self.browser.all("#picture svg"), "it is drawn")
-        down = "return document.querySelector('#picture').scrollTop"
-        self.browser.press(Keys.PAGE_DOWN)
-        self.until(lambda: self.browser.run(down) > 100, "further down")
-        self.browser.press(Keys.PAGE_UP)
-        self.until(lambda: self.browser.run(down) == 0, "and up")
-
-    def test_a_clicker_keeps_the_marked_history_in_sight(self):
-        """And behind the last one it goes on to the outcomes."""
-        self.sized(1920, 700)
-        writers = (PAGE / "races/two_writers.script").read_text().partition("\n")[2]
-        self.at("race", script=writers, runs=60, seed=1, go=1)
-        self.until(lambda: self.browser.text("#race-progress") == "60 of 60 runs", "all runs came back")
-        self.until(lambda: self.browser.all("#possible li"), "the outcomes")
-        self.browser.press("f")
-        self.until(lambda: not self.browser.one("header").is_displayed(), "no tools")
-        count = len(self.browser.all("#histories .history"))
-        marked = "#histories .history:nth-child({})[aria-pressed=true]"
-        self.assertEqual(self.browser.run(IN_SIGHT, [f"#histories .history:nth-child({count})"]), [False],
-                         "they are more than the screen holds")
-        down = [(Keys.PAGE_DOWN, at) for at in range(2, count + 1)]
-        up = [(Keys.PAGE_UP, at) for at in range(count - 1, 0, -1)]
-        for key, at in [*down, *up, *down]:
-            self.browser.press(key)
-            self.until(lambda at=at: self.browser.all(marked.format(at)), f"history {at}")
-            self.assertEqual(self.browser.run(IN_SIGHT, [marked.format(at)]), [True], f"history {at} is seen")
-        before = self.browser.run(LEFT)
-        self.browser.press(Keys.PAGE_DOWN)
-        self.until(lambda: self.browser.run(LEFT) > before, "the outcomes below it")
-
     def test_a_clicker_goes_through_outcomes(self):
         """Where a script has parts there are no histories to go through."""
         self.sized(1920, 1080)
@@ -623,6 +553,86 @@ class Hall(View):
         self.assertEqual([(end, box) for end in ends for box in boxes if box[0] + 0.5 < end < box[1] - 0.5], [])
         self.assertEqual([end for end in ends if min(abs(end - it) for it in remarks) < 10], [],
                          "a remark stays with what follows it")
+
+
+class Raced(Room):
+    """Histories, which are what the test says."""
+
+    @classmethod
+    def setUpClass(cls):
+        folder = tempfile.TemporaryDirectory()
+        cls.addClassCleanup(folder.cleanup)
+        cls.racing = Racing(folder.name)
+        cls.page = Page(program=cls.racing.program)
+        cls.addClassCleanup(cls.page.end)
+        cls.browser = the_browser()
+        cls.addClassCleanup(cls.browser.leave)
+
+    def test_they_are_as_the_program_prints_them(self):
+        self.assertEqual(says("race", script_of((1, 1)).encode())[0].decode(), came((1, 1)))
+
+    def test_a_clickers_space_goes_on_behind_race_and_judge(self):
+        self.racing.gives([(1, 2), (2, 1)])
+        self.at("race", script=script_of((1, 2)), runs=2, seed=1)
+        self.browser.click("#race-form .main")
+        self.until(lambda: self.browser.text("#race-progress") == "2 of 2 runs", "all runs came back")
+        self.assertEqual(self.focused(), "BODY")
+        self.browser.press(Keys.SPACE)
+        second = '#histories .history:nth-child(2)[aria-pressed="true"]'
+        self.until(lambda: self.browser.all(second), "the next history")
+        self.assertIn("&go=1&", self.browser.run("return location.hash"), "it isn't raced again")
+        self.browser.click("#histories .history:first-child")
+        self.until(lambda: not self.browser.all(second), "the first one is picked")
+        self.browser.press(Keys.SPACE)
+        self.until(lambda: self.browser.all(second), "the next one")
+        self.at("judge", record=RECORD)
+        self.browser.click("#judge-form .main")
+        self.until(lambda: self.browser.all("#picture svg"), "it is judged")
+        self.assertEqual(self.focused(), "BODY")
+
+    def test_a_clicker_goes_through_histories_and_along_a_record(self):
+        self.racing.gives([(1, 2), (2, 1), (2, 1)])
+        self.at("race", script=script_of((1, 2)), runs=3, seed=1, go=1)
+        self.until(lambda: self.browser.text("#race-progress") == "3 of 3 runs", "all runs came back")
+        self.assertEqual(len(self.browser.all("#histories .history")), 2)
+        pressed = (
+            "return [...document.querySelectorAll('#histories .history')].map((it) => it.getAttribute('aria-pressed'))")
+        for key, wanted in [(Keys.PAGE_DOWN, ["false", "true"]), (Keys.PAGE_UP, ["true", "false"])]:
+            self.browser.press(key)
+            self.until(lambda wanted=wanted: self.browser.run(pressed) == wanted, "the next one, and back")
+        self.sized(1280, 800)
+        self.at("judge", record=RECORD + "1 > GET 'k'\n1 < NONE\n" * 30, go=1)
+        self.until(lambda: self.browser.all("#picture svg"), "it is drawn")
+        down = "return document.querySelector('#picture').scrollTop"
+        self.browser.press(Keys.PAGE_DOWN)
+        self.until(lambda: self.browser.run(down) > 100, "further down")
+        self.browser.press(Keys.PAGE_UP)
+        self.until(lambda: self.browser.run(down) == 0, "and up")
+
+    def test_a_clicker_keeps_the_marked_history_in_sight(self):
+        """And behind the last one it goes on to the outcomes."""
+        self.sized(1920, 700)
+        orders = sorted(set(permutations((1, 1, 1, 2, 2, 2))))
+        self.racing.gives(orders)
+        self.at("race", script=script_of(orders[0]), runs=len(orders), seed=1, go=1)
+        self.until(lambda: self.browser.text("#race-progress") == f"{len(orders)} of {len(orders)} runs",
+                   "all runs came back")
+        self.until(lambda: self.browser.all("#possible li"), "the outcomes")
+        self.browser.press("f")
+        self.until(lambda: not self.browser.one("header").is_displayed(), "no tools")
+        count = len(self.browser.all("#histories .history"))
+        marked = "#histories .history:nth-child({})[aria-pressed=true]"
+        self.assertEqual(self.browser.run(IN_SIGHT, [f"#histories .history:nth-child({count})"]), [False],
+                         "they are more than the screen holds")
+        down = [(Keys.PAGE_DOWN, at) for at in range(2, count + 1)]
+        up = [(Keys.PAGE_UP, at) for at in range(count - 1, 0, -1)]
+        for key, at in [*down, *up, *down]:
+            self.browser.press(key)
+            self.until(lambda at=at: self.browser.all(marked.format(at)), f"history {at}")
+            self.assertEqual(self.browser.run(IN_SIGHT, [marked.format(at)]), [True], f"history {at} is seen")
+        before = self.browser.run(LEFT)
+        self.browser.press(Keys.PAGE_DOWN)
+        self.until(lambda: self.browser.run(LEFT) > before, "the outcomes below it")
 
 
 if __name__ == "__main__":

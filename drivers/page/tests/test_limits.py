@@ -4,9 +4,12 @@ import os
 import signal
 import socket
 import threading
+import time
 import unittest
+from types import SimpleNamespace
+from unittest import mock
 
-from support import MEMORY, Page, alive, ask, children_of, own, room, send, show, standing_in, wait_for
+from support import MEMORY, PATIENCE, Page, alive, ask, children_of, own, room, send, show, standing_in, wait_for
 
 PUT = "1 PUT 'k','v'"
 
@@ -82,10 +85,12 @@ class HowMuch(unittest.TestCase):
                 thread.join()
 
     def test_an_idle_child_is_ended_and_the_talk_goes_on(self):
-        with room(idle_seconds=5) as served:
+        with room() as served:
             show(served.server_port, "a", PUT)
             self.assertEqual(served.pool.count(), 1)
-            wait_for(lambda: served.pool.count() == 0)
+            later = SimpleNamespace(monotonic=lambda: time.monotonic() + served.limits.idle_seconds)
+            with mock.patch("classroom.pool.time", later):
+                wait_for(lambda: served.pool.count() == 0)
             _, got = show(served.server_port, "a", PUT, "1 GET 'k'", known=1)
             self.assertEqual(got["answers"][0][0].split("\n")[0], "1 VALUE 0x76")
             self.assertIn("nobody had asked it", got["note"])
@@ -104,7 +109,7 @@ class HowMuch(unittest.TestCase):
                 children = page.children()
                 self.assertEqual(len(children), 3)
                 page.process.send_signal(end)
-                page.process.wait(20)
+                page.process.wait(PATIENCE)
                 wait_for(lambda: not any(alive(pid) for pid in children))
             finally:
                 page.process.kill()
@@ -151,7 +156,7 @@ class HowMuch(unittest.TestCase):
                              {"answers": [], "ended": {"status": 3, "error": "xa_script: out of memory"}, "note": None})
 
     def test_a_child_that_doesnt_answer_is_ended(self):
-        with standing_in("exec sleep 30") as program, room(program, answer_seconds=0.5) as served:
+        with standing_in("exec sleep 600") as program, room(program, answer_seconds=0.5) as served:
             _, got = show(served.server_port, "a", PUT)
             self.assertIn("didn't answer within 0.5 seconds", got["ended"]["error"])
             _, got = ask(served.server_port, "race", {"script": PUT})
@@ -169,7 +174,7 @@ class HowMuch(unittest.TestCase):
     def test_too_many_connections_are_closed(self):
         with room(connections=2) as served:
             held = [socket.create_connection(("127.0.0.1", served.server_port)) for _ in range(2)]
-            with socket.create_connection(("127.0.0.1", served.server_port), timeout=20) as third:
+            with socket.create_connection(("127.0.0.1", served.server_port), timeout=PATIENCE) as third:
                 self.assertEqual(third.recv(1), b"")
             for connection in held:
                 connection.close()

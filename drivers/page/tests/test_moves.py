@@ -20,9 +20,7 @@ class Moves(View):
         return int(self.browser.run("return document.querySelector('#sequence').dataset.given ?? 0"))
 
     def test_start_and_another_story_scroll_to_the_step(self):
-        self.browser.driver.execute_cdp_cmd("Emulation.setDeviceMetricsOverride",
-                                            {"width": 1100, "height": 640, "deviceScaleFactor": 1, "mobile": False})
-        self.addCleanup(self.browser.driver.execute_cdp_cmd, "Emulation.clearDeviceMetricsOverride", {})
+        self.sized(1100, 640)
         self.open(script=STORY)
         self.until(lambda: self.given() == len(STORY.splitlines()) and self.browser.run(DOWN, ".columns") > 0,
                    "the end is in sight")

@@ -8,7 +8,7 @@ import unittest
 import xml.etree.ElementTree as xml
 from pathlib import Path
 
-from support import PAGE, PROGRAM, ROOT, ask, room, says, standing_in
+from support import PAGE, PATIENCE, PROGRAM, ROOT, ask, room, says, standing_in
 from views import View, shown_bytes
 
 from classroom.picture import picture
@@ -193,7 +193,7 @@ class Pictures(unittest.TestCase):
 class Command(unittest.TestCase):
     def run_it(self, *words, program=PROGRAM):
         return subprocess.run([PAGE / "picture", *words], capture_output=True,
-                              env={**os.environ, "NIGBARU_PROGRAM": str(program)}, timeout=60)
+                              env={**os.environ, "NIGBARU_PROGRAM": str(program)}, timeout=PATIENCE)
 
     def test_it_writes_what_the_page_shows(self):
         with room() as served:

@@ -1,7 +1,6 @@
 """Playing a story: one step is one message, at a pace; what is said of it; and who wants no motion has none."""
 import unittest
 
-from selenium.webdriver.common.action_chains import ActionChains
 from selenium.webdriver.common.keys import Keys
 from support import PAGE, says
 from views import View
@@ -29,6 +28,22 @@ WATCH = """window.moved = [];
     const real = Element.prototype.animate;
     Element.prototype.animate = function (...all) {
         window.moved.push(this.getAttribute('class')); return real.apply(this, all); };"""
+# Keeps the steps of a story that plays until they are asked for, however fast the machine is.
+HOLD = """const [set, clear] = [setTimeout, clearTimeout], paces = [350, 1000, 2200, 4000];
+    window.held = null;
+    window.setTimeout = (does, after, ...more) => {
+        if (!paces.includes(after)) return set(does, after, ...more);
+        window.held = [does, after];
+        return -1; };
+    window.clearTimeout = (timer) => { if (timer === -1) window.held = null; else clear(timer); };"""
+GO_ON = "const held = window.held; window.held = null; held?.[0](); return held?.[1] ?? null"
+# Keeps the calls from being answered until that is asked for.
+LATE = """const ask = window.fetch;
+    window.late = [];
+    window.fetch = async (address, what) => {
+        if (address.endsWith('talk')) await new Promise((go) => window.late.push(go));
+        return ask(address, what); };"""
+ANSWER = "for (const go of window.late.splice(0)) go(); return document.querySelector('#progress-said').textContent"
 ROWS = """return [...document.querySelectorAll('#store-rows tbody')].map((store) => [...store.querySelectorAll('tr:not(.store)')]
     .map((row) => (row.matches('.changed') ? '*' : '') + [...row.children].map((it) => it.textContent).join(' ')).join())"""
 
@@ -53,6 +68,12 @@ class Playing(View):
         self.browser.run("""const list = document.querySelector('#commit [data-pace]');
             list.value = [...list.options].find((it) => it.textContent === arguments[0]).value;
             list.dispatchEvent(new Event('change'));""", name)
+
+    def go_on(self):
+        """Has the step come that a story waits with which plays. How long it would have waited; None where none does."""
+        waited = self.browser.run(GO_ON)
+        self.browser.rest()
+        return waited
 
     def moving(self, wanted):
         """Has the browser say that motion is wanted, or that it isn't."""
@@ -153,22 +174,32 @@ class Playing(View):
 
     def test_it_plays_to_its_end_and_again(self):
         self.open(calls="BEGIN\nBEGIN", at=0)
-        self.until(lambda: self.browser.all("#sequence .call"), "it is drawn")
+        self.browser.run(HOLD)
         self.pace("very fast")
-        self.browser.listen('#commit [data-do="play"]')
-        self.browser.push('#commit [data-do="play"]')
+        play = '#commit [data-do="play"]'
+        self.browser.listen(play)
+        self.browser.push(play)
+        for place in ((1, 1), (1, 0), (2, 1)):
+            self.at(*place)
+            self.assertEqual(self.go_on(), 350)
         self.at(2)
-        self.until(lambda: self.browser.heard() == ["Pause", "Play"], "it has come to its end")
+        self.assertEqual(self.browser.heard(), ["Pause", "Play"], "it has come to its end")
         self.pace("slow")
         self.browser.press("p")
-        self.until(lambda: self.place()[0] == 1, "it begins anew")
+        self.at(1, 1)  # it begins anew
         self.browser.press("p")
-        self.assertEqual(self.browser.text('#commit [data-do="play"]'), "Play", "it pauses")
-        self.assertEqual(self.place()[0], 1)
+        self.assertEqual(self.browser.text(play), "Play", "it pauses")
+        self.assertIsNone(self.go_on())
+        self.assertEqual(self.place(), (1, 1))
         self.browser.press("p")
-        self.until(lambda: self.browser.text('#commit [data-do="play"]') == "Pause", "it goes on")
+        self.at(1)
+        self.assertEqual(self.browser.text(play), "Pause", "it goes on")
+        self.assertEqual(self.go_on(), 4000)
+        self.at(2, 1)
         self.browser.press(Keys.PAGE_UP)
-        self.until(lambda: self.browser.text('#commit [data-do="play"]') == "Play", "who steps plays no more")
+        self.at(1)
+        self.assertEqual(self.browser.text(play), "Play", "who steps plays no more")
+        self.assertIsNone(self.go_on())
 
     def test_sessions_play_too(self):
         self.browser.go(f"{self.page.address}#sessions?script=1+PUT+'k','v'%0a2+GET+'k'%0a1+GET+'k'&at=0")
@@ -197,8 +228,7 @@ class Playing(View):
 
     def crash(self, by_pointer):
         if by_pointer:
-            head = self.browser.one('#sequence-heads .lane-head[data-lane="1"]')
-            ActionChains(self.browser.driver).move_to_element(head).click().perform()
+            self.browser.click('#sequence-heads .lane-head[data-lane="1"]')
         else:
             self.browser.press("x")
 
@@ -249,6 +279,20 @@ class Playing(View):
         self.until(lambda: self.browser.text("#progress-said") == "3 of 9", "three calls")
         self.at(5)
 
+    def test_progress_goes_on_from_where_it_was_moved(self):
+        """Also while what it was moved to before is still to be answered."""
+        self.open(calls=CALLS, at=0)
+        self.browser.focus("#progress")
+        self.browser.run(LATE)
+        self.browser.press(Keys.ARROW_RIGHT)
+        self.browser.press(Keys.ARROW_RIGHT)
+        self.assertEqual(self.browser.run(ANSWER), "0 of 9", "nothing was answered")
+        self.until(lambda: self.browser.text("#progress-said") == "1 of 9", "the first one is")
+        self.browser.press(Keys.ARROW_RIGHT)
+        self.until(lambda: self.browser.run(ANSWER) == "3 of 9", "three calls")
+        self.at(5)
+        self.assertEqual(self.browser.one("#progress").get_property("value"), "3")
+
     def test_a_quiz_asks_for_whole_calls_and_isnt_played(self):
         self.open(calls=CALLS, at=FINISH - 1)
         self.at(FINISH - 1)
@@ -267,17 +311,14 @@ class Playing(View):
             pen.font = `${style.fontSize} ${style.fontFamily}`;
             const room = it.clientWidth - parseFloat(style.paddingLeft) - parseFloat(style.paddingRight);
             return [...it.options].map((one) => one.textContent).filter((text) => pen.measureText(text).width > room + 1); })"""
-        cdp = self.browser.driver.execute_cdp_cmd
-        self.addCleanup(cdp, "Emulation.clearDeviceMetricsOverride", {})
-        for width, height in ((1280, 800), (390, 844)):
-            cdp("Emulation.setDeviceMetricsOverride",
-                {"width": width, "height": height, "deviceScaleFactor": 1, "mobile": False})
+        for size in ((1280, 800), (390, 844)):
+            self.sized(*size)
             for view in ("sessions", "race", "judge", "commit"):
                 self.browser.go(f"{self.page.address}#{view}")
-                self.assertEqual(self.browser.run(fits), [], (width, view))
+                self.assertEqual(self.browser.run(fits), [], (size, view))
             self.open(calls=CALLS, at=0)
             self.until(lambda: len(self.browser.all("#stops option")) > 1 or self.browser.text("#stops"), "stops")
-            self.assertEqual(self.browser.run(fits), [], (width, "stops"))
+            self.assertEqual(self.browser.run(fits), [], (size, "stops"))
             self.assertEqual(self.browser.text("#calls-remark"), LINES[0].removeprefix("# "))
 
 

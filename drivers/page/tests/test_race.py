@@ -269,7 +269,7 @@ class Race(View):
         self.open(script="1 PUT 'k','1'\n2 GET 'k'", hand="0")
         self.until(lambda: len(self.browser.all("#hand-next .go-next")) == 2, "two sessions can go")
         self.browser.replace("#race-script", "1 GET 'j'\n2 GET 'k'")
-        self.browser.one('#hand-next [data-session="1"]').click()
+        self.browser.click('#hand-next [data-session="1"]')
         self.until(lambda: "GET 'j'" in self.browser.text("#by-hand"), "the new script")
         self.assertNotIn("PUT", self.browser.text("#by-hand"))
 

@@ -3,7 +3,7 @@ that the bench tests; and that labels keep to their way."""
 import unittest
 import xml.etree.ElementTree as ET
 
-from support import PAGE, ask, room
+from support import PAGE, PATIENCE, ask, room
 from test_sequence import SVG, call, drawn, said, story
 
 TRANSFER = ["AT 0 PUT 'alice','100'", "AT 1 PUT 'bob','100'", "BEGIN", "WORK 1 0 PUT 'alice','90'",
@@ -70,7 +70,7 @@ class Rows(unittest.TestCase):
         self.assertEqual(boxes(svg, 11), [["*bob 100 110"]], "the recovery's commit")
 
     def test_each_step_is_a_message_and_says_what_it_does(self):
-        with room(probe_seconds=60) as served:
+        with room(probe_seconds=PATIENCE) as served:
             status, got = ask(served.server_port, "sequence", {"lines": TRANSFER, "stores": 2})
         self.assertEqual((status, got["whole"]), (200, True))
         steps = {it["line"]: it for it in got["steps"]}
@@ -110,7 +110,7 @@ class Lanes(unittest.TestCase):
     def test_lifelines_stay_where_they_are(self):
         """However many lines are given."""
         places = set()
-        with room(probe_seconds=60) as served:
+        with room(probe_seconds=PATIENCE) as served:
             for at in range(len(TRANSFER) + 1):
                 _, got = ask(served.server_port, "sequence", {"lines": TRANSFER, "stores": 2, "at": at})
                 places.add(tuple(sorted({it.get("x1") for it in ET.fromstring(got["svg"]).iter(f"{SVG}line")

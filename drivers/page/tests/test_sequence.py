@@ -10,7 +10,7 @@ import unittest
 import xml.etree.ElementTree as ET
 from pathlib import Path
 
-from support import PAGE, PROGRAM, ask, room, says
+from support import PAGE, PATIENCE, PROGRAM, ask, room, says
 from views import View, in_address
 
 SCENARIOS = sorted((PAGE / "scenarios").glob("*.calls"))
@@ -45,7 +45,7 @@ FONTS = """return [...new Set([...document.querySelectorAll('body *')].filter((i
 
 
 def drawn(path, *words, calls=None):
-    ran = subprocess.run([PAGE / "sequence", "--program", PROGRAM, *words, path], capture_output=True, timeout=240,
+    ran = subprocess.run([PAGE / "sequence", "--program", PROGRAM, *words, path], capture_output=True, timeout=PATIENCE,
                          input=None if calls is None else "\n".join(calls).encode())
     if ran.returncode:
         raise AssertionError(ran.stderr)
@@ -224,7 +224,7 @@ class Files(unittest.TestCase):
         with tempfile.TemporaryDirectory() as folder:
             file = Path(folder) / "drawn.png"
             command = [PAGE / "sequence", "--program", PROGRAM, "--png", file, SCENARIOS[0]]
-            ran = subprocess.run(command, capture_output=True, text=True, timeout=240)
+            ran = subprocess.run(command, capture_output=True, text=True, timeout=PATIENCE)
             self.assertEqual((ran.returncode, ran.stdout, ran.stderr), (0, "", ""))
             picture = file.read_bytes()
             self.assertEqual(picture[:8], b"\x89PNG\r\n\x1a\n")
@@ -233,7 +233,7 @@ class Files(unittest.TestCase):
             self.assertEqual((wide, high), (2 * int(svg.get("width")), 2 * int(svg.get("height"))))
             self.assertGreater(len(picture), 30_000, "it isn't blank")
             os.symlink(sys.executable, Path(folder) / "python3")
-            without = subprocess.run(command, capture_output=True, text=True, timeout=240, env={"PATH": folder})
+            without = subprocess.run(command, capture_output=True, text=True, timeout=PATIENCE, env={"PATH": folder})
             advice = ("sequence: there is no rsvg-convert: install librsvg2-bin, or leave out --png and save PNG in "
                       "the page\n")
             self.assertEqual((without.returncode, without.stderr), (1, advice))
@@ -244,7 +244,7 @@ class Files(unittest.TestCase):
             status, got = ask(served.server_port, "sequence", {"lines": lines})
             self.assertEqual((status, got["whole"]), (200, False))
             early = got["rows"]
-        with room(probe_seconds=60) as served:
+        with room(probe_seconds=PATIENCE) as served:
             status, got = ask(served.server_port, "sequence", {"lines": lines})
             self.assertEqual((status, got["whole"]), (200, True))
             self.assertGreater(len(got["rows"]), len(early))
@@ -256,7 +256,7 @@ class Files(unittest.TestCase):
     def test_in_a_quiz_a_remark_is_kept_back_until_its_call_is_answered(self):
         lines = ["# one", "BEGIN", "# two", "", "# three", "ABANDON 1", "# four", "BEGIN", "# five"]
         remarks = ["one", "two", "three", "four", "five"]
-        with room(probe_seconds=60) as served:
+        with room(probe_seconds=PATIENCE) as served:
             # by how many lines were given, how many remarks stand above what is answered; at the end all are told
             for at, told in ((0, 0), (1, 0), (2, 1), (3, 1), (5, 1), (6, 3), (7, 3), (8, 5), (9, 5)):
                 for quiz, asked in ((True, False), (True, True), (False, False)):
@@ -279,11 +279,6 @@ class Drawn(View):
 
     def given(self):
         return int(self.browser.run("return document.querySelector('#sequence').dataset.given ?? 0"))
-
-    def sized(self, width, height):
-        self.browser.driver.execute_cdp_cmd("Emulation.setDeviceMetricsOverride",
-                                            {"width": width, "height": height, "deviceScaleFactor": 1, "mobile": False})
-        self.addCleanup(self.browser.driver.execute_cdp_cmd, "Emulation.clearDeviceMetricsOverride", {})
 
     def assert_apart(self, where):
         """No two labels lie over one another, and none is outside the drawing, which is no wider than its room."""

@@ -7,7 +7,7 @@ from unittest import mock
 
 from browser import ELSEWHERE, the_browser
 from selenium.webdriver.common.keys import Keys
-from support import MEMORY, PAGE, PROGRAM, ROOT, Classroom, Limits, Page, send, standing_in
+from support import PAGE, PATIENCE, PROGRAM, ROOT, SERVE, Classroom, Limits, Page, send, standing_in
 
 
 def own_addresses():
@@ -16,12 +16,9 @@ def own_addresses():
     return [address for address in listed if re.fullmatch(r"[\d.]+", address)]
 
 
-SERVE = [PAGE / "serve", "--memory", MEMORY]
-
-
-def refused(*words):
+def refused(*words, serve=SERVE):
     """What a start that fails says; it is one line."""
-    ran = subprocess.run([*SERVE, *words], capture_output=True, text=True, timeout=60)
+    ran = subprocess.run([*serve, *words], capture_output=True, text=True, timeout=PATIENCE)
     return ran.returncode, ran.stderr
 
 
@@ -29,14 +26,14 @@ def started(test, host):
     """A page at this host, which ends with the test."""
     process = subprocess.Popen([*SERVE, "--program", PROGRAM, "--port", "0", "--host", host],
                                stdout=subprocess.PIPE, stderr=subprocess.PIPE, text=True)
-    for last in (process.stderr.close, process.stdout.close, lambda: process.wait(20), process.terminate):
+    for last in (process.stderr.close, process.stdout.close, lambda: process.wait(PATIENCE), process.terminate):
         test.addCleanup(last)
     return process
 
 
 class Started(unittest.TestCase):
-    def assert_advice(self, words, *said):
-        status, text = refused(*words)
+    def assert_advice(self, words, *said, serve=SERVE):
+        status, text = refused(*words, serve=serve)
         self.assertEqual((status, len(text.splitlines())), (1, 1), text)
         for part in ("serve: ", *said):
             self.assertIn(part, text)
@@ -58,7 +55,7 @@ class Started(unittest.TestCase):
         with standing_in("exec yes") as endless:
             self.assert_advice(["--program", endless], "isn't xa_script")
         with standing_in("exec sleep 600") as slow:
-            self.assert_advice(["--program", slow], "isn't xa_script")
+            self.assert_advice(["--program", slow], "isn't xa_script", serve=[PAGE / "serve"])
 
     def test_another_machines_address(self):
         self.assert_advice(["--program", PROGRAM, "--port", "0", "--host", "203.0.113.9"],
@@ -79,7 +76,7 @@ class AtAName(unittest.TestCase):
             self.assertEqual(send(port, "GET", "/", headers=[("Host", f"{name}:{port}")])[0], 200, name)
         self.assertEqual(send(port, "GET", "/", headers=[("Host", f"127.0.0.2:{port}")])[0], 403)
         process.terminate()
-        self.assertEqual(process.communicate(timeout=20), ("", ""))
+        self.assertEqual(process.communicate(timeout=PATIENCE), ("", ""))
 
 
 class WithoutANetwork(unittest.TestCase):
@@ -110,7 +107,7 @@ class Opened(unittest.TestCase):
 
     def test_it_answers_at_this_machines_addresses_by_number_only(self):
         for address in ["127.0.0.1", *own_addresses()]:
-            with socket.create_connection((address, self.port), 10) as line:
+            with socket.create_connection((address, self.port), PATIENCE) as line:
                 line.sendall(f"GET / HTTP/1.1\r\nHost: {address}:{self.port}\r\nConnection: close\r\n\r\n".encode())
                 self.assertIn(b" 200 ", line.recv(64))
         for host in (f"{ELSEWHERE}:{self.port}", f"203.0.113.9:{self.port}", f"localhost:{self.port + 1}"):

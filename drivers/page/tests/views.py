@@ -38,6 +38,11 @@ class View(unittest.TestCase):
         """Opens the address that the page has now, as somebody does to whom it was sent."""
         self.browser.go(self.browser.run("return location.href"))
 
+    def sized(self, width, height):
+        """Gives the page this size until the test ends."""
+        self.browser.sized(width, height)
+        self.addCleanup(self.browser.unsized)
+
     def until(self, holds, what):
         self.browser.until(holds, what)
 
