@@ -10,7 +10,8 @@ import os
 import time
 
 from selenium import webdriver
-from selenium.common.exceptions import JavascriptException, NoSuchElementException, StaleElementReferenceException
+from selenium.common.exceptions import (NoSuchElementException, StaleElementReferenceException, TimeoutException,
+                                        WebDriverException)
 from selenium.webdriver.common.action_chains import ActionChains
 from selenium.webdriver.common.by import By
 from selenium.webdriver.common.keys import Keys
@@ -116,7 +117,9 @@ class Browser:
         def is_at_rest():
             try:
                 self.driver.execute_async_script(REST)
-            except JavascriptException:
+            except TimeoutException:
+                raise
+            except WebDriverException:
                 return False
             return True
 
