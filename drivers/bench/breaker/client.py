@@ -20,7 +20,7 @@ class Refused(Exception):
 class Client:
     """A connection to a store. Raises OSError if it is lost, and Refused."""
 
-    def __init__(self, port: int, patience: float = 60) -> None:
+    def __init__(self, port: int, patience: float = 240) -> None:
         self._socket = socket.create_connection(("127.0.0.1", port), timeout=patience)
         self._held = b""
         try:

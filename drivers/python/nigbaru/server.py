@@ -129,7 +129,7 @@ class Server:
         if self.child is None:
             return "it ended"
         try:
-            ended = f"{self.child.args!r} ended with status {self.child.wait(1)}"
+            ended = f"{self.child.args!r} ended with status {self.child.wait(10)}"
         except subprocess.TimeoutExpired:
             return "it closed its output"
         return ended if self._has_answered else f'{ended}; a command is wanted that serves, as ["xa_script", "serve"]'
