@@ -273,14 +273,14 @@ class Patience(Case):
     def test_time_limits(self):
         """A client that is idle, one that stops in a packet, and one that doesn't log in are closed when their time is
         over; the one that asks goes on."""
-        server = self.serve("--idle", "6", "--patience", "3")
+        server = self.serve("--idle", "20", "--patience", "8")
         asks, idle, half, silent = (self.client(server), self.client(server), self.client(server),
                                     self.ends.enter_context(Client(server.port, log_in=False)))
         self.ok(idle, "XA START 'a'", "PUT 'k','v'")
         half.socket.sendall(b"\x10\0\0\0\x03XA")
-        for client, words in ((idle, "no command for 6 seconds"),
-                              (half, "half a packet, and nothing more for 3 seconds"),
-                              (silent, "silent for 3 seconds")):
+        for client, words in ((idle, "no command for 20 seconds"),
+                              (half, "half a packet, and nothing more for 8 seconds"),
+                              (silent, "silent for 8 seconds")):
             wait_for(lambda: self.ok(asks, "DO 1") and server.logged(words), words)
             self.assertTrue(client.is_closed())
         self.ok(asks, "PUT 'k','w'")
@@ -289,7 +289,7 @@ class Patience(Case):
     def test_a_client_that_drips(self):
         """One that sends a byte now and then is closed when the time for its packet is over, however little it was
         silent."""
-        server = self.serve("--patience", "2")
+        server = self.serve("--patience", "8")
         for log_in in (True, False):
             with Client(server.port, log_in=log_in) as client:
                 if not log_in:
@@ -299,8 +299,8 @@ class Patience(Case):
                     for byte in packet:
                         client.socket.sendall(bytes((byte,)))
                         time.sleep(0.1)
-        wait_for(lambda: server.logged("half a packet, and nothing more for 2 seconds")
-                 and server.logged("silent for 2 seconds"), "both are logged")
+        wait_for(lambda: server.logged("half a packet, and nothing more for 8 seconds")
+                 and server.logged("silent for 8 seconds"), "both are logged")
         self.ok(self.client(server), "PUT 'k','v'")
 
     def test_a_client_whose_machine_may_be_gone_is_asked(self):
