@@ -19,6 +19,7 @@ from selenium.webdriver.chrome.options import Options
 from selenium.webdriver.chrome.service import Service
 
 PATIENCE = float(os.environ.get("PAGE_PATIENCE", 240))  # seconds: a machine may be busy with other work
+TRIES = 5
 FORGOTTEN = 2  # seconds after which what was typed to choose is no longer the beginning of a word
 ROUNDS = 50  # the page may change under the keys, so what is left to go is counted anew after each round of them
 # How many elements the tabulator has to pass from the focus to the wanted one; fewer than 0 where it lies behind, 0
@@ -94,11 +95,21 @@ def open_browser():
     if os.geteuid() == 0:
         options.add_argument("--no-sandbox")  # Chromium doesn't start as root with it
     options.set_capability("goog:loggingPrefs", {"browser": "ALL"})
-    driver = webdriver.Chrome(options=options, service=Service("/usr/bin/chromedriver"))
+    driver = started(options)
     driver.set_page_load_timeout(PATIENCE)
     driver.set_script_timeout(PATIENCE)
     driver.execute_cdp_cmd("Page.addScriptToEvaluateOnNewDocument", {"source": COUNTING})
     return Browser(driver)
+
+
+def started(options):
+    """Starts it, once more where the machine was so busy that Selenium waited in vain."""
+    for rest in reversed(range(TRIES)):
+        try:
+            return webdriver.Chrome(options=options, service=Service("/usr/bin/chromedriver"))
+        except WebDriverException:
+            if not rest:
+                raise
 
 
 class Browser:
