@@ -6,8 +6,7 @@ use Rattle.xa_xid.specs.declared.{xid.Xid.Xid, statement.Statement.Statement}
 use Rattle.xa_server.specs.{State.{Branch, State, association_of}, Step.{after, effect, with_branch, with_changed}}
 use Rattle.xa_server.{specs.declared.association.Association.Association, proofs.Changes.outcome}
 use Rattle.xa_session.proofs.Replaying.{state_at-next}
-use Rattle.xa_coordinator.specs.Lasting.{history_of}
-use Rattle.xa_manager.specs.declared.counted_store.CountedStore.{CountedStore}
+use Rattle.xa_coordinator.specs.{Lasting.history_of, declared.store.LastingStore.LastingStore}
 use Rattle.xa_manager.specs.Atomic.{ChangesRows, KeepsRowsOr, state_before}
 use Rattle.std.specs.FinMap as map
 
@@ -57,12 +56,12 @@ after_rows state session statement = elim (outcome state session statement) [
 ]
 
 -- at each place of a store's history the committed values stay, or the entry there is of a kind that changes them
-pub rows_keep : (counted : CountedStore) (place : ℕ) (entry : Entry)
-    → slice_get (history_of counted.store) place ≡ Some entry
-    → KeepsRowsOr counted place entry
-rows_keep counted place entry there = elim (after_rows (state_before counted place) entry.session entry.statement) [
+pub rows_keep : (kept : LastingStore) (place : ℕ) (entry : Entry)
+    → slice_get (history_of kept) place ≡ Some entry
+    → KeepsRowsOr kept place entry
+rows_keep kept place entry there = elim (after_rows (state_before kept place) entry.session entry.statement) [
   | inl same ↦
-      inl (ap (λ (s : State). s.rows) (state_at-next counted.store.first.value
-      (history_of counted.store) place entry there) ∙ same)
+      inl (ap (λ (s : State). s.rows) (state_at-next kept.first.value
+      (history_of kept) place entry there) ∙ same)
   | inr changes ↦ inr changes
 ]

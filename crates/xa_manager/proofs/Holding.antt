@@ -6,16 +6,16 @@ use Rattle.xa_xid.specs.declared.statement.Statement.{Statement, TheVariants.{St
 use Rattle.xa_xid.specs.declared.statement.Statement.TheVariants.{Recover, Unsupported, Get, Put, Del, Disconnect}
 use Rattle.xa_session.specs.Answer.{entry_of}
 use Rattle.xa_coordinator.specs.{Branch.IsBranchOf, Decisions.is_decided, Participants.{takes_part, OnlyTakesPart}}
-use Rattle.xa_coordinator.specs.{Stores.EachStore, Fusing.limited, declared.fused.Fused.Fused}
+use Rattle.xa_coordinator.specs.{Stores.EachStore, Fusing.limited, Lasting.own_view}
+use Rattle.xa_coordinator.specs.declared.{fused.Fused.Fused, store.LastingStore.LastingStore}
 use Rattle.xa_coordinator.specs.declared.transaction.{Prepared.Prepared, VoteKind.VoteKind}
-use Rattle.xa_manager.specs.{Ledger.{stage_of, IsTransactionOf}, declared.stage.Stage.Stage}
-use Rattle.xa_manager.specs.{declared.counted_store.CountedStore.CountedStore, Counted.own_of, Runs.Managing}
+use Rattle.xa_manager.specs.{Ledger.{stage_of, IsTransactionOf}, declared.stage.Stage.Stage, Runs.Managing}
 use Rattle.xa_manager.{specs.Atomic.{branch_in, HasAdded, IsAlone}, proofs.Stages.{Kept, AllReady}}
 use Rattle.xa_manager.proofs.Added.{AddsOnly, adds_none, added_or_there, stays_there}
 
--- a counted store's session, with another client's beside it, that may be made to fail
+-- an unbounded store's session, with another client's beside it, that may be made to fail
 abbrev pub Session : Type 0
-Session = Fused CountedStore
+Session = Fused LastingStore
 
 -- ---- how far a transaction has come
 
@@ -87,7 +87,7 @@ pub record Holds (manager : Managing) : Type 0 where
 pub record Grew (kind : ℕ → Statement → Type 0) (store : ℕ) (old : List Session) (after : Session) : Type 0 where
   pub before : Session
   pub there : slice_get old store ≡ Some before
-  pub adds : AddsOnly (kind store) (limited own_of before) (limited own_of after)
+  pub adds : AddsOnly (kind store) (limited own_view before) (limited own_view after)
 
 -- each store's session of `new` was there in `old`, and added statements of its kind since
 abbrev pub Grows : (ℕ → Statement → Type 0) → List Session → List Session → Type 0
@@ -95,7 +95,7 @@ Grows kind old new = (store : ℕ) (after : Session) → slice_get new store ≡
 
 -- if each store's session added only statements of its kind, the sessions grew by that
 pub grows_each : (kind : ℕ → Statement → Type 0) (old new : List Session) → length new ≡ length old
-    → EachStore (limited own_of) (λ store. AddsOnly (kind store)) old new → Grows kind old new
+    → EachStore (limited own_view) (λ store. AddsOnly (kind store)) old new → Grows kind old new
 grows_each kind old new count each store after is =
     let below : store < length old = let there = slice_get_within new store after is in omega (arith, there, count) in
     let was = slice_get-get_or old store after below in
@@ -104,7 +104,7 @@ grows_each kind old new count each store after is =
 -- sessions that stay as they are have grown by nothing
 pub grows_same : (kind : ℕ → Statement → Type 0) (sessions : List Session) → Grows kind sessions sessions
 grows_same kind sessions store after is =
-    record { before = after; there = is; adds = adds_none (kind store) (limited own_of after) }
+    record { before = after; there = is; adds = adds_none (kind store) (limited own_view after) }
 
 -- a statement that a session has added was added before, or is of the kind
 pub grew_cases : (kind : ℕ → Statement → Type 0) (store : ℕ) (old : List Session) (after : Session)
@@ -112,7 +112,7 @@ pub grew_cases : (kind : ℕ → Statement → Type 0) (store : ℕ) (old : List
     → (grew : Grew kind store old after) → HasAdded after statement
     → HasAdded grew.before statement ⊎ kind store statement
 grew_cases kind store old after statement grew added =
-    added_or_there (kind store) (limited own_of grew.before) (limited own_of after) (entry_of 1 statement) grew.adds
+    added_or_there (kind store) (limited own_view grew.before) (limited own_view after) (entry_of 1 statement) grew.adds
     added
 
 -- a statement that was added before still is
@@ -120,7 +120,8 @@ pub grew_stays : (kind : ℕ → Statement → Type 0) (store : ℕ) (old : List
     (statement : Statement)
     → (grew : Grew kind store old after) → HasAdded grew.before statement → HasAdded after statement
 grew_stays kind store old after statement grew added =
-    stays_there (kind store) (limited own_of grew.before) (limited own_of after) (entry_of 1 statement) grew.adds added
+    stays_there (kind store) (limited own_view grew.before) (limited own_view after) (entry_of 1 statement)
+    grew.adds added
 
 -- ---- what goes on going
 

@@ -14,13 +14,13 @@ use Rattle.xa_coordinator.specs.Outcomes.{branch_of, finish_statement, finish_fo
 use Rattle.xa_coordinator.specs.{Participants.{takes_part, OnlyTakesPart}, declared.closing.Closing.Closing}
 use Rattle.xa_coordinator.specs.declared.closing.Closing.TheVariants.{InTwoPhases, InOnePhase, RollBack}
 use Rattle.xa_coordinator.specs.declared.transaction.{Prepared.Prepared, Transaction.Transaction, VoteKind.VoteKind}
-use Rattle.xa_coordinator.specs.{declared.vote.Vote.Vote, Lasting.own_view, Fusing.limited}
+use Rattle.xa_coordinator.specs.{declared.vote.Vote.Vote, Lasting.{own_view, other_alone}, Fusing.limited}
+use Rattle.xa_coordinator.specs.declared.store.LastingStore.{LastingStore}
 use Rattle.xa_coordinator.proofs.Listed.{number_behind_is}
 use Rattle.xa_manager.specs.{Beside.{CarriesBeside, LeavesAlone}, Calls.takes_rows, declared.response.Response.Response}
 use Rattle.xa_manager.specs.Carried.{HasWorked, HasVoted, IsFinished, IsAbandoned, HasEnded, stage_after}
 use Rattle.xa_manager.specs.{Ledger.{stage_of, with_stage, IsTransactionOf}, declared.call.Call.Call}
 use Rattle.xa_manager.specs.declared.stage.Stage.{Stage, TheVariants.{Working, Ready, Voted, Over}}
-use Rattle.xa_manager.specs.{declared.counted_store.CountedStore.CountedStore, Counted.{own_of, other_of}}
 use Rattle.xa_manager.specs.{Runs.{Managing, IsAnswered}, Atomic.{branch_in, HasAdded, IsPlain, IsAlone}}
 use Rattle.xa_manager.proofs.{Stages.kept_voted, States.{worked_kept, voted_kept, voted_ready}}
 use Rattle.xa_manager.proofs.Added.{AddsOnly, adds_none, ending_adds, vote_adds, work_adds, work_keeps}
@@ -43,7 +43,7 @@ adds_known kind old new same = record {
 pub grows_within : (old new : List Session) → map (λ (s : Session). s.inner) new ≡ map (λ (s : Session). s.inner) old
     → Grows Never old new
 grows_within old new same store after is =
-    let inner : Session → CountedStore = λ s. s.inner in
+    let inner : Session → LastingStore = λ s. s.inner in
     let count : length new ≡ length old = sym (length-map new inner) ∙ ap length same ∙ length-map old inner in
     let below : store < length old = let there = slice_get_within new store after is in omega (arith, there, count) in
     let was = slice_get-get_or old store after below in
@@ -51,7 +51,7 @@ grows_within old new same store after is =
       before = _;
       there = was;
       adds = adds_known (Never store) _ _
-          (ap (λ (c : CountedStore). (own_of c).known)
+          (ap (λ (c : LastingStore). (own_view c).known)
           (same_Some _ _
           (sym (ap (option_map inner) is) ∙ sym (slice_get-map inner new store) ∙ ap (λ list. slice_get list store) same
           ∙ slice_get-map inner old store
@@ -59,12 +59,12 @@ grows_within old new same store after is =
     }
 
 -- sessions that a call left alone have added nothing
-pub grows_alone : (old new : List Session) → LeavesAlone own_of old new → Grows Never old new
+pub grows_alone : (old new : List Session) → LeavesAlone own_view old new → Grows Never old new
 grows_alone old new is =
     let left : Session → ℕ = λ s. s.left in
     grows_each Never old new (sym (length-map new left) ∙ ap length is.left ∙ length-map old left)
     (λ store before after is_before is_after.
-    adds_known (Never store) (limited own_of before) (limited own_of after)
+    adds_known (Never store) (limited own_view before) (limited own_view after)
     (is.alone store before after is_before is_after).known)
 
 -- ---- numbers and branches
@@ -146,7 +146,7 @@ begins_goes manager before after store statement (inr is) = subst (Goes manager 
 
 -- a call of WORK keeps what holds of the manager
 pub works : (number store : ℕ) (row : Statement) (old new : Managing) (response : Response) → takes_rows row ≡ true
-    → HasWorked (limited own_of) number store row old response new → Holds old → Holds new
+    → HasWorked (limited own_view) number store row old response new → Holds old → Holds new
 works number store row old new response rows is holds =
     acts (Begins is.before is.after) number (Working is.before) (Working is.after) old new (record {
       stores = ap (λ (m : Managing). m.stores) is.alone.stands;
@@ -155,8 +155,8 @@ works number store row old new response rows is holds =
       before = is.working;
       opened = λ e. absurd (cc);
       grows = grows_each (Begins is.before is.after) old.sessions new.sessions is.alone.count
-          (work_adds (limited own_of) (Begins is.before is.after) old.branches new.branches is.before is.after store row
-          is.answer old.sessions new.sessions
+          (work_adds (limited own_view) (Begins is.before is.after) old.branches new.branches is.before is.after store
+          row is.answer old.sessions new.sessions
           (λ takes. inr (refl, takes)) (inl (row_harmless row rows)) is.others is.works);
       kept = worked_kept store old.stores number is.before is.after is.keeps named;
       ready = λ prepared e. absurd (cc);
@@ -188,7 +188,7 @@ works number store row old new response rows is holds =
           let there : takes_part is.before.participants store ≡ true =
           subst (λ n. takes_part is.before.participants n ≡ true) here takes in
           subst (λ n. takes_part is.after.participants n ≡ true) (sym here)
-          (work_keeps (limited own_of) old.branches new.branches is.before is.after store row is.answer old.sessions
+          (work_keeps (limited own_view) old.branches new.branches is.before is.after store row is.answer old.sessions
           new.sessions is.works there)
       | inr (_, apart) ↦ is.keeps.others other apart ∙ takes
     ]
@@ -201,7 +201,7 @@ Votes store statement = Harmless statement
 
 -- a vote for one phase comes from a transaction with one participant
 vote_alone : (before : Transaction) (vote : Vote) (old new : List Session)
-    → VotesAs (limited own_of) before vote old new
+    → VotesAs (limited own_view) before vote old new
     → (prepared : Prepared)
     → stage_after vote ≡ Voted prepared → prepared.vote_kind ≡ VoteKind.OnePhase
     → (store : ℕ) × OnlyTakesPart prepared.transaction.participants store
@@ -217,8 +217,8 @@ vote_alone before (Vote.No p store cause) old new is prepared stage one =
 vote_alone before Vote.Nothing old new is prepared stage one = absurd (cc)
 
 -- after a vote each participant still counts as one
-vote_took : (before : Transaction) (vote : Vote) (old new : List Session) → VotesAs (limited own_of) before vote old new
-    → (store : ℕ)
+vote_took : (before : Transaction) (vote : Vote) (old new : List Session)
+    → VotesAs (limited own_view) before vote old new → (store : ℕ)
     → takes_part before.participants store ≡ true → TookPart store (Some (stage_after vote))
 vote_took before (Vote.Ready p) old new is store takes =
     ap (λ (q : Prepared). takes_part q.transaction.participants store) is.0 ∙ takes
@@ -240,7 +240,7 @@ two_added xid true old new is adds =
 
 -- each participant of a vote of Ready was prepared
 vote_prepares : (before : Transaction) (vote : Vote) (old new : List Session) → length new ≡ length old
-    → VotesAs (limited own_of) before vote old new
+    → VotesAs (limited own_view) before vote old new
     → (prepared : Prepared)
     → stage_after vote ≡ Ready prepared → (store : ℕ) (session : Session) → slice_get new store ≡ Some session
     → takes_part before.participants store ≡ true
@@ -249,15 +249,15 @@ vote_prepares before (Vote.Ready p) old new count is prepared stage store sessio
     let below : store < length old = let there = slice_get_within new store session there in
     omega (arith, there, count) in
     let was = slice_get-get_or old store session below in
-    two_added (branch_of before store) (takes_part before.participants store) _ (limited own_of session) takes
+    two_added (branch_of before store) (takes_part before.participants store) _ (limited own_view session) takes
     (is.2 store _ session was there)
 vote_prepares before (Vote.OnePhase p) old new count is prepared stage store session there takes = absurd (cc)
 vote_prepares before (Vote.No p last cause) old new count is prepared stage store session there takes = absurd (cc)
 vote_prepares before Vote.Nothing old new count is prepared stage store session there takes = absurd (cc)
 
 -- a call of PREPARE keeps what holds of the manager
-pub votes : (number : ℕ) (old new : Managing) (response : Response) → HasVoted (limited own_of) number old response new
-    → Holds old → Holds new
+pub votes : (number : ℕ) (old new : Managing) (response : Response)
+    → HasVoted (limited own_view) number old response new → Holds old → Holds new
 votes number old new response is holds =
     acts Votes number (Working is.before) (stage_after is.vote) old new (record {
       stores = ap (λ (m : Managing). m.stores) is.alone.stands;
@@ -266,8 +266,8 @@ votes number old new response is holds =
       before = is.working;
       opened = λ e. absurd (cc);
       grows = grows;
-      kept = voted_kept (limited own_of) is.before is.vote old.sessions new.sessions old.stores number is.votes named;
-      ready = voted_ready (limited own_of) is.before is.vote old.sessions new.sessions is.votes;
+      kept = voted_kept (limited own_view) is.before is.vote old.sessions new.sessions old.stores number is.votes named;
+      ready = voted_ready (limited own_view) is.before is.vote old.sessions new.sessions is.votes;
       alone = vote_alone is.before is.vote old.sessions new.sessions is.votes;
       decided = λ decided. absurd (subst MayStandDecided is.working (holds.decided number decided));
       took = vote_took is.before is.vote old.sessions new.sessions is.votes;
@@ -291,7 +291,7 @@ votes number old new response is holds =
 
     grows : Grows Votes old.sessions new.sessions
     grows = grows_each Votes old.sessions new.sessions is.alone.count
-        (vote_adds (limited own_of) Votes is.before is.vote old.sessions new.sessions (λ store. tt)
+        (vote_adds (limited own_view) Votes is.before is.vote old.sessions new.sessions (λ store. tt)
         (λ store. tt) is.votes)
 
 -- ---- FINISH and ABANDON
@@ -324,7 +324,7 @@ pub ends : (number : ℕ) (was : Stage) (transaction : Transaction) (closing : C
     → stage_of old.stages number ≡ Some was → (was ≡ Over → ⊥) → IsTransactionOf old.stores number transaction
     → ((store : ℕ) → TookPart store (Some was) → takes_part transaction.participants store ≡ true)
     → May old number transaction closing
-    → HasEnded (limited own_of) number transaction closing old response new → Holds old → Holds new
+    → HasEnded (limited own_view) number transaction closing old response new → Holds old → Holds new
 ends number was transaction closing old new response there opened named takes may is holds =
     acts kind number was Over old new (record {
       stores = ap (λ (m : Managing). m.stores) is.alone.stands;
@@ -354,8 +354,8 @@ ends number was transaction closing old new response there opened named takes ma
 
     grows : Grows (Ends transaction closing) old.sessions new.sessions
     grows = grows_each (Ends transaction closing) old.sessions new.sessions is.alone.count
-        (ending_adds (limited own_of) (Ends transaction closing) old.branches transaction closing is.ending old.sessions
-        new.sessions (λ store. inl tt)
+        (ending_adds (limited own_view) (Ends transaction closing) old.branches transaction closing is.ending
+        old.sessions new.sessions (λ store. inl tt)
         (λ store part. inr (refl, part)) is.ends)
 
     over : stage_of new.stages number ≡ Some Over
@@ -418,7 +418,7 @@ may_finish old number prepared holds voted = by (is_decided old.decisions number
 
 -- a call of FINISH keeps what holds of the manager
 pub finishes : (number : ℕ) (old new : Managing) (response : Response)
-    → IsFinished (limited own_of) number old response new → Holds old → Holds new
+    → IsFinished (limited own_view) number old response new → Holds old → Holds new
 finishes number old new response is holds = by is.voted
   where
     named : IsTransactionOf old.stores number is.prepared.transaction
@@ -444,7 +444,7 @@ not_decided false none = refl
 
 -- a call of ABANDON keeps what holds of the manager
 pub abandons : (number : ℕ) (old new : Managing) (response : Response)
-    → IsAbandoned (limited own_of) number old response new → Holds old → Holds new
+    → IsAbandoned (limited own_view) number old response new → Holds old → Holds new
 abandons number old new response is holds =
     ends number (Working is.before) is.before RollBack old new response is.working (λ e. absurd (cc))
     (holds.kept number (Working is.before) is.before is.working refl) (λ store took. took)
@@ -455,7 +455,7 @@ abandons number old new response is holds =
 
 -- each call but RECOVER keeps what holds of the manager, if it is carried out
 pub carried_holds : (old new : Managing) (call : Call) (response : Response) → IsPlain call
-    → CarriesBeside own_of other_of own_view old call response new
+    → CarriesBeside own_view other_alone own_view old call response new
     → Holds old → Holds new
 carried_holds old new Call.Silent response plain is holds = subst Holds (sym is.0.1) holds
 carried_holds old new (Call.Unread place) response plain is holds = absurd is.0

@@ -6,9 +6,6 @@ pub mod Stages
 pub mod Limits
 pub mod Besides
 mod Nothing
-pub mod Runs
-pub mod Counts
-pub mod Texts
 pub mod Added
 pub mod Holding
 pub mod Moving
@@ -17,5 +14,4 @@ pub mod Recovering
 pub mod Finding
 pub mod Others
 pub mod Standing
-pub mod Plain
 pub mod Changing

@@ -10,17 +10,17 @@ use Rattle.xa_xid.specs.declared.statement.Statement.{Statement, TheVariants.Rec
 use Rattle.xa_server.specs.{Step.enters, declared.reply.Reply.Reply}
 use Rattle.xa_session.specs.{Answer.entry_of, Replay.state_at, View.SessionView, declared.fault.Fault.Fault}
 use Rattle.xa_session.proofs.Answering.{fails_unanswered}
-use Rattle.xa_coordinator.specs.Lasting.{own_view}
+use Rattle.xa_coordinator.specs.Lasting.{own_view, other_alone}
 use Rattle.xa_manager.specs.{Beside.{within, others_of, CarriesBeside, HasRepliedBeside, IsShownBeside}, Said.IsGiven}
 use Rattle.xa_manager.specs.{Whole.IsPair, declared.{call.Call.Call, response.Response.Response}}
-use Rattle.xa_manager.specs.{Counted.{own_of, other_of}, Atomic.{EndsNone, LeavesBranches}}
+use Rattle.xa_manager.specs.Atomic.{EndsNone, LeavesBranches}
 use Rattle.xa_manager.specs.Runs.{Managing, IsAnswered, CarriesOut, none_yet, one_more, IsFresh}
 use Rattle.xa_manager.proofs.{Added.{AddsOnly, adds_none, added_or_there}, Holding.{Session, Never}}
 use Rattle.xa_manager.proofs.Recovering.{one_of, nothing_in, front_all, last_all}
 
 -- the other client's session added the statement
 abbrev pub OtherAdded : Session → Statement → Type 0
-OtherAdded session statement = Contains (other_of session.inner).known.mine (entry_of 2 statement)
+OtherAdded session statement = Contains (other_alone session.inner).known.mine (entry_of 2 statement)
 
 -- no statement that other clients added is an XA COMMIT or XA ROLLBACK of a branch of the coordinator's naming
 abbrev pub OthersLeave : Managing → Type 0
@@ -34,7 +34,7 @@ OthersLeave manager =
 pub record OtherGrew (kind : ℕ → Statement → Type 0) (store : ℕ) (old : List Session) (after : Session) : Type 0 where
   pub before : Session
   pub there : slice_get old store ≡ Some before
-  pub adds : AddsOnly (kind store) (other_of before.inner) (other_of after.inner)
+  pub adds : AddsOnly (kind store) (other_alone before.inner) (other_alone after.inner)
 
 -- the other client of each store was there, and added statements of this kind since
 abbrev OthersGrow : (ℕ → Statement → Type 0) → List Session → List Session → Type 0
@@ -80,7 +80,7 @@ same_other kind old new is = subst (λ s. AddsOnly kind old s) (sym is) (adds_no
 -- if each other client added only statements of its kind, the other clients grew by that
 others_grow : (kind : ℕ → Statement → Type 0) (old new : List Session) → length new ≡ length old
     → ((store : ℕ) (before after : Session) → slice_get old store ≡ Some before → slice_get new store ≡ Some after
-    → AddsOnly (kind store) (other_of before.inner) (other_of after.inner))
+    → AddsOnly (kind store) (other_alone before.inner) (other_alone after.inner))
     → OthersGrow kind old new
 others_grow kind old new count each store after is =
     let below : store < length old = let there = slice_get_within new store after is in omega (arith, there, count) in
@@ -88,13 +88,13 @@ others_grow kind old new count each store after is =
     record { before = _; there = was; adds = each store _ after was is }
 
 -- other clients' sessions that are as they were have added nothing
-others_same : (kind : ℕ → Statement → Type 0) (old new : List Session) → others_of other_of new ≡ others_of other_of old
-    → OthersGrow kind old new
+others_same : (kind : ℕ → Statement → Type 0) (old new : List Session)
+    → others_of other_alone new ≡ others_of other_alone old → OthersGrow kind old new
 others_same kind old new same =
-    let other : Session → SessionView = within other_of in
+    let other : Session → SessionView = within other_alone in
     others_grow kind old new (sym (length-map new other) ∙ ap length same ∙ length-map old other)
     (λ store before after is_before is_after.
-    same_other (kind store) (other_of before.inner) (other_of after.inner)
+    same_other (kind store) (other_alone before.inner) (other_alone after.inner)
     (same_Some _ _
     (sym (ap (option_map other) is_after) ∙ sym (slice_get-map other new store) ∙ ap (λ list. slice_get list store) same
     ∙ slice_get-map other old store
@@ -107,39 +107,39 @@ still_leave : (kind : ℕ → Statement → Type 0) (old new : Managing)
     → OthersGrow kind old.sessions new.sessions → OthersLeave old → OthersLeave new
 still_leave kind old new fresh grows leave store session statement is added =
     let grew = grows store session is in
-    elim (added_or_there (kind store) (other_of grew.before.inner) (other_of session.inner)
+    elim (added_or_there (kind store) (other_alone grew.before.inner) (other_alone session.inner)
     (entry_of 2 statement) grew.adds added) [
       | inl before ↦ leave store grew.before statement grew.there before
       | inr now ↦ fresh store statement now
     ]
 
 -- other clients that stay as they were have still ended no branch of the coordinator's
-same_leave : (old new : Managing) → others_of other_of new.sessions ≡ others_of other_of old.sessions → OthersLeave old
-    → OthersLeave new
+same_leave : (old new : Managing)
+    → others_of other_alone new.sessions ≡ others_of other_alone old.sessions → OthersLeave old → OthersLeave new
 same_leave old new same = still_leave Never old new (λ store statement never. absurd never)
     (others_same Never old.sessions new.sessions same)
 
 -- after AT with a statement that ends no branch of the coordinator's, other clients still have ended none
 replied_leave : (store : ℕ) (statement : Statement) (old new : Managing) (response : Response)
     → EndsNone store statement
-    → HasRepliedBeside own_of other_of store statement old response new → OthersLeave old → OthersLeave new
+    → HasRepliedBeside own_view other_alone store statement old response new → OthersLeave old → OthersLeave new
 replied_leave store statement old new response none is =
     still_leave EndsNone old new (λ there it leaves. leaves)
     (others_grow EndsNone old.sessions new.sessions is.others.count
     (λ there before after is_before is_after. elim (eqb_tells there store) [
       | inl (_, here) ↦
-          given_adds (EndsNone there) statement is.answer (other_of before.inner) (other_of after.inner)
+          given_adds (EndsNone there) statement is.answer (other_alone before.inner) (other_alone after.inner)
           (subst (λ n. EndsNone n statement) (sym here) none)
           (is.replies before after (subst (λ n. slice_get old.sessions n ≡ Some before) here is_before)
           (subst (λ n. slice_get new.sessions n ≡ Some after) here is_after))
       | inr (_, apart) ↦
-          same_other (EndsNone there) (other_of before.inner) (other_of after.inner)
-          (ap (λ (s : Session). other_of s.inner) (same_Some after before
+          same_other (EndsNone there) (other_alone before.inner) (other_alone after.inner)
+          (ap (λ (s : Session). other_alone s.inner) (same_Some after before
           (sym is_after ∙ is.others.others there apart ∙ is_before)))
     ]))
 
 -- after SHOW, which gives each other client an XA RECOVER, they still have ended no branch of the coordinator's
-shown_leave : (old new : Managing) (response : Response) → IsShownBeside own_of other_of old response new
+shown_leave : (old new : Managing) (response : Response) → IsShownBeside own_view other_alone old response new
     → OthersLeave old → OthersLeave new
 shown_leave old new response is =
     let left : Session → ℕ = λ s. s.left in
@@ -148,13 +148,13 @@ shown_leave old new response is =
     ∙ length-map old.sessions left)
     (λ there before after is_before is_after.
     let listed = is.each there before after is_before is_after in
-    given_adds (EndsNone there) (RecoverStatement true) listed.answer (other_of before.inner)
-    (other_of after.inner) tt listed.given))
+    given_adds (EndsNone there) (RecoverStatement true) listed.answer (other_alone before.inner)
+    (other_alone after.inner) tt listed.given))
 
 -- after a call that is carried out and has no other client end a branch of the coordinator's, they still have ended
 -- none
 carried_leave : (old new : Managing) (call : Call) (response : Response) → LeavesBranches call
-    → CarriesBeside own_of other_of own_view old call response new
+    → CarriesBeside own_view other_alone own_view old call response new
     → OthersLeave old → OthersLeave new
 carried_leave old new Call.Silent response leaves is = same_leave old new is.1
 carried_leave old new (Call.Unread place) response leaves is = same_leave old new is.1
@@ -192,8 +192,8 @@ calls_leave old new calls responses (one_more cs rs mid so_far call response n a
 -- at the beginning no other client has added anything
 pub fresh_leave : (stores : ℕ) (first : Managing) → IsFresh stores first → OthersLeave first
 fresh_leave stores first fresh store session statement is added =
-    let pair = one_of (λ (s : Session). IsPair (own_of s.inner)
-    (other_of s.inner)) first.sessions store session fresh.begins.pairs is in
+    let pair = one_of (λ (s : Session). IsPair (own_view s.inner)
+    (other_alone s.inner)) first.sessions store session fresh.begins.pairs is in
     absurd (nothing_in (entry_of 2 statement)
     (subst (λ (list : List Entry). Contains list (entry_of 2 statement))
     (ap (λ (k : Known). k.mine) pair.second_known) added))

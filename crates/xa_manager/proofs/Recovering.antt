@@ -10,11 +10,12 @@ use Rattle.xa_xid.specs.declared.statement.Statement.{Statement}
 use Rattle.xa_session.specs.Answer.{entry_of}
 use Rattle.xa_coordinator.specs.{Branch.IsBranchOf, Decisions.{decision_of, decides, is_decided}, Recovery.Recovers}
 use Rattle.xa_coordinator.specs.{declared.{decisions.Decision.Decision, report.Report.Report}, Fusing.limited}
+use Rattle.xa_coordinator.specs.Lasting.{own_view, other_alone}
 use Rattle.xa_coordinator.proofs.DecisionsOf.{closed_decides}
 use Rattle.xa_manager.specs.{Carried.HasRecovered, Ledger.stage_of, Whole.IsPair, declared.call.Call.Call}
 use Rattle.xa_manager.specs.declared.{call.Call.TheVariants.Recover, response.Response.Response}
 use Rattle.xa_manager.specs.declared.{response.Response.TheVariants.Recovered, stage.Stage.Stage}
-use Rattle.xa_manager.{specs.Counted.{own_of, other_of}, proofs.Added.recovered}
+use Rattle.xa_manager.proofs.Added.{recovered}
 use Rattle.xa_manager.specs.Runs.{Managing, IsAnswered, CarriesOut, none_yet, one_more, IsFresh, IsRun}
 use Rattle.xa_manager.specs.Atomic.{branch_in, HasAdded, IsPlain, IsAlone, GoesWith, KeepsToDecisions}
 use Rattle.xa_manager.proofs.Holding.{Session, IsUndecidedOver, Goes, Holds, Grows, grows_each, grew_cases}
@@ -51,7 +52,7 @@ pub nothing_in : {A : Type 0} (x : A) → Contains [] x → ⊥
 nothing_in x there = let below : there.0 < 0 = there.1 in absurd (omega (arith, below))
 
 -- a session that was just opened has added nothing
-none_added : (session : Session) (statement : Statement) → IsPair (own_of session.inner) (other_of session.inner)
+none_added : (session : Session) (statement : Statement) → IsPair (own_view session.inner) (other_alone session.inner)
     → HasAdded session statement → ⊥
 none_added session statement pair added =
     nothing_in (entry_of 1 statement)
@@ -69,7 +70,7 @@ fresh_holds stores first fresh =
     → HasAdded session statement → ⊥ =
     λ store session statement is added.
     none_added session statement
-    (one_of (λ (s : Session). IsPair (own_of s.inner) (other_of s.inner)) first.sessions store session
+    (one_of (λ (s : Session). IsPair (own_view s.inner) (other_alone s.inner)) first.sessions store session
     fresh.begins.pairs is) added in
     record {
       kept = λ number stage transaction is in_it. absurd (no number stage is);
@@ -169,16 +170,16 @@ recovering_goes decisions sessions store Statement.Disconnect is = tt
 -- a recovery returned a report: it recovered by the decisions, the same numbers are decided, and what it added is of
 -- its kind
 pub record HasEndedWell (mid last : Managing) (report : Report) : Type 0 where
-  pub recovers : Recovers (limited own_of) last.decisions (codes "c") report mid.sessions last.sessions
+  pub recovers : Recovers (limited own_view) last.decisions (codes "c") report mid.sessions last.sessions
   pub decisions : (number : ℕ) → is_decided last.decisions number ≡ is_decided mid.decisions number
   pub grows : Grows (Recovering last.decisions) mid.sessions last.sessions
 
 -- a RECOVER that was answered with this report recovered by the decisions, with it
-same_report : (mid last : Managing) (report : Report) → HasRecovered (limited own_of) mid (Recovered (Ok report)) last
-    → Recovers (limited own_of) last.decisions (codes "c") report mid.sessions last.sessions
+same_report : (mid last : Managing) (report : Report) → HasRecovered (limited own_view) mid (Recovered (Ok report)) last
+    → Recovers (limited own_view) last.decisions (codes "c") report mid.sessions last.sessions
 same_report mid last report is =
     let outcome : is.outcome ≡ Ok report = let e = is.told in cc in
-    subst (λ o. IfOk o (λ (r : Report). Recovers (limited own_of) last.decisions
+    subst (λ o. IfOk o (λ (r : Report). Recovers (limited own_view) last.decisions
     (codes "c") r mid.sessions last.sessions)) outcome is.done
 
 -- a RECOVER that was answered with a report ended well, as `HasEndedWell` says
@@ -198,8 +199,8 @@ ended_well mid last report (inr carried) =
           let by = recovers.each store before after is_before is_after in
           recovered (Recovering last.decisions store) last.decisions (codes "c") store
           (λ number xid named decided. (number, named, decided))
-          (λ number xid named decided. (number, named, decided)) by.0.0 by.0.1 (limited own_of before)
-          (limited own_of after) tt by.2);
+          (λ number xid named decided. (number, named, decided)) by.0.0 by.0.1 (limited own_view before)
+          (limited own_view after) tt by.2);
     }
 
 module _ (mid last : Managing) (report : Report) (holds : Holds mid) (well : HasEndedWell mid last report) where

@@ -13,10 +13,10 @@ use Rattle.xa_server.specs.{State.{State, is_prepared}, Step.enters}
 use Rattle.xa_session.specs.{Answer.entry_of, Replay.{state_after, state_at}}
 use Rattle.xa_session.proofs.Replaying.{state_at-next, state_at-begins}
 use Rattle.xa_coordinator.specs.{Branch.IsBranchOf, Decisions.is_decided, declared.report.Report.Report}
-use Rattle.xa_coordinator.specs.Lasting.{history_of}
+use Rattle.xa_coordinator.specs.{Lasting.{own_view, history_of}, declared.store.LastingStore.LastingStore}
 use Rattle.xa_manager.specs.declared.{call.Call.{Call, TheVariants.Recover}, response.Response.Response}
-use Rattle.xa_manager.specs.declared.{response.Response.TheVariants.Recovered, counted_store.CountedStore.CountedStore}
-use Rattle.xa_manager.specs.{Counted.own_of, Runs.{Managing, IsRun}, Atomic.{branch_in, HasAdded, IsPlain, IsAlone}}
+use Rattle.xa_manager.specs.declared.response.Response.TheVariants.{Recovered}
+use Rattle.xa_manager.specs.{Runs.{Managing, IsRun}, Atomic.{branch_in, HasAdded, IsPlain, IsAlone}}
 use Rattle.xa_manager.specs.Atomic.{GoesWith, KeepsToDecisions, EndsNone, LeavesBranches, WasCommitted, AllOrNone}
 use Rattle.xa_manager.proofs.{Holding.{Session, Holds, grew_cases, grew_stays}, Holds.one_number, Recovering.Recovering}
 use Rattle.xa_manager.proofs.Recovering.{HasEndedWell, ended_well, keeps, last_call, calls_hold, fresh_holds}
@@ -104,14 +104,14 @@ module _ (decisions : _) (sessions : List Session) (number store : ℕ) (session
     (goes : (statement : Statement) → HasAdded session statement → GoesWith decisions sessions store statement)
     (leave : (statement : Statement) → OtherAdded session statement → EndsNone store statement) where
   -- the store, its history, the state in which that begins, and the transaction's branch there
-  abbrev counted : CountedStore
-  counted = session.inner
+  abbrev kept : LastingStore
+  kept = session.inner
 
   abbrev history : List Entry
-  history = history_of counted.store
+  history = history_of kept
 
   abbrev base : State
-  base = counted.store.first.value
+  base = kept.first.value
 
   abbrev xid : Xid
   xid = branch_in number store
@@ -125,7 +125,7 @@ module _ (decisions : _) (sessions : List Session) (number store : ℕ) (session
   of_whom : (place : ℕ) (entry : Entry) → slice_get history place ≡ Some entry
       → ((entry.session ≡ 1) × HasAdded session entry.statement)
       ⊎ ((entry.session ≡ 2) × OtherAdded session entry.statement)
-  of_whom place entry there = elim (one_or_two entry.session (counted.store.entered.two place entry there)) [
+  of_whom place entry there = elim (one_or_two entry.session (kept.entered.two place entry there)) [
     | inl own ↦
         inl (
           own,
@@ -191,20 +191,20 @@ module _ (decisions : _) (sessions : List Session) (number store : ℕ) (session
 
   -- a decided transaction's branch that was prepared, and isn't any more, was committed
   pub was_committed : is_decided decisions number ≡ true → HasAdded session (Prepare xid)
-      → is_prepared (state_after base (own_of counted).known.seen) xid ≡ false → WasCommitted counted xid
+      → is_prepared (state_after base (own_view kept).known.seen) xid ≡ false → WasCommitted kept xid
   was_committed decided added gone =
-      let seen : List Entry = (own_of counted).known.seen in
-      let begins : Begins seen history = begins_take counted.store.own.seen history in
+      let seen : List Entry = (own_view kept).known.seen in
+      let begins : Begins seen history = begins_take kept.own.seen history in
       let found = has_place 1 seen (entry_of 1 (Prepare xid))
       (subst (λ (list : List Entry). Contains list (entry_of 1 (Prepare xid)))
-      (sym counted.store.own_seen.own) added) in
+      (sym kept.own_seen.own) added) in
       let there : slice_get history found.0 ≡ Some (entry_of 1 (Prepare xid)) =
       get_begins seen history found.0 _ begins found.1 in
       let below : found.0 < length seen = slice_get_within seen found.0 _ found.1 in
       let same : state_at base history found.0 ≡ state_at base seen found.0 =
       state_at-begins base seen history found.0 begins (omega (arith, below)) in
       let entering : enters (state_at base seen found.0) 1 (Prepare xid) ≡ true =
-      ap (λ s. enters s 1 (Prepare xid)) (sym same) ∙ counted.store.entered.entered found.0
+      ap (λ s. enters s 1 (Prepare xid)) (sym same) ∙ kept.entered.entered found.0
       (entry_of 1 (Prepare xid)) there in
       let prepared : is_prepared (state_at base seen (found.0 + 1)) xid ≡ true =
       ap (λ s. is_prepared s xid) (state_at-next base seen found.0 (entry_of 1 (Prepare xid)) found.1)
@@ -228,7 +228,7 @@ module _ (decisions : _) (sessions : List Session) (number store : ℕ) (session
         rows = λ branch found_branch.
             ap (λ (s : State). s.rows) (state_at-next base history ended.place (entry_of 1 (Commit xid false)) commits)
             ∙ commit_rows (state_at base history ended.place) 1 xid false branch
-            (counted.store.entered.entered ended.place (entry_of 1 (Commit xid false)) commits) found_branch;
+            (kept.entered.entered ended.place (entry_of 1 (Commit xid false)) commits) found_branch;
       }
 
 -- ---- all of them

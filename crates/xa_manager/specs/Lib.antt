@@ -10,9 +10,6 @@ pub mod Managed
 pub mod Whole
 pub mod Served
 pub mod Beside
-pub mod Counted
 pub mod Runs
-pub mod Stops
-pub mod Rows
 pub mod Scripts
 pub mod Atomic

@@ -7,10 +7,9 @@
 //! conversation over them).
 //!
 //! `stops_script` shows every stop of the manager's coordinator: for each call of a session, what a recovery leaves if
-//! the coordinator stopped before that call. The calls of a script are carried out on new stores, once for each stop,
-//! up to that stop. Then a coordinator of the same name and decisions recovers, and the rows that the calls name are
-//! shown. Read docs/COORDINATOR.md#stops first, then `specs/Stops.antt`, `src/stop_run.rt` and `src/stopping.rt`; for
-//! what is left of each transaction, `specs/Atomic.antt` and `proofs/Holding.antt`.
+//! the coordinator stopped before that call. It has new managers answer the calls of a script up to each stop, and then
+//! `STOP` and `RECOVER`. Read docs/COORDINATOR.md#stops first, then `src/stops.rt`; for what is left of each
+//! transaction, `src/stop_laws.rt`, `specs/Atomic.antt` and `proofs/Holding.antt`.
 #![tactic(auto)]
 
 mod answer;
@@ -19,9 +18,6 @@ mod beside_server;
 mod brief;
 mod call;
 mod call_server;
-mod carrying;
-mod counted_store;
-mod counting;
 mod lasting;
 mod ledger;
 mod listing;
@@ -31,24 +27,14 @@ mod reading;
 mod response;
 mod run;
 mod stage;
-mod stop;
 mod stop_ended;
-mod stop_faulty;
 pub mod stop_laws;
-mod stop_limits;
-mod stop_named;
-mod stop_places;
-mod stop_reading;
-mod stop_rows;
-mod stop_run;
-mod stop_stores;
-mod stopping;
+mod stops;
 mod vote_answer;
 
 pub use beside_server::BesideServer;
 pub use call::Call;
 pub use call_server::CallServer;
-pub use counted_store::CountedStore;
 pub use lasting::{converse_lasting, lasting_manager};
 pub use ledger::Ledger;
 pub use listing::Listing;
@@ -58,7 +44,6 @@ pub use reading::read_call;
 pub use response::Response;
 pub use run::{converse, manager_over, open_stores};
 pub use stage::Stage;
-pub use stop::Stop;
 pub use stop_ended::Ended;
-pub use stop_run::{Told, stops_script, stops_text};
+pub use stops::stops_script;
 pub use vote_answer::VoteAnswer;

@@ -1,24 +1,24 @@
 //! Laws about what a recovery leaves after a stop, and about which entries change committed values.
 ghost use Rattle.std.specs.Prelude.{◌≡◌, Some, slice_get, ◌++◌, ◌∷◌, [], Ok, List, ℕ, All};
-ghost use Rattle.xa_coordinator.specs.{declared.report.Report.Report, Lasting.history_of};
+ghost use Rattle.xa_coordinator.specs.declared.{report.Report.Report, store.LastingStore.LastingStore};
+ghost use Rattle.xa_coordinator.specs.Lasting.{history_of};
 ghost use Rattle.xa_manager.specs.declared.{call.Call.{Call, TheVariants.Recover}, response.Response.Response};
-ghost use Rattle.xa_manager.specs.declared.{response.Response.TheVariants.Recovered, stop.Stop.Stop};
-ghost use Rattle.xa_manager.specs.{declared.counted_store.CountedStore.CountedStore, Runs.{Managing, IsRun}};
-ghost use Rattle.xa_manager.specs.Atomic.{IsPlain, KeepsToDecisions, LeavesBranches, AllOrNone, LeavesWhole};
-ghost use Rattle.xa_manager.specs.{Atomic.KeepsRowsOr, Scripts.calls_of, Stops.{IsStopText, IsShown}};
+ghost use Rattle.xa_manager.specs.declared.response.Response.TheVariants.{Recovered};
+ghost use Rattle.xa_manager.specs.Atomic.{IsPlain, KeepsToDecisions, LeavesBranches, AllOrNone, KeepsRowsOr};
+ghost use Rattle.xa_manager.specs.Runs.{Managing, IsRun};
 ghost use Rattle.xa_words.specs.Entry.{Entry};
 
 /// States what the coordinator's sessions have added after calls, none of them `RECOVER`, and a completed
-/// recovery, if memory was refused for no statement.
+/// recovery. `FAIL` and `STOP` may be among the calls, so a coordinator may have stopped anywhere.
 ///
 /// Everything that they ever added goes with the decisions as they are then (`GoesWith`), and none of the
 /// coordinator's branches is prepared.
 /// Own rule: docs/COORDINATOR.md#stops.
 pub fn recovery_keeps_to_decisions()
     // Proved (coordinator, recovery-keeps-to-decisions): In any run of a manager's calls over unbounded stores that
-    //   begins with nothing, in which memory is refused for no statement, and in which only the last call is
-    //   `RECOVER` and is answered with a report, all that the coordinator added goes with the final decisions,
-    //   whatever other clients do. None of its branches is prepared.
+    //   begins with nothing, and in which only the last call is `RECOVER` and is answered with a report, all that
+    //   the coordinator added goes with the final decisions, wherever a coordinator was stopped by `FAIL` and
+    //   `STOP`, and whatever other clients do. None of its branches is prepared.
     // Proved (coordinator, goes-with-decisions): `XA COMMIT` goes with the decisions if it is of a decided
     //   transaction, or with ONE PHASE of an undecided one that has a branch in no other store. `XA ROLLBACK`
     //   does if it is of an undecided one.
@@ -29,17 +29,17 @@ pub fn recovery_keeps_to_decisions()
 {}
 
 /// States that each transaction is in all stores in which the coordinator began a branch of it, or in none, after
-/// calls, none of them `RECOVER`, and a completed recovery, if memory was refused for no statement.
+/// calls, none of them `RECOVER`, and a completed recovery.
 ///
 /// A decided one was committed in each. One that isn't decided was committed in none, or only with ONE PHASE, and then
 /// the coordinator began a branch of it in no other store. Another condition is that no call has another client commit
 /// or roll back a branch of the coordinator's naming.
 /// Own rule: docs/COORDINATOR.md#stops.
 pub fn transactions_stand_whole_or_not_at_all()
-    // Proved (coordinator, whole-or-not-at-all): After a run of a manager's calls that begins with nothing, in which
-    //   memory is refused for no statement, and that ends in its only, and completed, `RECOVER`, a decided
-    //   transaction was committed in each store in which the coordinator began a branch of it, with all writes of
-    //   that branch at once. An undecided one was committed, by whomever, only with ONE PHASE, and then the
+    // Proved (coordinator, whole-or-not-at-all): After a run of a manager's calls that begins with nothing and ends
+    //   in its only, and completed, `RECOVER`, a decided transaction was committed in each store in which the
+    //   coordinator began a branch of it, with all writes of that branch at once, wherever a coordinator was stopped
+    //   by `FAIL` and `STOP`. An undecided one was committed, by whomever, only with ONE PHASE, and then the
     //   coordinator began a branch of it in no other store. Premise: no `AT` commits or rolls back a branch of the
     //   coordinator's naming.
     ensures { (stores : ℕ) (told : List Call) (responses : List Response) (report : Report) (last : Managing)
@@ -49,37 +49,13 @@ pub fn transactions_stand_whole_or_not_at_all()
         → AllOrNone last }
 {}
 
-/// States that all that the coordinator added goes with the decisions, that none of its branches is prepared, and that
-/// each transaction is in all stores in which the coordinator began a branch of it, or in none: after each stop that is
-/// shown of a script, and after all its lines, if `RECOVERED` is written there.
-///
-/// The condition is that no line has another client commit or roll back a branch of the coordinator's naming.
-/// Own rule: docs/COORDINATOR.md#stops.
-pub fn each_stop_leaves_all_or_none()
-    // Proved (scripts, stops-whole): After each stop of a coordinator's script whose recovery was answered
-    //   `RECOVERED`, a decided transaction was committed in each store in which the coordinator began a
-    //   branch of it, with all writes of that branch at once. Premise: no `AT` commits or rolls back a branch
-    //   of the coordinator's naming.
-    // Proved (scripts, stops-undecided): After such a stop, on the same premise, an `XA COMMIT` of an
-    //   undecided transaction is in a store's history only with ONE PHASE, and then the coordinator began a
-    //   branch of it in no other store. None of its branches is prepared.
-    ensures stop { (stores : ℕ) (script : List ℕ) (made : List (List ℕ)) (stop : Stop) (text : List ℕ)
-        → All LeavesBranches (calls_of script)
-        → (shown : IsStopText stores (calls_of script) made stop text)
-        → LeavesWhole shown.left }
-    // Proved (scripts, stops-whole)
-    // Proved (scripts, stops-undecided)
-    ensures end { (stores : ℕ) (script text : List ℕ) → All LeavesBranches (calls_of script)
-        → (shown : IsShown stores (calls_of script) text) → LeavesWhole shown.left }
-{}
-
 /// States that in a store's history only commits, and writes of sessions without an open branch, change a
 /// committed value.
 ///
 /// Own rule: docs/STATEMENTS.md#rows-and-locks.
 pub fn commits_change_rows()
-    // Proved (scripts, commits-change-rows): In the history of a store on which stops are tried only commits, and
+    // Proved (scripts, commits-change-rows): In the history of an unbounded store only commits, and
     //   writes of sessions that have no branch open, change a committed value.
-    ensures { (counted : CountedStore) (place : ℕ) (entry : Entry)
-        → slice_get (history_of counted.store) place ≡ Some entry → KeepsRowsOr counted place entry }
+    ensures { (kept : LastingStore) (place : ℕ) (entry : Entry)
+        → slice_get (history_of kept) place ≡ Some entry → KeepsRowsOr kept place entry }
 {}

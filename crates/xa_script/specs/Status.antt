@@ -9,7 +9,7 @@ use Rattle.xa_orders.specs.{Scripts.AppendsExplored, declared.ended.Ended.Ended}
 use Rattle.xa_record.specs.{Allowances.allowances_of, Judged.AppendsJudgedFrom, declared.allowance.Allowance.Allowance}
 use Rattle.xa_record.specs.declared.{asked.Asked.Asked, form.Form.Form, outcome.Outcome.Outcome}
 use Rattle.xa_server.specs.State.{State}
-use Rattle.xa_manager.specs.{Scripts.AppendsStops, declared.stop_ended.Ended.Ended as StopsEnded}
+use Rattle.xa_manager.specs.{Scripts.AppendsText, declared.stop_ended.Ended.Ended as StopsEnded}
 
 -- 1 where the input can't be read or is too long, or the output can't be written, 3 where memory, the log, the gate or
 -- a thread gave out (own rule)
@@ -100,12 +100,10 @@ abbrev pub status_of_stops : StopsEnded → ℕ
 status_of_stops StopsEnded.Done = 0
 status_of_stops StopsEnded.Faulty = 6
 
--- stopping the script's coordinator ended in some way: the writer got what is written then, if the script is known, the
--- stops or the faulty lines, and the status is the one for that end
-abbrev pub AppendsStopped : (stores status : ℕ) → Option (List ℕ) → Option (List ℕ) → Option (List ℕ) → Type 0
-AppendsStopped stores status input old new =
-    (ended : StopsEnded) × (status ≡ status_of_stops ended)
-    × IfSome input (λ script. AppendsStops stores ended script old new)
+-- stopping the script's coordinator ended in some way: the writer got a whole text, and the status is the one for that
+-- end. What the text says of the script isn't proved (docs/PROOF.md#known-gaps)
+abbrev pub AppendsStopped : (status : ℕ) → (old new : Option (List ℕ)) → Type 0
+AppendsStopped status old new = (ended : StopsEnded) × (status ≡ status_of_stops ended) × AppendsText old new
 
 -- 0 where each global transaction is ATOMIC, 9 where some is not, 6 where a line isn't read (own rule)
 abbrev pub status_of_audit : AuditEnded → ℕ

@@ -69,9 +69,10 @@ pub fn explore_objects<R: Read, W: Write>(
     limit: u64,
 ) -> Result<u8, ScriptFault>
     requires { IsLimit limit }
-    // Proved (scripts, output-as-json): The objects of `explore`, `race` and `stops` are those of the lines that they
-    //   write without `--json`, in the same order, and the status is the same. After `Write` of exploring, of counted
-    //   races or of stops a prefix of these was written, after another fault of theirs nothing.
+    // Proved (scripts, output-as-json): The objects of `explore` and `race` are those of the lines that they write
+    //   without `--json`, in the same order, and the status is the same. Those of `stops` are the lines of a text.
+    //   After `Write` of exploring, of counted races or of stops a prefix of these was written, after another fault of
+    //   theirs nothing.
     ensures explored { IfOk result
         (λ status. AppendsObjects (AppendsOutcomes limit status (R.remaining reader.old)) (W.contents writer.old)
         (W.contents writer.new)) }

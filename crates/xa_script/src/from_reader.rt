@@ -160,10 +160,10 @@ fn carry_out_to<
 ) -> Result<u8, ScriptFault>
     requires done { CanBeDone job }
     requires input { ReadsInput job }
-    // Proved (scripts, jobs-as-asked): `run`, `race`, `judge`, `explore` and `stops` write what the job and `--json`
-    //   ask for, of all that the input holds. They return the status for that, or a write fault in its place. No other
-    //   option changes a byte of it. `--strict` alone changes a status. Only with it or `--verbose` may memory be
-    //   refused afterwards.
+    // Proved (scripts, jobs-as-asked): `run`, `race`, `judge` and `explore` write what the job and `--json` ask for, of
+    //   all that the input holds, and `stops` a whole text. They return the status for that, or a write fault in its
+    //   place. No other option changes a byte of it. `--strict` alone changes a status. Only with it or `--verbose` may
+    //   memory be refused afterwards.
     ensures { IsLookedAt manner.now.strict (manner.now.verbose || manner.now.strict) (HasDone W.contents job manner.now.json base.now allowances.now
         (I.remaining input) (writer_contents W.contents output.old)) output.new result }
 {

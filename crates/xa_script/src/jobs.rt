@@ -235,8 +235,7 @@ pub fn stops<I: Read, W: Write + Drop, R: Alloc<A = Global> + Wait>(
     json: bool,
 ) -> Result<u8, ScriptFault>
     requires { IsStoreCount stores }
-    ensures { IsFlushed W.contents (HasStopped json stores (I.remaining input.old)
-        (writer_contents W.contents output.old)) output.new result }
+    ensures { IsFlushed W.contents (HasStopped json (writer_contents W.contents output.old)) output.new result }
 {
     let done = stop_as(rt, rt.alloc(), input, output, stores, json);
     flushed(output, done)

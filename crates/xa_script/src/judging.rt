@@ -87,7 +87,7 @@ pub fn judge_within<W: Write, P: Progress>(
 ) -> Result<u8, ScriptFault>
     requires { IsLimit asked.limit }
     // Proved (scripts, status-of-an-end): The status that judging, exploring, counted races and stops return is the
-    //   one that the table has for their end. The text that was written is right for that end.
+    //   one that the table has for their end. The text that was written, except of stops, is right for that end.
     ensures judged { IfOk result
         (λ status. AppendsVerdict base.now allowances.now asked status (Some text.now)
         (W.contents writer.old) (W.contents writer.new)) }

@@ -43,10 +43,8 @@ pub fn stop_each<H: Wait, R: Read, W: Write>(
 ) -> Result<u8, ScriptFault>
     requires { IsStoreCount stores }
     // Proved (scripts, status-of-an-end)
-    ensures stopped { IfOk result (λ status. AppendsStopped stores status (R.remaining reader.old)
-        (W.contents writer.old) (W.contents writer.new)) }
-    ensures fault { IfErr result (λ fault. AfterStopsFault stores fault (R.remaining reader.old) (W.contents writer.old)
-        (W.contents writer.new)) }
+    ensures stopped { IfOk result (λ status. AppendsStopped status (W.contents writer.old) (W.contents writer.new)) }
+    ensures fault { IfErr result (λ fault. AfterStopsFault fault (W.contents writer.old) (W.contents writer.new)) }
 {
     let ended = stops_script(rt, alloc, reader, writer, stores)?;
     Ok(status_of_stops(ended))
@@ -69,12 +67,10 @@ pub fn stop_objects<H: Wait, R: Read, W: Write>(
     requires { IsStoreCount stores }
     // Proved (scripts, output-as-json)
     ensures stopped { IfOk result
-        (λ status. AppendsObjects (AppendsStopped stores status (R.remaining reader.old)) (W.contents writer.old)
-        (W.contents writer.new)) }
+        (λ status. AppendsObjects (AppendsStopped status) (W.contents writer.old) (W.contents writer.new)) }
     // Proved (scripts, output-as-json)
     ensures fault { IfErr result (λ fault.
-        AfterObjects (λ before after. (status : ℕ) × AppendsStopped stores status
-        (R.remaining reader.old) before after) fault
+        AfterObjects (λ before after. (status : ℕ) × AppendsStopped status before after) fault
         (W.contents writer.old) (W.contents writer.new)) }
 {
     // All lines are made in memory first, so nothing is written if that fails.
@@ -98,7 +94,7 @@ pub fn stop_as<H: Wait, R: Read, W: Write>(
     json: bool,
 ) -> Result<u8, ScriptFault>
     requires { IsStoreCount stores }
-    ensures { HasStopped json stores (R.remaining reader.old) (W.contents writer.old) (W.contents writer.new) result }
+    ensures { HasStopped json (W.contents writer.old) (W.contents writer.new) result }
 {
     if json {
         stop_objects(rt, alloc, reader, writer, stores)

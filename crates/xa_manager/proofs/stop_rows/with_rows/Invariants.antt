@@ -1,7 +1,0 @@
-use Rattle.std.{proofs.Common.{◌≡◌, ◌++◌, take}, specs.List.flat_map}
-use Rattle.xa_manager.specs.Rows.{row_line}
-use Rattle.xa_manager.proofs.stop_rows.with_rows.Given as goal
-
-abbrev pub invariant-loop-key : goal.invariant-loop-key
-invariant-loop-key l =
-    l.longer.items ≡ l.initial.longer.items ++ flat_map (row_line l.store l.server) (take l.key-index l.keys)
