@@ -1,8 +1,8 @@
 //! Entries as words and back, by example.
 
 use xa_statement::read_statement;
-use xa_words::{Entry, WORDS, decode, encode, laws};
-use xa_xid::{Bytes, Key, SessionNo, Statement, Xid};
+use xa_words::{Entry, WORDS, decode, encode};
+use xa_xid::{SessionNo, Statement};
 
 /// A statement of a session, and the words of its entry that aren't 0.
 #[derive(Clone, Copy)]
@@ -126,97 +126,13 @@ fn other_words_are_no_entry(rt: HostRuntime) {
     }
 }
 
-/// 64 bytes, no two of which are the same.
-const PATTERN: &[u8] = b"\xff0123456789abcdefghijklmnopqrstuvwxyzABCDEFGHIJKLMNOPQRSTUVWXYZ\xfe";
-
-/// The first bytes of the pattern.
-fn text(size: usize) -> Bytes {
-    let mut text = Bytes::new();
-    let _ = text.try_extend_from_slice(PATTERN.get(..size).unwrap_or(PATTERN));
-    text
-}
-
-/// The identifier of texts of these sizes, with the greatest formatID.
-fn xid(first: usize, second: usize) -> Xid {
-    Xid {
-        format_id: u64::MAX,
-        gtrid: text(first),
-        bqual: text(second),
-    }
-}
-
-/// The statement of a kind, by its number in an entry, with texts of these sizes; `None` if its key would be empty.
-fn of_kind(kind: u64, first: usize, second: usize) -> Option<Statement> {
-    match kind {
-        1 => Some(Statement::Start(xid(first, second))),
-        2 => Some(Statement::End(xid(first, second))),
-        3 => Some(Statement::Prepare(xid(first, second))),
-        4 | 5 => Some(Statement::Commit {
-            xid: xid(first, second),
-            one_phase: kind == 5,
-        }),
-        6 => Some(Statement::Rollback(xid(first, second))),
-        7 => Some(Statement::Get(Key::of(text(first))?)),
-        8 => Some(Statement::Put(Key::of(text(first))?, text(second))),
-        9 => Some(Statement::Del(Key::of(text(first))?)),
-        _ => Some(Statement::Disconnect),
-    }
-}
-
-/// Whether an entry is words of this kind and back, has this statement, equals its copy, and is of session 16.
-fn is_kept(kind: u64, statement: &Statement, entry: &Entry) -> bool {
-    let words = encode(entry);
-    words[1] == kind
-        && is_there_and_back(entry, &words)
-        && *entry.statement() == *statement
-        && entry.copy() == *entry
-        && entry.session().get() == 16
-}
-
-/// Whether there is a statement of a kind with texts of these sizes, and its entry is kept.
-fn keeps(kind: u64, first: usize, second: usize) -> bool {
-    match of_kind(kind, first, second) {
-        Some(statement) => match entry_of(&statement) {
-            Some(entry) => is_kept(kind, &statement, &entry),
-            None => false,
-        },
-        None => false,
-    }
-}
-
 /// The entry of a statement of session 16.
 fn entry_of(statement: &Statement) -> Option<Entry> {
     Entry::of(SessionNo::of(16)?, statement)
 }
 
-/// How many entries of a kind are kept, of all sizes of their texts.
-fn kept_of(kind: u64) -> u64 {
-    let sizes: [usize; 7] = [0, 1, 7, 8, 9, 63, 64];
-    let mut count = 0_u64;
-    for first in sizes {
-        for second in sizes {
-            if keeps(kind, first, second) {
-                count = count.wrapping_add(1);
-            }
-        }
-    }
-    count
-}
-
-#[test]
-fn every_kind_and_size_is_there_and_back(rt: HostRuntime) {
-    for kind in 1..11 {
-        let kept = kept_of(kind);
-        // Of 49 pairs of sizes, kinds 7 to 9 don't have the 7 whose first text is empty, since it is a key.
-        let wanted = if 7 <= kind && kind <= 9 { 42 } else { 49 };
-        assert!(rt; kept == wanted, "{kept} of kind {kind}");
-    }
-}
-
 #[test]
 fn recover_and_unsupported_are_no_entries(rt: HostRuntime) {
-    laws::one_entry_of_its_words();
-    laws::words_fit();
     assert!(rt; entry_of(&Statement::Unsupported).is_none());
     assert!(rt; entry_of(&Statement::Recover { convert: true }).is_none());
     assert!(rt; entry_of(&Statement::Recover { convert: false }).is_none());

@@ -3,7 +3,7 @@
 ghost use Rattle.std.specs.{Prelude.◌≡◌, List.All};
 ghost use Rattle.xa_store.specs.Passes.{identity_of, log_of};
 
-use crate::has_history;
+use crate::playing::has_history;
 use crate::renewal::play;
 use crate::stores::{both, next_session, opened, pushed};
 use std::alloc::Global;

@@ -3,13 +3,14 @@
 ghost use Rattle.std.specs.{Prelude.{◌≡◌, ◌<◌, length, IfOk, IfErr}, List.All};
 ghost use Rattle.xa_store.specs.{Passes.{identity_of, log_of}, Renewal.AreGathered};
 
-use crate::first_difference;
+use crate::playing::first_difference;
 use crate::stores::{both, opened, pushed};
-use decision_log::OpenFault;
 use std::alloc::Global;
 use std::process::Abort;
 use std::sync::Wait;
+use xa_server::Reply;
 use xa_session::Session;
+use xa_statement::read_statement;
 use xa_store::{Log, Pass, Store};
 use xa_words::Entry;
 
@@ -33,12 +34,7 @@ fn leaving<'s>(
 }
 
 /// The passes of sessions, which leave a store.
-pub(crate) fn left(
-    rt: &impl Abort,
-    alloc: Global,
-    store: &Store,
-    sessions: Vec<Session<'_, Log>>,
-) -> Vec<Pass>
+fn left(rt: &impl Abort, alloc: Global, store: &Store, sessions: Vec<Session<'_, Log>>) -> Vec<Pass>
     requires some { 0 < length sessions.items }
     requires belongs { All (λ session. log_of session.pass ≡ identity_of store.now.log) sessions.items }
     ensures { AreGathered (identity_of store.now.log) result.items }
@@ -139,7 +135,7 @@ fn generation<R: Abort + Wait>(
 
 /// The store as it goes on, and its new passes. If there was no memory for that at first, the store plays `still`
 /// in the history that it has, and is then asked again.
-pub(crate) fn gone_on<R: Abort + Wait>(
+fn gone_on<R: Abort + Wait>(
     rt: &R,
     alloc: Global,
     way: Way,
@@ -164,7 +160,7 @@ pub(crate) fn gone_on<R: Abort + Wait>(
 
 /// A store plays a script, and goes on. If it can't at first for lack of memory, it plays `still` in the
 /// history that it has.
-fn next_history<R: Abort + Wait>(
+pub(crate) fn next_history<R: Abort + Wait>(
     rt: &R,
     alloc: Global,
     way: Way,
@@ -267,14 +263,44 @@ fn what_a_dropped_session_prepared_stays(rt: HostRuntime) {
     goes_on(&rt, rt.alloc(), 16, Way::Drop, [DROPPED, ENDS, b""], b"");
 }
 
-#[test]
-fn store_is_opened_for_its_sizes_alone(rt: HostRuntime) {
-    for (capacity, sessions, fault) in [
-        (0, 17, OpenFault::CapacityOutOfRange),
-        (1025, 1, OpenFault::CapacityOutOfRange),
-        (4, 17, OpenFault::SessionsOutOfRange),
-    ] {
-        let found = Store::open(rt.alloc(), capacity, sessions).err();
-        assert_eq!(rt; found, Some(fault));
+/// Has a session write a row as often as the greatest history has room.
+fn fills<R: Abort + Wait>(rt: &R, session: &mut Session<'_, Log>)
+    ensures { log_of session.new.pass ≡ log_of session.old.pass }
+{
+    let Ok(put) = read_statement(b"PUT 'k','v'") else {
+        panic!(rt; "not a statement")
+    };
+    for place in 0..1024u64 {
+        let is_done = match session.execute(rt, &put) {
+            Ok(answer) => answer.place == place && matches!(answer.reply, Reply::Ok),
+            Err(_) => false,
+        };
+        assert!(rt; is_done, "{place}");
     }
+}
+
+/// The passes of a store's sessions, after session 1 has filled its history.
+fn filled<R: Abort + Wait>(rt: &R, alloc: Global, store: &Store, mut passes: Vec<Pass>) -> Vec<Pass>
+    requires { All (λ pass. log_of pass ≡ identity_of store.now.log) passes.items }
+    ensures { AreGathered (identity_of store.now.log) result.items }
+{
+    let (mut first, second) = both(rt, store, &mut passes);
+    fills(rt, &mut first);
+    let mut sessions = Vec::new(alloc);
+    pushed(rt, &mut sessions, first);
+    pushed(rt, &mut sessions, second);
+    left(rt, alloc, store, sessions)
+}
+
+/// The row is there after the renewal, and the history has room again.
+const THERE: &[u8] = b"1 GET 'k' = 0 VALUE 0x76\n2 DEL 'k' = 0 OK\n1 GET 'k' = 1 NONE\n";
+
+#[test]
+fn greatest_history_is_renewed(rt: HostRuntime) {
+    let alloc = rt.alloc();
+    let (store, passes) = opened(&rt, alloc, 1024, 2);
+    let passes = filled(&rt, alloc, &store, passes);
+    let (store, passes) = gone_on(&rt, alloc, Way::Renew, store, passes, b"");
+    drop(generation(&rt, alloc, Way::Renew, &store, passes, THERE));
+    drop(store);
 }

@@ -2,7 +2,7 @@
 ghost use Rattle.std.specs.{Prelude.{◌≡◌, map}, List.All};
 ghost use Rattle.xa_store.specs.Passes.{identity_of, log_of};
 
-use crate::given_in;
+use crate::player_lines::given_in;
 use crate::stores::pushed;
 use std::alloc::Global;
 use std::process::Abort;

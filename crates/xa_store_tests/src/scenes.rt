@@ -3,7 +3,7 @@ ghost use Rattle.std.specs.Prelude.{◌≡◌, All};
 
 use crate::adders::add_all;
 use crate::preparers::prepare_both;
-use crate::sessions::{disconnects, keeps_its_replica, play_all, stays_open};
+use crate::sessions::{keeps_its_replica, play_all, stays_open};
 use crate::trying::try_all;
 use decision_log::DecisionLog;
 use std::alloc::Global;
@@ -24,8 +24,6 @@ pub(crate) enum Scene {
     Keeps,
     /// A session that owns a branch can't disconnect in a full log.
     StaysOpen,
-    /// A session that disconnects loses its branch.
-    Disconnects,
     /// Two threads prepare a branch each.
     Prepares,
 }
@@ -99,7 +97,7 @@ const PREPARED: Scene = Scene::Plays(
 );
 
 /// Each scene, with how many entries the log has room for.
-pub(crate) const SCENES: [(u64, Scene); 10] = [
+pub(crate) const SCENES: [(u64, Scene); 9] = [
     (2, Scene::Tries(IN_TURN)),
     (3, Scene::Tries(MEETS)),
     (8, Scene::Tries(OUTDATED)),
@@ -108,7 +106,6 @@ pub(crate) const SCENES: [(u64, Scene); 10] = [
     (8, PREPARED),
     (8, Scene::Keeps),
     (2, Scene::StaysOpen),
-    (8, Scene::Disconnects),
     (8, Scene::Prepares),
 ];
 
@@ -165,7 +162,6 @@ impl Scene {
             }
             Scene::Keeps => keeps_its_replica(rt, alloc, log, first, second),
             Scene::StaysOpen => stays_open(rt, alloc, log, first, second),
-            Scene::Disconnects => disconnects(rt, alloc, log, first, second),
             Scene::Prepares => prepare_both(rt, alloc, log, first, second),
         }
     }

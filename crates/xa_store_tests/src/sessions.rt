@@ -10,7 +10,6 @@ use std::process::Abort;
 use std::sync::Wait;
 use xa_server::{Reply, Server};
 use xa_session::{Answer, Fault, Session};
-use xa_statement::read_statement;
 use xa_xid::{Bytes, Key, Statement};
 
 /// A session of a pass, connected again if there was no memory.
@@ -232,49 +231,4 @@ where
     comes_back(rt, log, kept_open(rt, first), &base, 1);
     comes_back(rt, log, disconnected(rt, second), &base, 2);
     drop(base);
-}
-
-/// Whether a session starts the branch `a` at this place.
-fn starts_at<L: DecisionLog, R: Abort + Wait>(
-    rt: &R,
-    session: &mut Session<'_, L>,
-    place: u64,
-) -> bool {
-    let Ok(start) = read_statement(b"XA START 'a'") else {
-        return false;
-    };
-    match session.execute(rt, &start) {
-        Ok(
-            Answer {
-                place: found,
-                reply: Reply::Ok,
-            },
-        ) => found == place,
-        _ => false,
-    }
-}
-
-/// A session that owns a branch disconnects, its branch is rolled back, and another one starts a branch of
-/// the same identifier.
-pub(crate) fn disconnects<L: DecisionLog, R: Abort + Wait>(
-    rt: &R,
-    alloc: Global,
-    log: &L,
-    first: L::Pass,
-    second: L::Pass,
-)
-where
-    L::Pass: Drop,
-    requires first { L.belongs_to first ≡ L.identity log.now }
-    requires second { L.belongs_to second ≡ L.identity log.now }
-{
-    let base = Server::new(alloc);
-    let mut first = connected(rt, log, first, &base);
-    let mut second = connected(rt, log, second, &base);
-    let is_first = starts_at(rt, &mut first, 0);
-    drop(disconnected(rt, first));
-    let is_third = starts_at(rt, &mut second, 2);
-    drop(second);
-    drop(base);
-    assert!(rt; is_first && is_third);
 }

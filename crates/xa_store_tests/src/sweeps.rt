@@ -210,15 +210,18 @@ fn copied(rt: &impl Abort, server: &Server) -> Server {
     copy
 }
 
-/// A server is copied, and the copy and then the server are asked what is left.
+/// A server is copied, and the copy, which is the same until then, and then the server are asked what is left.
 #[test]
 fn server_survives(rt: HostRuntime) {
     let alloc = rt.alloc();
     let mut server = Server::new(alloc);
     replies(&rt, alloc, &mut server, LINES);
     let mut copy = copied(&rt, &server);
+    let was_same = server.is_same(&copy);
     replies(&rt, alloc, &mut copy, LEFT);
+    let is_same = server.is_same(&copy);
     drop(copy);
+    assert!(rt; was_same && !is_same);
     replies(&rt, alloc, &mut server, LEFT);
     drop(server);
 }

@@ -1,5 +1,0 @@
-use Rattle.std.proofs.Common.{length}
-use Rattle.xa_store_tests.proofs.courses.survives.Given as goal
-
-abbrev pub decreases-loop-rt : goal.decreases-loop-rt
-decreases-loop-rt g l = length l.rest
