@@ -2,21 +2,18 @@
 //!
 //! If all races come to the same outcome, the counts don't show whether each race was counted for its own. So a gate
 //! here has the races come to two outcomes in turn.
-ghost use Rattle.std.specs.{Prelude.{◌≡◌, IfSome}, List.All};
 ghost use Rattle.decision_log.specs.Opens.{IsCapacity};
 ghost use Rattle.xa_races.specs.Came.{IsRunCount};
 
 use std::alloc::{Alloc, Global};
 use std::process::Abort;
+use std::sync::Wait;
 use std::sync::atomic::{AtomicU64, Ordering};
-use std::sync::{Arc, Wait};
 use std::thread::{Threads, yield_now};
-use xa_endless::EndlessStore;
 use xa_lines::ScriptFault;
-use xa_races::{LongRun, race_on, runs_script};
-use xa_statement::read_statement;
-use xa_store::{Gate, OpenGate};
-use xa_xid::{SessionNo, Statement};
+use xa_races::runs_script;
+use xa_store::Gate;
+use xa_xid::SessionNo;
 
 /// A gate that lets session 1 be first in the first race, session 2 in the next one, and so on in turn. The other
 /// session is let in when the first one's second line comes, behind the answer to its first line.
@@ -145,62 +142,4 @@ fn shut_gate_is_told_of_counted_races(rt: HostRuntime) {
         raced(&rt, BOTH_START, 8, true, 3, &LetsOne),
         ScriptFault::GateShut,
     );
-}
-
-/// One row is written before, and two by lines side by side.
-const WRITES: &[u8] = b"1 PUT 'a','1'\nBESIDE\n1 PUT 'b','2'\n2 PUT 'c','3'\n";
-
-/// What two races of it write.
-const WRITTEN: &[u8] = b"OUTCOME 1 CAME 2\n1 OK\n1 OK\n2 OK\nSEEN 1 OF 1 OUTCOMES\n";
-
-#[test]
-fn full_is_told_only_where_lines_side_by_side_add_more(rt: HostRuntime) {
-    is_refused(
-        &rt,
-        raced(&rt, WRITES, 1, false, 2, &OpenGate),
-        ScriptFault::Full,
-    );
-    is_written(&rt, raced(&rt, WRITES, 2, false, 2, &OpenGate), WRITTEN);
-    is_written(&rt, raced(&rt, WRITES, 1, true, 2, &OpenGate), WRITTEN);
-}
-
-/// Statements that start a branch and end it.
-fn lines(alloc: Global) -> Option<Vec<Statement>> {
-    let start = read_statement(b"XA START 'a'").ok()?;
-    let end = read_statement(b"XA END 'a'").ok()?;
-    vec![in alloc; start, end].ok()
-}
-
-/// The run of session 1, which starts a branch and ends it.
-fn only_run(alloc: Global, store: &Arc<EndlessStore>) -> Option<Vec<LongRun>>
-    ensures { IfSome result (λ runs. All (λ run. run.session.store.value ≡ store.now.value) runs.items) }
-{
-    let lines = lines(alloc)?;
-    let session = EndlessStore::take(store, 1).ok()?;
-    vec![in alloc; LongRun { session, lines }].ok()
-}
-
-/// Whether a race of that run alone ends in a fault, at the gate that stops it before its second statement.
-fn stops<R: Threads + Wait + Sync>(rt: &R, alloc: Global, store: &Arc<EndlessStore>) -> bool {
-    match only_run(alloc, store) {
-        Some(runs) => race_on(rt, alloc, store, 0, runs, &LetsOne).is_err(),
-        None => false,
-    }
-}
-
-/// How many entries there are after that stop, by the place of an answer of session 2. `None` if the race has no fault,
-/// or a call fails.
-fn entries_after_a_stop<R: Threads + Wait + Sync + Alloc<A = Global>>(rt: &R) -> Option<u64> {
-    let store = EndlessStore::open(rt.alloc(), 8, 2).ok()?;
-    let mut other = EndlessStore::take(&store, 2).ok()?;
-    if !stops(rt, rt.alloc(), &store) {
-        return None;
-    }
-    let recover = Statement::Recover { convert: false };
-    Some(other.execute(rt, &recover).ok()?.place)
-}
-
-#[test]
-fn session_that_stops_adds_nothing_more(rt: HostRuntime) {
-    assert_eq!(rt; entries_after_a_stop(&rt), Some(1));
 }

@@ -53,7 +53,8 @@ where
     assert!(rt; output.is_empty());
 }
 
-/// Asks for a race that would write this text to write just what the writer has room for, however little.
+/// Asks for a race that would write this text to write just what the writer has room for, however little, and to end at
+/// once then.
 fn writes_prefixes<R: Abort + Threads + Wait + Sync + Alloc<A = Global>>(
     rt: &R,
     race_kind: RaceKind,
@@ -65,10 +66,10 @@ fn writes_prefixes<R: Abort + Threads + Wait + Sync + Alloc<A = Global>>(
 {
     for room in 0..text.len() {
         let mut input = script;
-        let mut output = CutWriter::new(rt.alloc(), 5, room);
+        let mut output = CutWriter::once(rt.alloc(), 5, room);
         let result = race(rt, race_kind, &mut input, &mut output, capacity, &OpenGate);
         assert_eq!(rt; result, Err(ScriptFault::Write));
-        assert_eq!(rt; output.as_slice(), &text[..room]);
+        assert!(rt; output.as_slice() == &text[..room] && output.writes_after_a_fault() == 0);
     }
 }
 
@@ -139,7 +140,7 @@ fn write_fault_leaves_a_prefix(rt: HostRuntime) {
 #[test]
 fn script_that_is_not_read_is_not_raced(rt: HostRuntime) {
     for reads in 0..3 {
-        let mut input = CutReader::new(b"1 GET 'k'", 3, reads);
+        let mut input = CutReader::once(b"1 GET 'k'", 3, reads);
         writes_nothing(
             &rt,
             RaceKind::Once,
@@ -147,38 +148,8 @@ fn script_that_is_not_read_is_not_raced(rt: HostRuntime) {
             &ShutGate,
             ScriptFault::Read,
         );
+        assert_eq!(rt; input.reads_after_a_fault(), 0);
     }
-}
-
-/// Whether a read fault ends a race at once, with nothing written.
-fn stops_reading<R: Threads + Wait + Sync + Alloc<A = Global>>(
-    rt: &R,
-    output: &mut CutWriter,
-) -> bool {
-    let mut input = CutReader::once(SCRIPT, 6, 2);
-    let result = race(rt, RaceKind::Once, &mut input, output, 1024, &OpenGate);
-    result == Err(ScriptFault::Read)
-        && input.reads_after_a_fault() == 0
-        && output.as_slice().is_empty()
-}
-
-/// Whether a write fault ends a race at once, with all but one byte written.
-fn stops_writing<R: Threads + Wait + Sync + Alloc<A = Global>>(
-    rt: &R,
-    output: &mut CutWriter,
-) -> bool {
-    let mut input = SCRIPT;
-    let result = race(rt, RaceKind::Once, &mut input, output, 1024, &OpenGate);
-    result == Err(ScriptFault::Write)
-        && output.writes_after_a_fault() == 0
-        && output.as_slice() == &OUTCOME[..OUTCOME.len() - 1]
-}
-
-#[test]
-fn stream_fault_ends_a_race_at_once(rt: HostRuntime) {
-    let mut output = CutWriter::once(rt.alloc(), 5, OUTCOME.len() - 1);
-    let is_stopped = stops_reading(&rt, &mut output) && stops_writing(&rt, &mut output);
-    assert!(rt; is_stopped);
 }
 
 #[test]

@@ -1,6 +1,5 @@
 //! Runs over streams that fault, give little at a time, or give much.
 use std::alloc::Global;
-use std::process::Abort;
 use std::test::Fail;
 use xa_lines::{CutReader, CutWriter, ScriptFault, run_script};
 
@@ -11,44 +10,26 @@ const SCRIPT: &[u8] = b"1 XA START 'abc','def'\n1 XA END 'abc','def'\n1 XA PREPA
 /// What answers it: the case committed_once.
 const ANSWERS: &[u8] = b"1 OK\n1 OK\n1 OK\n1 OK\n1 ERROR 1397 (XAE04): XAER_NOTA unknown xid\n";
 
-/// Asks for a run of the script to end in a read fault at once, with nothing written.
-fn is_not_read(rt: &impl Abort, alloc: Global, input: &mut CutReader<'_>) {
-    let mut output = Vec::new(alloc);
-    let result = run_script(alloc, input, &mut output);
-    assert_eq!(rt; result, Err(ScriptFault::Read));
-    assert!(rt; output.is_empty());
-}
-
 #[test]
 fn read_fault_leaves_nothing(rt: HostRuntime) {
     for reads in 0..21 {
-        is_not_read(&rt, rt.alloc(), &mut CutReader::new(SCRIPT, 6, reads));
         let mut input = CutReader::once(SCRIPT, 6, reads);
-        is_not_read(&rt, rt.alloc(), &mut input);
-        assert_eq!(rt; input.reads_after_a_fault(), 0);
+        let mut output = Vec::new(rt.alloc());
+        let result = run_script(rt.alloc(), &mut input, &mut output);
+        assert_eq!(rt; result, Err(ScriptFault::Read));
+        assert!(rt; output.is_empty() && input.reads_after_a_fault() == 0);
     }
-}
-
-/// Asks for a run of the script to end in a write fault, with so many bytes of the answers written.
-fn is_cut(rt: &impl Abort, alloc: Global, output: &mut CutWriter, room: usize) {
-    let mut input = SCRIPT;
-    let result = run_script(alloc, &mut input, output);
-    assert_eq!(rt; result, Err(ScriptFault::Write));
-    assert_eq!(rt; Some(output.as_slice()), ANSWERS.get(..room));
 }
 
 #[test]
 fn write_fault_leaves_a_prefix(rt: HostRuntime) {
     for room in 0..ANSWERS.len() {
-        is_cut(
-            &rt,
-            rt.alloc(),
-            &mut CutWriter::new(rt.alloc(), 3, room),
-            room,
-        );
+        let mut input = SCRIPT;
         let mut output = CutWriter::once(rt.alloc(), 3, room);
-        is_cut(&rt, rt.alloc(), &mut output, room);
-        assert_eq!(rt; output.writes_after_a_fault(), 0);
+        let result = run_script(rt.alloc(), &mut input, &mut output);
+        assert_eq!(rt; result, Err(ScriptFault::Write));
+        let is_prefix = Some(output.as_slice()) == ANSWERS.get(..room);
+        assert!(rt; is_prefix && output.writes_after_a_fault() == 0);
     }
 }
 

@@ -1,15 +1,8 @@
 //! Conversations in pieces, and over clients that fault.
 ghost use Rattle.std.specs.Prelude.{◌<◌};
 
-use arrayvec::ArrayVec;
 use std::alloc::Global;
-use std::io;
-use std::io::{BufWriter, ErrorKind, Write};
-use std::test::Fail;
-use xa_lines::{
-    Answer, CutReader, CutWriter, LineServer, Recorded, ScriptFault, Transport, serve,
-    serve_statements, show_statements,
-};
+use xa_lines::{Recorded, ScriptFault, serve_statements, show_statements};
 
 /// A conversation, whose last line lacks its line feed.
 const TALK: &[u8] = b"1 XA START 'a'\n1 GET 'k'\n\n \t\r\n# so\n2 XA RECOVER\r\nwhat\n2 GET 'k'";
@@ -81,70 +74,4 @@ fn write_fault_leaves_a_prefix(rt: HostRuntime) {
         let is_cut = result == Err(ScriptFault::Write) && client.given() == &ANSWERS[..room];
         assert!(rt; is_cut, "with room for {room}");
     }
-}
-
-/// Takes nothing.
-#[derive(Drop)]
-struct Gone;
-
-impl Write for Gone {
-    fn write(&mut self, _buf: &[u8]) -> io::Result<usize> {
-        Err(ErrorKind::BrokenPipe.into())
-    }
-
-    fn flush(&mut self) -> io::Result<()> {
-        Ok(())
-    }
-}
-
-/// Serves the conversation, of which so many reads succeed, to a writer.
-fn over_streams<W: Write + Drop>(alloc: Global, reads: u64, writer: W) -> Result<(), ScriptFault> {
-    let writer = BufWriter::new(alloc, writer).map_err(|_| ScriptFault::NoMemory)?;
-    let mut transport = Transport::new(CutReader::new(TALK, 3, reads), writer);
-    serve_statements(alloc, &mut transport)
-}
-
-#[test]
-fn streams_make_a_client(rt: HostRuntime) {
-    let whole = over_streams(rt.alloc(), 1000, CutWriter::new(rt.alloc(), 5, 1000));
-    assert_eq!(rt; whole, Ok(()));
-    let cut = over_streams(rt.alloc(), 4, CutWriter::new(rt.alloc(), 5, 1000));
-    assert_eq!(rt; cut, Err(ScriptFault::Read));
-    let gone = over_streams(rt.alloc(), 1000, Gone);
-    assert_eq!(rt; gone, Err(ScriptFault::Write));
-}
-
-/// Answers each line with how many lines it has received, in one digit.
-#[derive(Drop)]
-struct Counter {
-    lines: u8,
-    ghost digit: { lines < 10 },
-}
-
-impl LineServer for Counter {
-    ghost use Rattle.std.specs.Prelude.{◌≡◌, ◌+◌, ◌∷◌, []};
-
-    ghost begins = { λ counter. counter.lines ≡ 0 };
-
-    ghost answers = { λ old line text new. text ≡ (48 + new.lines) ∷ [] };
-
-    fn answer(&mut self, _alloc: Global, _line: &[u8]) -> Answer {
-        self.answer_long()
-    }
-
-    fn answer_long(&mut self) -> Answer {
-        self.lines = (self.lines + 1) % 10;
-        let mut text = ArrayVec::new();
-        let _ = text.try_push(b'0' + self.lines);
-        Answer::Short(text)
-    }
-}
-
-#[test]
-fn any_server_of_lines_is_served(rt: HostRuntime) -> Result<(), Fail> {
-    let mut counter = Counter { lines: 0 };
-    let mut client = Recorded::new(rt.alloc(), b"a\n\nb\nc", 2, 100, 100);
-    serve(rt.alloc(), &mut counter, &mut client)?;
-    assert_eq!(rt; client.told(), b"1234".as_slice());
-    Ok(())
 }
