@@ -3,7 +3,7 @@ ghost use Rattle.std.specs.Prelude.{◌≡◌};
 ghost use Rattle.xa_store.specs.Passes.{identity_of, log_of};
 
 use crate::gates::{CountsQuestions, ShutsFirst, Watches};
-use crate::runs::{entered, two_runs};
+use crate::runs::two_runs;
 use crate::stores::{joined, opened, three_passes, two_passes};
 use std::alloc::Global;
 use std::process::Abort;
@@ -17,16 +17,16 @@ use xa_store::{
 };
 use xa_xid::{SessionNo, Statement};
 
-/// What a race gives of this script by sessions 1 to the last, in a store with so much room.
+/// What a race gives of this script by two sessions, in a store with so much room.
 fn raced<G: Gate + Sync, R: Abort + Threads + Wait + Sync>(
     rt: &R,
     alloc: Global,
     capacity: u64,
-    sessions: u64,
     script: &[u8],
     gate: &G,
 ) -> Result<Outcome, RaceFault> {
-    let (store, runs) = entered(rt, alloc, capacity, sessions, script);
+    let (store, first, second) = two_passes(rt, alloc, capacity);
+    let runs = two_runs(rt, alloc, &store, first, second, script);
     let outcome = race(rt, alloc, &store, runs, gate);
     drop(store);
     outcome
@@ -64,7 +64,7 @@ fn full_history_stops_a_run_and_its_gate_is_asked_once_for_each_line(rt: HostRun
         let gate = CountsQuestions {
             asked: AtomicU64::new(0),
         };
-        let fault = raced(&rt, rt.alloc(), capacity, 1, THREE_LOGGED, &gate).err();
+        let fault = raced(&rt, rt.alloc(), capacity, THREE_LOGGED, &gate).err();
         assert!(rt; fault == Some(RaceFault::Full { session, line }));
         assert_eq!(rt; gate.asked.load(Ordering::SeqCst), asked);
     }
@@ -74,23 +74,6 @@ fn full_history_stops_a_run_and_its_gate_is_asked_once_for_each_line(rt: HostRun
 fn is_first_shut(fault: Option<RaceFault>) -> bool {
     let session = SessionNo::of(1).unwrap();
     fault == Some(RaceFault::GateShut { session, line: 1 })
-}
-
-/// The fault of a race by a store's first two passes, the second first.
-fn fault_of_two<R: Abort + Threads + Wait + Sync>(
-    rt: &R,
-    alloc: Global,
-    store: &Store,
-    first: Pass,
-    second: Pass,
-    script: &[u8],
-    gate: &ShutsFirst,
-) -> Option<RaceFault>
-    requires first { log_of first ≡ identity_of store.now.log }
-    requires second { log_of second ≡ identity_of store.now.log }
-{
-    let runs = two_runs(rt, alloc, store, first, second, script);
-    race(rt, alloc, store, runs, gate).err()
 }
 
 /// Whether a session is answered, at place 4, with only the branch 'b'.
@@ -128,7 +111,8 @@ fn stops_the_first<R: Abort + Threads + Wait + Sync>(
     requires third { log_of third ≡ identity_of store.now.log }
 {
     let gate = ShutsFirst { others: 3 };
-    let fault = fault_of_two(rt, alloc, store, first, second, EACH_A_BRANCH, &gate);
+    let runs = two_runs(rt, alloc, store, first, second, EACH_A_BRANCH);
+    let fault = race(rt, alloc, store, runs, &gate).err();
     is_first_shut(fault) && lists_the_branch(&mut joined(rt, store, third))
 }
 
@@ -144,9 +128,7 @@ const SHUT: &[u8] = b"1 XA START 'a'\n1 XA END 'a'\n2 XA START 'b'\n";
 #[test]
 fn fault_of_the_lowest_session_is_told(rt: HostRuntime) {
     let gate = ShutsFirst { others: 0 };
-    let (store, first, second) = two_passes(&rt, rt.alloc(), 8);
-    let fault = fault_of_two(&rt, rt.alloc(), &store, first, second, SHUT, &gate);
-    drop(store);
+    let fault = raced(&rt, rt.alloc(), 8, SHUT, &gate).err();
     assert!(rt; is_first_shut(fault));
 }
 
@@ -159,7 +141,7 @@ fn meet_first<G: Gate + Sync + Drop, R: Abort + Threads + Wait + Sync>(
 ) {
     let watched = Watches::new(gate);
     for _ in 0..2 {
-        let is_raced = raced(rt, alloc, 2, 2, b"1 DEL 'k'\n2 DEL 'k'\n", &watched).is_ok();
+        let is_raced = raced(rt, alloc, 2, b"1 DEL 'k'\n2 DEL 'k'\n", &watched).is_ok();
         assert!(rt; is_raced && watched.have_met());
     }
 }

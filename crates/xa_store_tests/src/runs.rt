@@ -1,5 +1,5 @@
 //! Races of runs whose statements a script says.
-ghost use Rattle.std.specs.{Prelude.{◌≡◌, map}, List.All};
+ghost use Rattle.std.specs.{Prelude.◌≡◌, List.All};
 ghost use Rattle.xa_store.specs.Passes.{identity_of, log_of};
 
 use crate::player_lines::given_in;
@@ -30,39 +30,6 @@ fn lines_of(rt: &impl Abort, alloc: Global, session: SessionNo, script: &[u8]) -
         rest = behind;
     }
     lines
-}
-
-/// A run of each pass of sessions 1 to the last, in order.
-fn runs_of(rt: &impl Abort, alloc: Global, passes: Vec<Pass>, script: &[u8]) -> Vec<Run>
-    ensures { map (λ run. run.pass) result.items ≡ passes.items }
-{
-    let mut runs = Vec::new(alloc);
-    for pass in passes {
-        let number = u64::saturating_add(runs.len() as u64, 1);
-        let Some(session) = SessionNo::of(number) else {
-            panic!(rt; "a session")
-        };
-        let lines = lines_of(rt, alloc, session, script);
-        pushed(rt, &mut runs, Run { pass, lines });
-    }
-    runs
-}
-
-/// A store with room for so many entries, and a run of each of so many sessions.
-pub(crate) fn entered(
-    rt: &impl Abort,
-    alloc: Global,
-    capacity: u64,
-    sessions: u64,
-    script: &[u8],
-) -> (Store, Vec<Run>)
-    ensures { All (λ run. log_of run.pass ≡ identity_of result.0.log) result.1.items }
-{
-    let Ok((store, passes)) = Store::open(alloc, capacity, sessions) else {
-        panic!(rt; "not opened")
-    };
-    let runs = runs_of(rt, alloc, passes, script);
-    (store, runs)
 }
 
 /// The run of a session by a pass.
