@@ -59,9 +59,7 @@ fn answers<L: DecisionLog, R: Wait>(
 /// A line has a session's number, a statement, and after `= ` its place with its reply, or `FULL`. A line
 /// without that form differs, and so does an answer after which a replica lacks more than one entry. A step
 /// that is refused memory is repeated once.
-///
-/// May take memory. Waits if other sessions are faster.
-pub fn first_difference<'s, L: DecisionLog, R: Wait>(
+pub(crate) fn first_difference<'s, L: DecisionLog, R: Wait>(
     rt: &R,
     alloc: Global,
     first: &mut Session<'_, L>,
@@ -92,7 +90,7 @@ pub fn first_difference<'s, L: DecisionLog, R: Wait>(
 }
 
 /// Whether an entry is the statement of a line, of the session that the line names.
-fn is_entry(entry: &Entry, line: &[u8]) -> bool {
+pub(crate) fn is_entry(entry: &Entry, line: &[u8]) -> bool {
     match given_in(line) {
         Some((number, statement)) => entry.session() == number && *entry.statement() == statement,
         None => false,
@@ -101,9 +99,7 @@ fn is_entry(entry: &Entry, line: &[u8]) -> bool {
 
 /// Looks, and returns whether the whole history is the lines of a script: the statements, each of its
 /// session.
-///
-/// Takes no memory. Doesn't wait.
-pub fn has_history<L: DecisionLog>(session: &mut Session<'_, L>, script: &[u8]) -> bool
+pub(crate) fn has_history<L: DecisionLog>(session: &mut Session<'_, L>, script: &[u8]) -> bool
     ensures { L.belongs_to session.new.pass ≡ L.belongs_to session.old.pass }
 {
     session.look();

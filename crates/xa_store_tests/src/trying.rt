@@ -2,7 +2,7 @@
 ghost use Rattle.std.specs.Prelude.{◌≡◌};
 
 use crate::cases::{is_answer, split_case};
-use crate::player_lines::given_in;
+use crate::playing::is_entry;
 use decision_log::{AddFault, DecisionLog};
 use std::alloc::Global;
 use std::process::Abort;
@@ -82,14 +82,6 @@ fn text_of(alloc: Global, told: (&[u8], u64)) -> Result<Vec<u8>, NoMemory> {
     Ok(text)
 }
 
-/// Whether an entry is a line's.
-fn is_of(entry: &Entry, line: &[u8]) -> bool {
-    match given_in(line) {
-        Some((number, statement)) => entry.session() == number && *entry.statement() == statement,
-        None => false,
-    }
-}
-
 /// Whether the entry that a pass has seen at a place is this line's.
 fn has_entry<L: DecisionLog>(log: &L, pass: &mut L::Pass, at: u64, line: &[u8]) -> bool
     requires { L.belongs_to pass.old ≡ L.identity log.now }
@@ -98,7 +90,7 @@ fn has_entry<L: DecisionLog>(log: &L, pass: &mut L::Pass, at: u64, line: &[u8]) 
     if at >= log.length(pass) {
         return false;
     }
-    is_of(&log.entry(pass, at), line)
+    is_entry(&log.entry(pass, at), line)
 }
 
 /// Whether a number after a word is the answer that is wanted.
@@ -175,9 +167,7 @@ where
 /// answered: of a statement, which it tries to add, `OK`, `OVERTAKEN`, `FULL` or `BUSY`, each with how many
 /// entries it has seen then; of `LOOK` and `LENGTH`, how many it has seen; of `MEET`, how many the other one has
 /// seen then. `1@0 2 GET 'k'` says which entry the first pass has seen at place 0; a place has one digit.
-///
-/// May take memory. Doesn't wait.
-pub fn tries<L: DecisionLog>(
+fn tries<L: DecisionLog>(
     rt: &impl Abort,
     alloc: Global,
     log: &L,
