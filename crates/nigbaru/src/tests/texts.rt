@@ -18,7 +18,7 @@ use xa_xid::{LiteralFault, SessionNo};
 macro_rules! are_counted {
     ($rt:expr, $all:expr) => {
         for (one, number) in $all.iter().zip(1..) {
-            assert!($rt; one.number() == number, "{number}");
+            assert!($rt; one.number() == number);
         }
     };
 }
