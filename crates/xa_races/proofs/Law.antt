@@ -1,6 +1,4 @@
 -- What lines were answered in a race, some order of them gives.
---     raced_leads      turns lead to what lines that raced were answered
---     came_outcome, came_listed     it is the text of an explored outcome;  it is among their texts
 use Rattle.std.proofs.Common.{◌≡◌, ℕ, suc, ◌+◌, ◌≤◌, ◌==◌, ◌&&◌, Bool, true, false, not, cond, Option, Some, None, List}
 use Rattle.std.proofs.Common.{[], ◌∷◌, ◌++◌, length, map, refl, ap, sym, ◌∙◌, subst, inl, inr, arith, append-nil}
 use Rattle.std.{proofs.lemmas.Option.{none-some, same_Some}, specs.{Prelude.nat_lt, List.{Contains, concat}}}
@@ -120,48 +118,6 @@ module _ (base : State) (lines : List Told) (texts : List (List ℕ)) (new : Sta
         count = all.count ∙ all_empty lines;
       }
 
--- if a session can have a turn at a single line, the line is its own, and the turn carries it out
-turn_one : (base : State) (told : Told) (session : ℕ) (mid : Config)
-    → turn (told ∷ []) (opening (told ∷ []) base) session ≡ Some mid
-    → (told.session ≡ session) × (mid ≡ carried_out session told.text (opening (told ∷ []) base) 0)
-unfolding turn
-turn_one base told session mid is = by (told.session == session) refl
-  where
-    at : Bool → Option Config
-    at b = option_map (λ place. carried_out session (text_at (told ∷ []) place) (opening (told ∷ []) base) place)
-        (cond (nat_lt (cond (not (b && true)) (1 + 0) 0) 1) (Some (cond (not (b && true)) (1 + 0) 0)) None)
-
-    by : (b : Bool) → (told.session == session) ≡ b → (told.session ≡ session)
-        × (mid ≡ carried_out session told.text (opening (told ∷ []) base) 0)
-    by true its = (
-      same_of_test told.session session its,
-      same_Some mid (carried_out session told.text (opening (told ∷ []) base) 0) (sym is ∙ ap at its),
-    )
-    by false other = absurd (none-some mid (sym (ap at other) ∙ is))
-
--- one turn at a single line leads to where that line was carried out
-one_turn : (base : State) (told : Told) (order : List ℕ) (config : Config) → length order ≡ 1
-    → LeadsTo (told ∷ []) (opening (told ∷ []) base) order config
-    → config ≡ carried_out told.session told.text (opening (told ∷ []) base) 0
-one_turn base told [] config one leads = absurd (omega (arith, one))
-one_turn base told (session ∷ []) config one leads =
-    let turned = turn_one base told session leads.0 leads.2 in
-    leads.3 ∙ turned.1 ∙ ap (λ n. carried_out n told.text (opening (told ∷ []) base) 0) (sym turned.0)
-one_turn base told (session ∷ other ∷ order) config one leads = absurd (omega (arith, one))
-
--- a race of a single line gives the answer and the state that the sequential server gives
-pub one_line : (base : State) (told : Told) (texts : List (List ℕ)) (new : State) → IsRaced base (told ∷ []) texts new
-    → (concat texts ≡ answer_to base told.session (read_of told.text))
-    × (new ≡ state_then base told.session (read_of told.text))
-one_line base told texts new raced =
-    let led : Leads base (told ∷ []) texts new = raced_leads base (told ∷ []) texts new raced in
-    let is : led.config ≡ carried_out told.session told.text (opening (told ∷ []) base) 0 =
-    one_turn base told led.order led.config led.count led.leads in (
-      ap concat (sym led.answers ∙ ap (λ (c : Config). c.answers) is)
-          ∙ append-nil (answer_to base told.session (read_of told.text)),
-      sym led.state ∙ ap (λ (c : Config). c.state) is,
-    )
-
 -- a text that came is given by some order of the lines: the law that a race shows no other outcome
 pub came_given : (parts : Parts) (text : List ℕ) → HasCome parts text → (order : List ℕ) × Gives parts order text
 came_given parts text came =
@@ -180,16 +136,6 @@ came_given parts text came =
       },
     )
 
--- if some outcome has the text, the text is among those of the outcomes
-in_mapped : (outcomes : List Outcome) (order text : List ℕ)
-    → Any (λ one. (one.text.items ≡ text) × AtMost one.order.items order) outcomes
-    → Contains (map (λ one. one.text.items) outcomes) text
-in_mapped [] order text any = absurd any
-in_mapped (one ∷ outcomes) order text (inl here) = (0, omega arith, here.0)
-in_mapped (one ∷ outcomes) order text (inr later) =
-    let rest = in_mapped outcomes order text later in
-    (suc rest.0, omega (arith, rest.1), rest.2)
-
 -- a text that came is that of an outcome that is explored
 pub came_outcome : (parts : Parts) (outcomes : List Outcome) (text : List ℕ) → IsExplored parts outcomes
     → HasCome parts text
@@ -197,11 +143,3 @@ pub came_outcome : (parts : Parts) (outcomes : List Outcome) (text : List ℕ) �
 came_outcome parts outcomes text explored came =
     let given = came_given parts text came in
     (given.0, explored.all given.0 text given.1)
-
--- a text that came is among the outcomes, if all are listed
-pub came_listed : (parts : Parts) (outcomes : List Outcome) (text : List ℕ) → IsExplored parts outcomes
-    → HasCome parts text
-    → Contains (map (λ one. one.text.items) outcomes) text
-came_listed parts outcomes text explored came =
-    let found = came_outcome parts outcomes text explored came in
-    in_mapped outcomes found.0 text found.1

@@ -13,16 +13,4 @@ pub mod Turns
 pub mod Schedules
 pub mod CountedSchedules
 pub mod Law
-pub mod CountedRaced
-pub mod Reading
-pub mod Counting
-pub mod Counted
-pub mod Entering
-pub mod Earlier
-pub mod Stores
-pub mod CountedGiven
-pub mod AtGate
-pub mod Ended
-pub mod HeldRuns
-pub mod Whole
 pub mod Written

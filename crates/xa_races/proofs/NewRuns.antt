@@ -15,6 +15,7 @@ use Rattle.xa_store.specs.{Legal.{IsLegal, LetsIn, Answered, entered}, declared.
 use Rattle.xa_races.specs.{Long.{known_in, IsLongOutcome, BlamesLong}, declared.long_run.LongRun.LongRun}
 use Rattle.xa_races.specs.LongRace.{IsNewRun, AreNewRuns, AllAnswered, AllLetIn, IsLongRace, BlamesRace}
 use Rattle.xa_races.specs.declared.long_outcome.LongOutcome.{LongOutcome}
+use Rattle.xa_races.proofs.Ends.{zip_beside, zip_second}
 
 -- the new runs of a store, and one more with the next number, are new runs of the store
 pub new_more : (store : EndlessStore) (n m : ℕ) (lists : List (List Statement)) (runs : List LongRun)
@@ -106,20 +107,33 @@ let_in_new gate store n (l ∷ lists) (run ∷ runs) are all = (
   let_in_new gate store (n + 1) lists runs are.1 all.1,
 )
 
+-- the sessions that come back from runs are of the same store as those that went out
+pub sessions_mine : (store : EndlessStore) (runs : List LongRun) (sessions : List EndlessSession)
+    → All (λ run. run.session.store.value ≡ store) runs
+    → AllZip (λ run session. (session.store.value ≡ run.session.store.value)
+    × ((known_in session).number ≡ (known_in run.session).number)) runs sessions
+    → All (λ session. session.store.value ≡ store) sessions
+sessions_mine store runs sessions all zip =
+    let Sent : LongRun → Type 0 = λ run. run.session.store.value ≡ store in
+    let Back : EndlessSession → Type 0 = λ session. session.store.value ≡ store in
+    let Same : LongRun → EndlessSession → Type 0 =
+    λ run session. (session.store.value ≡ run.session.store.value)
+    × ((known_in session).number ≡ (known_in run.session).number) in
+    All-from_recursion Back sessions
+    (zip_second (λ run session. Same run session × Sent run) Back (λ run session both. both.0.0 ∙ both.1) runs sessions
+    (zip_beside Same Sent runs sessions zip (recursion_from_All Sent runs all)))
+
 -- what the new runs of a new store come to is the outcome of a long race
 pub long_race : (gate : ℕ → ℕ → Bool → Type 0) (rows count : ℕ) (store : EndlessStore) (lists : List (List Statement))
     (runs : List LongRun)
     (outcome : LongOutcome) → Opens rows count store → AreNewRuns store 1 lists runs → IsLongOutcome gate 0 runs outcome
     → IsLongRace gate rows lists outcome
 long_race gate rows count store lists runs outcome opens are is =
-    let Mine : EndlessSession → Type 0 = λ session. session.store.value ≡ store in
     record {
       store = store;
       rows_are = opens.rows_are;
       sessions =
-          All-from_recursion Mine outcome.sessions.items
-          (mine_all runs outcome.sessions.items (recursion_from_All (λ run. run.session.store.value ≡ store) runs
-          (new_mine store 1 lists runs are)) is.sessions);
+          sessions_mine store runs outcome.sessions.items (new_mine store 1 lists runs are) is.sessions;
       legal =
           subst (λ (history : List Entry). AllAnswered no_state history 1 lists
           (map (λ answers. answers.items) outcome.answers.items)) (sym is.history)
@@ -131,16 +145,6 @@ long_race gate rows count store lists runs outcome opens are is =
           (recursion_from_All (λ run. LetsIn gate (known_in run.session).number
           (length run.lines.items)) runs is.opened);
     }
-  where
-    mine_all : (runs : List LongRun) (sessions : List EndlessSession)
-        → AllByRecursion (λ run. run.session.store.value ≡ store) runs
-        → AllZip (λ run session. (session.store.value ≡ run.session.store.value)
-        × ((known_in session).number ≡ (known_in run.session).number)) runs sessions
-        → AllByRecursion (λ session. session.store.value ≡ store) sessions
-    mine_all [] [] all zip = tt
-    mine_all [] (session ∷ sessions) all zip = absurd zip
-    mine_all (run ∷ runs) [] all zip = absurd zip
-    mine_all (run ∷ runs) (session ∷ sessions) all zip = (zip.0.0 ∙ all.0, mine_all runs sessions all.1 zip.1)
 
 -- the run at an index is that of the list there, of a new session with the number `index + n`
 record NewAt (store : EndlessStore) (n index : ℕ) (lists : List (List Statement)) (run : LongRun) : Type 0 where

@@ -406,11 +406,6 @@ pub laid_one : (front : List Told) (answers : ℕ → List Answer) (told : Told)
 unfolding laid_texts
 laid_one front answers told lines = refl
 
--- without lines no answer is laid out
-pub laid_none : (front : List Told) (answers : ℕ → List Answer) → laid_texts front answers [] ≡ []
-unfolding laid_texts
-laid_none front answers = refl
-
 -- what a session has left of a line and those behind it, before any of them has an answer
 abbrev left_with : ℕ → Told → List Told → List (List ℕ) → List Owed
 left_with session told lines texts = left session (told ∷ lines) (replicate (length (told ∷ lines)) []) texts

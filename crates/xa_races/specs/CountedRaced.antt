@@ -1,6 +1,5 @@
 -- Races of lines that several sessions give.
 -- Every rule here is the project's own: docs/COMMANDS.md#race-statistics.
---     IsReadLine, AreRead     a line's statement is read;  those of all parts are
 use Rattle.std.specs.Prelude.{◌≡◌, ℕ, Bool, false, cond, ◌==◌, count_by, Option, Some, None, Result, Ok, Err, List, []}
 use Rattle.std.specs.{Prelude.{◌∷◌, ◌++◌, slice_get, decimal}, List.{All, concat, filter_map}}
 use Rattle.xa_xid.specs.declared.statement.Statement.{Statement}
@@ -55,12 +54,6 @@ laid_texts front answers (told ∷ lines) =
 abbrev pub IsReadLine : Told → Type 0
 IsReadLine told = (statement : Statement) × (read_of told.text ≡ Ok statement)
 
--- each line of the three parts of a script is one that can be read
-pub record AreRead (parts : Parts) : Type 0 where
-  pub before : All IsReadLine parts.before
-  pub beside : All IsReadLine parts.beside
-  pub later : All IsReadLine parts.later
-
 -- lines of sessions 1 to 16, each of which can be read, raced, beginning in the state `base`; this was written for
 -- each, and `new` is the state after them. One history, of these sessions alone, explains what each session was
 -- answered to its statements, and leads to that state
@@ -74,10 +67,6 @@ pub record IsRaced (base : State) (lines : List Told) (texts : List (List ℕ)) 
       (answers session)
   pub texts_are : texts ≡ laid_texts [] answers lines
   pub new_is : new ≡ state_after base history
-
--- a race of these lines from this state gave these answers, as one text, and left the new state
-abbrev pub GivesRaced : State → List Told → List ℕ → State → Type 0
-GivesRaced base lines text new = (texts : List (List ℕ)) × IsRaced base lines texts new × (text ≡ concat texts)
 
 -- the parts were raced, and this is what all lines were answered: first those before, one after another, then
 -- those side by side in a race, then the later ones, one after another

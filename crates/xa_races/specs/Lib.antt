@@ -6,9 +6,4 @@ pub mod LongRace
 pub mod Assembled
 pub mod CountedRaced
 pub mod Came
-pub mod CountedHeld
-pub mod CountedBases
-pub mod Tallied
-pub mod HeldRuns
-pub mod Course
 pub mod LinesLeft

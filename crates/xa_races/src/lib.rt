@@ -13,21 +13,19 @@
 //!
 //! `runs_script` races a script many times, and counts how often each of its outcomes came. Each race has a store of
 //! its own. The lines before and the later lines are carried out one after another; those side by side race, each
-//! session on its own thread. The law in `src/counted_laws.rt` says that whatever comes is one of the outcomes that
-//! `xa_orders` explores. Read docs/COMMANDS.md#race-statistics, then `specs/CountedRaced.antt`, `specs/Came.antt` and
-//! `src/runs.rt`.
+//! session on its own thread, as `race_on` does. What it counts is tested, not proved. Read
+//! docs/COMMANDS.md#race-statistics, then `src/runs.rt` and `src/counted_parts.rt`. The law in `src/counted_laws.rt`
+//! says that what a race of lines comes to, if one history explains it, is one of the outcomes that `xa_orders`
+//! explores: read `specs/CountedRaced.antt`.
 #![tactic(auto)]
 
 mod added;
 mod asked;
 mod assembling;
-mod came_tally;
-mod came_text;
 pub mod counted_laws;
 mod counted_lines;
-mod counted_opened;
 mod counted_parts;
-mod counted_statements;
+mod counting;
 mod given;
 mod holding;
 mod laying;
@@ -40,17 +38,14 @@ mod meeting;
 mod parting;
 mod race_fault;
 mod race_lines;
-mod race_runs;
 mod race_text;
 mod racer;
 mod racing;
 mod reshuffled;
 mod running;
 mod runs;
-mod runs_of;
 mod said;
 mod saying;
-mod tallies;
 
 pub use added::Added;
 pub use long_outcome::LongOutcome;

@@ -5,10 +5,8 @@ ghost use Rattle.std.specs.Io.KnownBytes.{Appends, IsAtEnd};
 ghost use Rattle.decision_log.specs.Opens.{IsCapacity};
 ghost use Rattle.xa_lines.specs.Calls.{HasWritten, StopsWriting, Completes, Stops};
 ghost use Rattle.xa_lines.specs.{Limits.{script_bytes, script_reads}, Transcript.{AppendsPrefix, ConsumesMoreThan}};
-ghost use Rattle.xa_races.specs.Came.{IsRunCount, IsSomeRunsText, AppendsRuns, IsOfRuns, AfterRunsFault};
-ghost use Rattle.xa_races.specs.HeldRuns.{AppendsHeldRuns, EndsRuns};
+ghost use Rattle.xa_races.specs.Came.{IsSomeRunsText, AppendsRuns, IsOfRuns, AfterRunsFault};
 
-use crate::counted_parts::Course;
 use crate::runs::{Came, runs_text};
 use std::alloc::Global;
 use std::sync::Wait;
@@ -60,38 +58,22 @@ pub fn runs_script<I: PieceReader, O: PieceWriter, G: Gate + Sync, R: Threads + 
     runs: u64,
     gate: &G,
 ) -> Result<Ended, ScriptFault>
-    requires capacity { IsCapacity capacity }
-    requires runs { IsRunCount runs }
+    requires { IsCapacity capacity }
 
     // Proved (races, runs-reads-all): After Ok of several races the whole script was read.
     ensures read { OnOk result (IsAtEnd (I.remaining reader.new)) }
-    // Proved (races, runs-outcomes): N texts are counted, each of which a race of the script can come to: one history
-    //   explains it. Each different text is written once, with its number in the list of all outcomes and how often
-    //   it is among the N, and then how many of all outcomes are among them. A script with faulty lines has exactly
-    //   these written.
-    // Proved (races, runs-too-many): Only if orders of one length lead to more than 100,000 ways, no two of which
-    //   have come to the same, the list of all outcomes may be missing. Then each different one of the N texts is
-    //   written once, ascending, with how often it is among them, and then how many there are.
+    // Proved (races, runs-faulty-lines): Several races end with `Faulty` exactly if a line of the script is faulty, and
+    //   exactly its faulty lines are written then.
     ensures written { IfOk result
-        (λ ended. IfSome (I.remaining reader.old) (λ script. AppendsRuns runs ended script (O.contents writer.old)
+        (λ ended. IfSome (I.remaining reader.old) (λ script. AppendsRuns ended script (O.contents writer.old)
         (O.contents writer.new))) }
-    // Proved (races, runs-held-as-asked): For each of the N texts that are counted there is a race over a store with
-    //   as many slots as were asked for. The gate can let in each line side by side, and these add no more entries
-    //   than were asked for, unless races renew their stores. Two texts may be of one race. After `GateShut` the gate
-    //   can stop a session at one of its lines side by side; after `Full` these lines can add more entries, and races
-    //   don't renew their stores.
-    ensures held { OnOk result (IfSome (I.remaining reader.old) (λ script. AppendsHeldRuns (G.may_answer gate.now)
-        capacity renews runs script (O.contents writer.old) (O.contents writer.new))) }
-    // Proved (races, runs-held-as-asked)
-    ensures caused { IfErr result (λ fault. IfSome (I.remaining reader.old)
-        (λ script. EndsRuns (G.may_answer gate.now) capacity renews script fault)) }
     // Proved (races, runs-length): A script that was raced several times has at most 1,048,576 bytes.
     ensures short { OnOk result (IfSome (I.remaining reader.old) (λ script. length script ≤ script_bytes)) }
 
     // Proved (races, runs-fault): After `Write` a prefix of such a text was written, after any other fault of
     //   several races nothing. `Full`, `GateShut` and `ThreadRefused` are returned only if no line is faulty,
     //   and `Full` only if the races don't renew their stores.
-    ensures fault { IfErr result (λ fault. AfterRunsFault renews runs fault (I.remaining reader.old)
+    ensures fault { IfErr result (λ fault. AfterRunsFault renews fault (I.remaining reader.old)
         (O.contents writer.old) (O.contents writer.new)) }
     // Proved (races, script-too-long)
     ensures too_long { result ≡ Err ScriptFault.TooLong → ConsumesMoreThan script_bytes (I.remaining reader.old)
@@ -102,15 +84,14 @@ pub fn runs_script<I: PieceReader, O: PieceWriter, G: Gate + Sync, R: Threads + 
     //   read, and `Write` only if the last write failed or took nothing. Any other fault is want of memory or a
     //   race's. A stream that failed isn't called again. This holds for every reader and writer.
     ensures calls { OnOk result (Completes I.gives O.takes script_reads
-        (IsSomeRunsText runs) reader.old reader.new writer.old writer.new) }
+        IsSomeRunsText reader.old reader.new writer.old writer.new) }
     // Proved (races, runs-stream-faults)
     ensures cause { IfErr result
-        (λ fault. Stops I.gives I.fails O.takes O.refuses script_reads script_bytes (IsSomeRunsText runs)
+        (λ fault. Stops I.gives I.fails O.takes O.refuses script_reads script_bytes IsSomeRunsText
         (IsOfRuns renews) fault reader.old reader.new
         writer.old writer.new) }
 {
     let script = read_all(alloc, reader)?;
-    let mut course = Course::new(alloc);
     let came = runs_text(
         rt,
         alloc,
@@ -119,7 +100,6 @@ pub fn runs_script<I: PieceReader, O: PieceWriter, G: Gate + Sync, R: Threads + 
         renews,
         runs,
         gate,
-        &mut course,
     )?;
     write_came(writer, &came)
 }

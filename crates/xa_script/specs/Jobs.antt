@@ -42,23 +42,23 @@ HasRaced json renews capacity input old new done =
     IfOk done (λ status. (status ≡ 0) × IfSome input (λ script. WritesAs json (AppendsRaceBy renews capacity
     (uncommented script)) old new))
 
--- what a fault of racing `runs` times leaves in the writer
-abbrev pub AfterCame : (json renews : Bool) → (runs : ℕ) → ScriptFault → (input old new : Option (List ℕ)) → Type 0
-AfterCame true renews runs fault input old new =
-    AfterObjects (λ before after. (status : ℕ) × AppendsCame runs status input before after) fault old new
-AfterCame false renews runs fault input old new = AfterRunsFault renews runs fault input old new
+-- what a fault of racing several times leaves in the writer
+abbrev pub AfterCame : (json renews : Bool) → ScriptFault → (input old new : Option (List ℕ)) → Type 0
+AfterCame true renews fault input old new =
+    AfterObjects (λ before after. (status : ℕ) × AppendsCame status input before after) fault old new
+AfterCame false renews fault input old new = AfterRunsFault renews fault input old new
 
--- the script was raced `runs` times, if no line of it is faulty: how that ended, and what was written
-abbrev pub HasCame : (json renews : Bool) → (runs : ℕ) → (input old new : Option (List ℕ)) → End → Type 0
-HasCame json renews runs input old new done =
-    MatchResult done (λ status. WritesAs json (AppendsCame runs status input) old new)
-    (λ fault. AfterCame json renews runs fault input old new)
+-- the script was raced several times, if no line of it is faulty: how that ended, and what was written
+abbrev pub HasCame : (json renews : Bool) → (input old new : Option (List ℕ)) → End → Type 0
+HasCame json renews input old new done =
+    MatchResult done (λ status. WritesAs json (AppendsCame status input) old new)
+    (λ fault. AfterCame json renews fault input old new)
 
 -- the script was raced once, or as often as is asked
 abbrev pub HasRacedAll : (json renews : Bool) → (capacity : ℕ) → (runs : Option ℕ) → (input old new : Option (List ℕ))
     → End → Type 0
 HasRacedAll json renews capacity None input old new done = HasRaced json renews capacity input old new done
-HasRacedAll json renews capacity (Some runs) input old new done = HasCame json renews runs input old new done
+HasRacedAll json renews capacity (Some runs) input old new done = HasCame json renews input old new done
 
 -- the job `judge` on one record: how it ended, and what it wrote
 abbrev pub HasJudged : State → List Allowance → Asked → (input old new : Option (List ℕ)) → End → Type 0

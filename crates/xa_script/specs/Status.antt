@@ -89,11 +89,11 @@ abbrev pub AppendsRaceBy : Bool → (capacity : ℕ) → List ℕ → Option (Li
 AppendsRaceBy true capacity script old new = AppendsRace None script old new
 AppendsRaceBy false capacity script old new = AppendsRace (Some capacity) script old new
 
--- racing the script `runs` times ended in some way: the writer got what is written then, if the script is known, which
--- outcomes came or the faulty lines, and the status is the one for that end
-abbrev pub AppendsCame : (runs status : ℕ) → Option (List ℕ) → Option (List ℕ) → Option (List ℕ) → Type 0
-AppendsCame runs status input old new =
-    (ended : Ended) × (status ≡ status_of_end ended) × IfSome input (λ script. AppendsRuns runs ended script old new)
+-- racing the script several times ended in some way: the writer got what is written then, if the script is known, and
+-- the status is the one for that end
+abbrev pub AppendsCame : (status : ℕ) → Option (List ℕ) → Option (List ℕ) → Option (List ℕ) → Type 0
+AppendsCame status input old new =
+    (ended : Ended) × (status ≡ status_of_end ended) × IfSome input (λ script. AppendsRuns ended script old new)
 
 -- 0 where all stops were listed, 6 where faulty lines were (own rule)
 abbrev pub status_of_stops : StopsEnded → ℕ

@@ -152,9 +152,8 @@ pub fn races<I: Read, W: Write + Drop, R: Alloc<A = Global> + Threads + Wait + S
     runs: u64,
     json: bool,
 ) -> Result<u8, ScriptFault>
-    requires capacity { IsCapacity capacity }
-    requires runs { IsLimit runs }
-    ensures { IsFlushed W.contents (HasCame json renews runs (I.remaining input.old)
+    requires { IsCapacity capacity }
+    ensures { IsFlushed W.contents (HasCame json renews (I.remaining input.old)
         (writer_contents W.contents output.old)) output.new result }
 {
     let done = run_as(rt, input, output, capacity, schedule, renews, runs, json);

@@ -2,7 +2,7 @@
 ghost use Rattle.std.specs.Prelude.{ℕ, IfOk, IfErr};
 ghost use Rattle.decision_log.specs.Opens.{IsCapacity};
 ghost use Rattle.xa_races.specs.Came.{AfterRunsFault};
-ghost use Rattle.xa_script.specs.{CommandLine.IsLimit, Status.AppendsCame, Jobs.HasCame};
+ghost use Rattle.xa_script.specs.{Status.AppendsCame, Jobs.HasCame};
 ghost use Rattle.xa_lines.specs.Writing.{AppendsObjects, AfterObjects};
 
 use crate::Schedule;
@@ -26,11 +26,10 @@ fn run_behind<I: Read, O: Write, G: Gate + Sync, R: Alloc<A = Global> + Threads 
     renews: bool,
     runs: u64,
 ) -> Result<u8, ScriptFault>
-    requires capacity { IsCapacity capacity }
-    requires runs { IsLimit runs }
-    ensures came { IfOk result (λ status. AppendsCame runs status (I.remaining input.old) (O.contents output.old)
+    requires { IsCapacity capacity }
+    ensures came { IfOk result (λ status. AppendsCame status (I.remaining input.old) (O.contents output.old)
         (O.contents output.new)) }
-    ensures fault { IfErr result (λ fault. AfterRunsFault renews runs fault (I.remaining input.old)
+    ensures fault { IfErr result (λ fault. AfterRunsFault renews fault (I.remaining input.old)
         (O.contents output.old) (O.contents output.new)) }
 {
     let ended = runs_script(rt, rt.alloc(), input, output, capacity, renews, runs, gate)?;
@@ -54,12 +53,11 @@ pub fn run_by<I: Read, O: Write, R: Alloc<A = Global> + Threads + Wait + Sync>(
     renews: bool,
     runs: u64,
 ) -> Result<u8, ScriptFault>
-    requires capacity { IsCapacity capacity }
-    requires runs { IsLimit runs }
+    requires { IsCapacity capacity }
     // Proved (scripts, status-of-an-end)
-    ensures came { IfOk result (λ status. AppendsCame runs status (I.remaining input.old) (O.contents output.old)
+    ensures came { IfOk result (λ status. AppendsCame status (I.remaining input.old) (O.contents output.old)
         (O.contents output.new)) }
-    ensures fault { IfErr result (λ fault. AfterRunsFault renews runs fault (I.remaining input.old)
+    ensures fault { IfErr result (λ fault. AfterRunsFault renews fault (I.remaining input.old)
         (O.contents output.old) (O.contents output.new)) }
 {
     match schedule {
@@ -91,15 +89,14 @@ pub fn run_objects<I: Read, O: Write, R: Alloc<A = Global> + Threads + Wait + Sy
     renews: bool,
     runs: u64,
 ) -> Result<u8, ScriptFault>
-    requires capacity { IsCapacity capacity }
-    requires runs { IsLimit runs }
+    requires { IsCapacity capacity }
     // Proved (scripts, output-as-json)
     ensures came { IfOk result
-        (λ status. AppendsObjects (AppendsCame runs status (I.remaining input.old)) (O.contents output.old)
+        (λ status. AppendsObjects (AppendsCame status (I.remaining input.old)) (O.contents output.old)
         (O.contents output.new)) }
     // Proved (scripts, output-as-json)
     ensures fault { IfErr result (λ fault.
-        AfterObjects (λ before after. (status : ℕ) × AppendsCame runs status (I.remaining input.old) before after) fault
+        AfterObjects (λ before after. (status : ℕ) × AppendsCame status (I.remaining input.old) before after) fault
         (O.contents output.old) (O.contents output.new)) }
 {
     // All lines are made in memory first, so nothing is written if that fails.
@@ -124,9 +121,8 @@ pub fn run_as<I: Read, O: Write, R: Alloc<A = Global> + Threads + Wait + Sync>(
     runs: u64,
     json: bool,
 ) -> Result<u8, ScriptFault>
-    requires capacity { IsCapacity capacity }
-    requires runs { IsLimit runs }
-    ensures { HasCame json renews runs (I.remaining input.old) (O.contents output.old) (O.contents output.new) result }
+    requires { IsCapacity capacity }
+    ensures { HasCame json renews (I.remaining input.old) (O.contents output.old) (O.contents output.new) result }
 {
     if json {
         run_objects(rt, input, output, capacity, schedule, renews, runs)

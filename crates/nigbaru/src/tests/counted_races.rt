@@ -3,7 +3,6 @@
 //! If all races come to the same outcome, the counts don't show whether each race was counted for its own. So a gate
 //! here has the races come to two outcomes in turn.
 ghost use Rattle.decision_log.specs.Opens.{IsCapacity};
-ghost use Rattle.xa_races.specs.Came.{IsRunCount};
 
 use std::alloc::{Alloc, Global};
 use std::process::Abort;
@@ -76,8 +75,7 @@ fn raced<G: Gate + Sync, R: Threads + Wait + Sync + Alloc<A = Global>>(
     runs: u64,
     gate: &G,
 ) -> (Option<ScriptFault>, Vec<u8>)
-    requires capacity { IsCapacity capacity }
-    requires runs { IsRunCount runs }
+    requires { IsCapacity capacity }
 {
     let mut input = script;
     let mut output = Vec::new(rt.alloc());

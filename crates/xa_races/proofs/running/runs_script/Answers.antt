@@ -1,34 +1,32 @@
 use Rattle.std.proofs.{Common.{List, ℕ, subst, rules}, lemmas.Result.err_from_is_err_and}
 use Rattle.xa_lines.proofs.Calls.{completed, stopped_writing, stopped_reading, stopped_making}
 use Rattle.xa_lines.specs.Limits.{script_bytes, script_reads}
-use Rattle.xa_races.specs.{Came.{IsRunsText, IsSomeRunsText, IsOfRuns, IsWellRead}, Course.held_in}
-use Rattle.xa_races.{specs.HeldRuns.{AreHeld, IsSeenOf}, proofs.HeldRuns.{held_written, ends_read}}
+use Rattle.xa_races.specs.Came.{IsRunsText, IsSomeRunsText, IsOfRuns}
 use Rattle.xa_races.proofs.Written.{runs_written, runs_cut, runs_failed}
-use Rattle.xa_orders.specs.Scripts.{script_read, parts_of}
 use Rattle.xa_races.proofs.running.runs_script.Goals as goal
 
 pub returns-clause-written : goal.returns-clause-written
 returns-clause-written g c =
     let came = c.in_ok-came.came in
-    let right = subst (λ (t : List ℕ). IsRunsText c.args.runs t came.ended came.text.items) c.as_slice.ensures.value
-    c.in_ok-came.ensures.come in
-    runs_written c.args.runs c.write_came.result came.ended came.text.items c.in_ok-script.script.items _ _ _ _
+    let right = subst (λ (t : List ℕ). IsRunsText t came.ended came.text.items) c.as_slice.ensures.value
+    c.in_ok-came.ensures.told in
+    runs_written c.write_came.result came.ended came.text.items c.in_ok-script.script.items _ _ _ _
     c.in_ok-script.ensures.all
     c.in_ok-script.ensures.end right c.write_came.ensures.ended c.write_came.ensures.all
 
 pub returns-clause-fault : goal.returns-clause-fault
 returns-clause-fault g c =
     let came = c.in_ok-came.came in
-    let right = subst (λ (t : List ℕ). IsRunsText c.args.runs t came.ended came.text.items) c.as_slice.ensures.value
-    c.in_ok-came.ensures.come in
-    runs_cut c.args.renews c.args.runs c.write_came.result came.ended came.text.items c.in_ok-script.script.items _ _ _
+    let right = subst (λ (t : List ℕ). IsRunsText t came.ended came.text.items) c.as_slice.ensures.value
+    c.in_ok-came.ensures.told in
+    runs_cut c.args.renews c.write_came.result came.ended came.text.items c.in_ok-script.script.items _ _ _
     _ c.in_ok-script.ensures.all
     c.in_ok-script.ensures.end right c.write_came.ensures.fault c.write_came.ensures.prefix
 
 pub returns-in_err-came-clause-fault : goal.returns-in_err-came-clause-fault
 returns-in_err-came-clause-fault g c =
     let p = err_from_is_err_and c.from_residual-in_err-came.result c.from_residual-in_err-came.ensures.1 in
-    runs_failed c.args.renews c.args.runs c.from_residual-in_err-came.result p.0 _ c.in_ok-script.script.items _ _ _ p.1
+    runs_failed c.args.renews c.from_residual-in_err-came.result p.0 _ c.in_ok-script.script.items _ _ _ p.1
     p.2 c.in_ok-script.ensures.all
     c.in_ok-script.ensures.end (search rules)
 
@@ -37,7 +35,7 @@ returns-in_err-script-clause-cause g c =
     let p = err_from_is_err_and c.from_residual.result c.from_residual.ensures.1 in
     stopped_reading g.O.PieceWriter.takes g.O.PieceWriter.refuses g.I.PieceReader.gives g.I.PieceReader.fails
     script_reads script_bytes
-    (IsSomeRunsText c.args.runs) (IsOfRuns c.args.renews)
+    IsSomeRunsText (IsOfRuns c.args.renews)
     c.from_residual.result p.0 _ c.args.reader.now c.read_all.new.reader c.args.writer.now p.1 p.2
     c.in_err-script.ensures.cause
 
@@ -46,7 +44,7 @@ returns-in_err-came-clause-cause g c =
     let p = err_from_is_err_and c.from_residual-in_err-came.result c.from_residual-in_err-came.ensures.1 in
     stopped_making g.O.PieceWriter.takes g.O.PieceWriter.refuses g.I.PieceReader.gives g.I.PieceReader.fails
     script_reads script_bytes
-    (IsSomeRunsText c.args.runs) (IsOfRuns c.args.renews)
+    IsSomeRunsText (IsOfRuns c.args.renews)
     c.from_residual-in_err-came.result p.0 _ c.in_ok-script.script.items c.args.reader.now c.read_all.new.reader
     c.args.writer.now p.1 p.2
     c.in_ok-script.ensures.calls (search rules)
@@ -54,11 +52,11 @@ returns-in_err-came-clause-cause g c =
 pub returns-clause-calls : goal.returns-clause-calls
 returns-clause-calls g c =
     let came = c.in_ok-came.came in
-    let right = subst (λ (t : List ℕ). IsRunsText c.args.runs t came.ended came.text.items) c.as_slice.ensures.value
-    c.in_ok-came.ensures.come in
+    let right = subst (λ (t : List ℕ). IsRunsText t came.ended came.text.items) c.as_slice.ensures.value
+    c.in_ok-came.ensures.told in
     completed g.O.PieceWriter.takes g.O.PieceWriter.refuses g.I.PieceReader.gives g.I.PieceReader.fails script_reads
     script_bytes
-    (IsSomeRunsText c.args.runs) (IsOfRuns c.args.renews)
+    IsSomeRunsText (IsOfRuns c.args.renews)
     c.write_came.result c.in_ok-script.script.items came.text.items c.args.reader.now c.read_all.new.reader
     c.args.writer.now c.write_came.new.writer
     c.in_ok-script.ensures.calls (came.ended, right) c.write_came.ensures.calls
@@ -66,30 +64,11 @@ returns-clause-calls g c =
 pub returns-clause-cause : goal.returns-clause-cause
 returns-clause-cause g c =
     let came = c.in_ok-came.came in
-    let right = subst (λ (t : List ℕ). IsRunsText c.args.runs t came.ended came.text.items) c.as_slice.ensures.value
-    c.in_ok-came.ensures.come in
+    let right = subst (λ (t : List ℕ). IsRunsText t came.ended came.text.items) c.as_slice.ensures.value
+    c.in_ok-came.ensures.told in
     stopped_writing g.O.PieceWriter.takes g.O.PieceWriter.refuses g.I.PieceReader.gives g.I.PieceReader.fails
     script_reads script_bytes
-    (IsSomeRunsText c.args.runs) (IsOfRuns c.args.renews)
+    IsSomeRunsText (IsOfRuns c.args.renews)
     c.write_came.result c.in_ok-script.script.items came.text.items c.args.reader.now c.read_all.new.reader
     c.args.writer.now c.write_came.new.writer
     c.in_ok-script.ensures.calls (came.ended, right) c.write_came.ensures.fault c.write_came.ensures.calls
-
-pub returns-clause-held : goal.returns-clause-held
-returns-clause-held g c =
-    let gate = g.G.Gate.may_answer c.args.gate.now in
-    let came = held_in c.runs_text.new.course in
-    let same = c.as_slice.ensures.value in
-    held_written gate c.args.capacity c.args.renews c.args.runs c.write_came.result came c.in_ok-came.came.text.items
-    c.in_ok-script.script.items _ _ _ _ c.in_ok-script.ensures.all c.in_ok-script.ensures.end
-    (subst (λ (t : List ℕ). IsWellRead t → AreHeld gate c.args.capacity c.args.renews c.args.runs
-    (parts_of (script_read t)) came) same c.in_ok-came.ensures.held)
-    (subst (λ (t : List ℕ). IsWellRead t → IsSeenOf came c.in_ok-came.came.text.items) same c.in_ok-came.ensures.seen)
-    c.write_came.ensures.all
-
-pub returns-in_err-came-clause-caused : goal.returns-in_err-came-clause-caused
-returns-in_err-came-clause-caused g c =
-    let p = err_from_is_err_and c.from_residual-in_err-came.result c.from_residual-in_err-came.ensures.1 in
-    ends_read (g.G.Gate.may_answer c.args.gate.now) c.args.capacity c.args.renews
-    c.from_residual-in_err-came.result p.0 _ _ _ _ c.in_ok-script.script.items p.1 p.2
-    c.in_ok-script.ensures.all c.in_ok-script.ensures.end c.as_slice.ensures.value c.in_err-came.ensures.cause
