@@ -8,25 +8,21 @@ use Rattle.xa_statement.specs.Reading.{read_of}
 use Rattle.xa_words.specs.Entry.{Entry}
 use Rattle.xa_server.specs.State.{State, no_state}
 use Rattle.decision_log.specs.Known.{newcomer}
-use Rattle.xa_session.{specs.{Replay.state_after, declared.answer.Answer.Answer}, proofs.Replaying.state_after-nil}
+use Rattle.xa_session.specs.{Replay.{state_at, state_after}, declared.answer.Answer.Answer}
+use Rattle.xa_session.proofs.Replaying.{state_after-nil, state_at-whole}
 use Rattle.xa_store.specs.Legal.{Answered, entered, next_place, IsLegal}
 use Rattle.xa_lines.specs.Transcript.{answer_to, state_then}
 use Rattle.xa_orders.specs.{declared.outcome.Outcome.Outcome, Orders.{Told, Parts, Config, opening, text_at}}
 use Rattle.xa_orders.specs.Orders.{carried_out, turn, IsSession, LeadsTo, Gives, AtMost, Any, IsExplored, told_text}
 use Rattle.xa_orders.specs.Orders.{told_state}
-use Rattle.xa_races.specs.CountedRaced.{statements_of, laid_texts, IsRaced, HasCome}
-use Rattle.xa_races.proofs.{Tests.{same_of_test, all_at}, Histories.{Remains, statements_in, answers_in}}
-use Rattle.xa_races.proofs.Turns.{Lines, Stands, Goes, said_of, opening_agrees, opening_left, all_empty}
-use Rattle.xa_races.proofs.CountedSchedules.{itself, counted_goes}
+use Rattle.xa_races.specs.CountedRaced.{statements_of, IsRaced, HasCome}
+use Rattle.xa_races.proofs.{Tests.{same_of_test, all_at}, Histories.{Said, Remains, statements_in, answers_in}}
+use Rattle.xa_races.proofs.{Schedules.goes, Turns.{Lines, Stands, Goes, emits, all_filled, owed_by, said_of}}
+use Rattle.xa_races.proofs.Turns.{opening_agrees, opening_left, all_empty}
 
--- from the state `base`, with no line carried out yet, as many turns as lines lead to these texts and the state `new`
-pub record Leads (base : State) (lines : List Told) (texts : List (List ℕ)) (new : State) : Type 0 where
-  pub order : List ℕ
-  pub config : Config
-  pub leads : LeadsTo lines (opening lines base) order config
-  pub answers : config.answers ≡ texts
-  pub state : config.state ≡ new
-  pub count : length order ≡ length lines
+-- what a line of a session says and is answered: the line itself, which is both
+abbrev itself : Said → Said
+itself said = said
 
 -- a session has as many answers as statements
 answered_long : (base : State) (history : List Entry) (session : ℕ) (statements : List Statement)
@@ -72,67 +68,63 @@ module _ (base : State) (lines : List Told) (texts : List (List ℕ)) (new : Sta
   -- each session's statements with their answers are what remains of it at the beginning of the race's history
   remain : (session : ℕ) → IsSession session → Remains itself base raced.history 0 session (all_said session)
   remain session is =
-      let legal : IsLegal base raced.history (newcomer session) (statements_of session lines) (raced.answers session) =
-      raced.legal session is in
+      let legal = raced.legal session is in
       let statements : statements_in itself (all_said session) ≡ statements_of session lines =
       said_statements (statements_of session lines) (raced.answers session) (long session is) in
       let answers : answers_in itself (all_said session) ≡ raced.answers session =
       said_answers (statements_of session lines) (raced.answers session) (long session is) in
-      record {
-        answered =
-            subst (λ (s : List Statement). Answered base raced.history session 0 s
-            (answers_in itself (all_said session)))
-            (sym statements)
-            (subst (λ (a : List Answer). Answered base raced.history session 0 (statements_of session lines) a)
-            (sym answers) legal.answered);
-        mine = legal.mine ∙ ap (λ (s : List Statement). entered base raced.history session s (raced.answers session))
-            (sym statements)
-            ∙ ap (λ (a : List Answer). entered base raced.history session
-            (statements_in itself (all_said session)) a)
-            (sym answers);
-      }
+      record { answered = rw (statements, answers) legal.answered; mine = rw (statements, answers) legal.mine }
 
   -- before any turn no line has an answer, and each session has its statements with their answers left to say
-  stands : Stands lines (laid_texts [] raced.answers lines) (state_after base raced.history) all_said
-      (opening lines base)
+  stands : Stands lines texts (state_after base raced.history) all_said (opening lines base)
   stands = record {
-    agrees = opening_agrees [] raced.answers lines;
-    left_is = λ session is. opening_left [] raced.answers lines session raced.read
-        (let same = long session is in omega (arith, same));
+    agrees = opening_agrees lines texts raced.long;
+    left_is = λ session is. opening_left session lines texts (raced.answers session) raced.read raced.long
+        (long session is) (raced.texts_are session is);
   }
 
-  -- turns of all lines lead to the texts and the state of the race
-  pub raced_leads : Leads base lines texts new
-  raced_leads =
-      let all : Goes lines (laid_texts [] raced.answers lines) (state_after base raced.history) (opening lines base) =
-      counted_goes lines (laid_texts [] raced.answers lines) raced.sessions base raced.history
-      (λ at entry found. all_at (λ (e : Entry). (1 ≤ e.session)
-      × (e.session ≤ 16)) raced.history at entry raced.own found) all_said (opening lines base) remain
-      (sym (state_after-nil base)) stands in
+  abbrev end : State
+  end = state_after base raced.history
+
+  -- at the end of the history, when no session has a line left, this is the end: no more turn is needed
+  done : (said : Lines) (config : Config) → Stands lines texts end said config
+      → config.state ≡ state_at base raced.history (length raced.history)
+      → ((session : ℕ) → IsSession session → said session ≡ []) → Goes lines texts end config
+  done said config how state none =
+      let filled = all_filled lines config.answers texts how.agrees raced.sessions
+      (λ session is. how.left_is session is ∙ ap (owed_by session) (none session is)) in
       record {
-        order = all.order;
-        config = all.new;
-        leads = all.leads;
-        answers = all.answers ∙ sym raced.texts_are;
-        state = all.state ∙ sym raced.new_is;
-        count = all.count ∙ all_empty lines;
+        order = [];
+        new = config;
+        leads = refl;
+        answers = filled.0;
+        state = state ∙ state_at-whole base raced.history;
+        count = sym filled.1;
       }
+
+  -- turns of all lines lead to the texts and the state of the race
+  pub raced_goes : Goes lines texts end (opening lines base)
+  raced_goes =
+      goes itself (λ (c : Config). c.state) (Stands lines texts end) (λ rest c. Goes lines texts end c) base
+      raced.history (emits lines texts end) done (length raced.history) 0 (omega arith)
+      (λ at entry found. all_at (λ (e : Entry). (1 ≤ e.session)
+      × (e.session ≤ 16)) raced.history at entry raced.own found) all_said (opening lines base)
+      (record { remain = remain; state = sym (state_after-nil base); stands = stands })
 
 -- a text that came is given by some order of the lines: the law that a race shows no other outcome
 pub came_given : (parts : Parts) (text : List ℕ) → HasCome parts text → (order : List ℕ) × Gives parts order text
 came_given parts text came =
-    let led : Leads (told_state no_state parts.before) parts.beside came.texts came.state =
-    raced_leads (told_state no_state parts.before) parts.beside came.texts came.state came.raced in (
-      led.order,
+    let all = raced_goes (told_state no_state parts.before) parts.beside came.texts came.state came.raced in (
+      all.order,
       record {
-        config = led.config;
-        whole = led.count;
-        leads = led.leads;
+        config = all.new;
+        whole = all.count ∙ all_empty parts.beside;
+        leads = all.leads;
         text_is = came.text_is
             ∙ ap (λ (l : List (List ℕ)). told_text no_state parts.before ++ concat l
-            ++ told_text came.state parts.later) (sym led.answers)
-            ∙ ap (λ (s : State). told_text no_state parts.before ++ concat led.config.answers
-            ++ told_text s parts.later) (sym led.state);
+            ++ told_text came.state parts.later) (sym all.answers)
+            ∙ ap (λ (s : State). told_text no_state parts.before ++ concat all.new.answers
+            ++ told_text s parts.later) (came.raced.new_is ∙ sym all.state);
       },
     )
 

@@ -11,6 +11,5 @@ pub mod Tests
 pub mod Histories
 pub mod Turns
 pub mod Schedules
-pub mod CountedSchedules
 pub mod Law
 pub mod Written

@@ -7,7 +7,6 @@
 --     Stands, Goes   how things stand;  turns lead from there to the end
 --     emits          a line of a session has its turn
 --     all_empty, opening_agrees, opening_left     no line was carried out yet
---     laid_one, laid_none     the answers laid out along lines, and along none
 use Rattle.std.proofs.Common.{◌≡◌, ◌≢◌, ◌⊎◌, ℕ, zero, suc, ◌+◌, ◌<◌, ◌≤◌, ◌==◌, ◌&&◌, Bool, true, false, cond, Option}
 use Rattle.std.proofs.Common.{Some, None, Result, Ok, List, [], ◌∷◌, ◌++◌, length, map, drop, replicate, decimal, refl}
 use Rattle.std.proofs.{Common.{ap, sym, ◌∙◌, subst, inl, inr, arith}, lemmas.List.Elements.{All-head, All-tail}}
@@ -20,8 +19,8 @@ use Rattle.xa_session.specs.declared.answer.Answer.{Answer}
 use Rattle.xa_lines.specs.{Script.is_empty_line, Printed.{reply_text, converts, answer_text}}
 use Rattle.xa_lines.specs.Transcript.{answer_to, state_then}
 use Rattle.xa_orders.specs.Orders.{Told, Config, is_left, text_at, carried_out, turn, IsSession, LeadsTo}
-use Rattle.xa_races.specs.CountedRaced.{IsReadLine, statement_in, statements_of, converts_in, line_text, rank_in}
-use Rattle.xa_races.{specs.{CountedRaced.laid_texts, LinesLeft.with_lines}, proofs.Tests.{same_number, same_test}}
+use Rattle.xa_races.specs.{CountedRaced.{IsReadLine, statement_in, statements_of, printed, texts_of}, LinesLeft.with_lines}
+use Rattle.xa_races.proofs.Tests.{same_number, same_test}
 use Rattle.xa_races.proofs.Tests.{apart_test, same_of_test, first_passes, first_fails, position_is, lines_own}
 use Rattle.xa_races.proofs.{Tests.lines_other, Histories.Said}
 
@@ -336,11 +335,12 @@ all_empty [] = refl
 all_empty (told ∷ lines) = ap suc (all_empty lines)
 
 -- lines without an answer yet agree with the answers that they are to get
-pub opening_agrees : (front : List Told) (answers : ℕ → List Answer) (lines : List Told)
-    → Agrees lines (replicate (length lines) []) (laid_texts front answers lines)
-unfolding laid_texts
-opening_agrees front answers [] = tt
-opening_agrees front answers (told ∷ lines) = (inl refl, opening_agrees (front ++ told ∷ []) answers lines)
+pub opening_agrees : (lines : List Told) (texts : List (List ℕ)) → length texts ≡ length lines
+    → Agrees lines (replicate (length lines) []) texts
+opening_agrees [] [] long = tt
+opening_agrees [] (text ∷ texts) long = absurd (omega (arith, long))
+opening_agrees (told ∷ lines) [] long = absurd (omega (arith, long))
+opening_agrees (told ∷ lines) (text ∷ texts) long = (inl refl, opening_agrees lines texts (omega (arith, long)))
 
 -- statements, each with its answer
 abbrev pub said_of : List Statement → List Answer → List Said
@@ -348,33 +348,6 @@ said_of [] answers = []
 said_of (statement ∷ statements) [] = []
 said_of (statement ∷ statements) (answer ∷ answers) =
     record { statement = statement; answer = answer } ∷ said_of statements answers
-
--- a line of the session raises the session's rank by one, so its next line gets its next answer
-rank_own : (front : List Told) (told : Told) (session : ℕ) → (told.session == session) ≡ true
-    → rank_in (front ++ told ∷ []) session ≡ rank_in front session + 1
-rank_own front told session its =
-    sum_by-append (λ one. cond (one.session == session) 1 0) front (told ∷ [])
-    ∙ ap (λ b. rank_in front session + sum_by (λ (n : ℕ). n) (cond b 1 0 ∷ [])) its
-
--- a line of another session doesn't change the session's rank, which counts its own lines
-rank_other : (front : List Told) (told : Told) (session : ℕ) → (told.session == session) ≡ false
-    → rank_in (front ++ told ∷ []) session ≡ rank_in front session
-rank_other front told session not_its' =
-    sum_by-append (λ one. cond (one.session == session) 1 0) front (told ∷ [])
-    ∙ ap (λ b. rank_in front session + sum_by (λ (n : ℕ). n) (cond b 1 0 ∷ [])) not_its' ∙ none (rank_in front session)
-  where
-    none : (n : ℕ) → n + 0 ≡ n
-    none n = omega arith
-
--- what is left of a list from a place on begins with the item there
-from_there : {A : Type 0} (xs : List A) (place : ℕ) → place < length xs
-    → (x : A) × (slice_get xs place ≡ Some x) × (drop place xs ≡ x ∷ drop (place + 1) xs)
-from_there [] place below = absurd (omega arith)
-from_there (x ∷ xs) zero below = (x, refl, refl)
-from_there (x ∷ xs) (suc place) below =
-    let rest = from_there xs place (omega (arith, below)) in
-    let next : suc place + 1 ≡ suc (place + 1) = omega arith in
-    (rest.0, rest.1, rest.2 ∙ ap (λ n. rest.0 ∷ drop n (x ∷ xs)) (sym next))
 
 -- a line of the session gives it its statement
 given_own : (session : ℕ) (told : Told) (lines : List Told) (statement : Statement) → (told.session == session) ≡ true
@@ -398,106 +371,82 @@ given_none : (session : ℕ) → statements_of session [] ≡ []
 unfolding statements_of
 given_none session = refl
 
--- the answers laid out along the lines: each line takes the next answer of its session
-pub laid_one : (front : List Told) (answers : ℕ → List Answer) (told : Told) (lines : List Told)
-    → laid_texts front answers (told ∷ lines)
-    ≡ line_text told (slice_get (answers told.session) (rank_in front told.session)) ∷ laid_texts
-    (front ++ told ∷ []) answers lines
-unfolding laid_texts
-laid_one front answers told lines = refl
-
--- what a session has left of a line and those behind it, before any of them has an answer
-abbrev left_with : ℕ → Told → List Told → List (List ℕ) → List Owed
-left_with session told lines texts = left session (told ∷ lines) (replicate (length (told ∷ lines)) []) texts
-
--- at the beginning a session has its own line left, with its answer, and then what it has left behind that line
+-- before any line is carried out, a session has its own line left, with its answer, and then those behind it
 left_own : (session : ℕ) (told : Told) (lines : List Told) (text : List ℕ) (texts : List (List ℕ))
     → (told.session == session) ≡ true
-    → left_with session told lines (text ∷ texts) ≡ (read_of told.text, text) ∷ left session lines
-    (replicate (length lines) []) texts
+    → left session (told ∷ lines) (replicate (length (told ∷ lines)) []) (text ∷ texts)
+    ≡ (read_of told.text, text) ∷ left session lines (replicate (length lines) []) texts
 left_own session told lines text texts its =
     ap (λ b. cond (b && true) ((read_of told.text, text) ∷ left session lines (replicate (length lines) []) texts)
     (left session lines (replicate (length lines) []) texts))
     its
 
--- at the beginning a session has nothing left of another session's line, only of those behind it
+-- before any line is carried out, a session has nothing left of another session's line, only of those behind it
 left_other : (session : ℕ) (told : Told) (lines : List Told) (text : List ℕ) (texts : List (List ℕ))
     → (told.session == session) ≡ false
-    → left_with session told lines (text ∷ texts) ≡ left session lines (replicate (length lines) []) texts
+    → left session (told ∷ lines) (replicate (length (told ∷ lines)) []) (text ∷ texts)
+    ≡ left session lines (replicate (length lines) []) texts
 left_other session told lines text texts other =
     ap (λ b. cond (b && true) ((read_of told.text, text) ∷ left session lines (replicate (length lines) []) texts)
     (left session lines (replicate (length lines) []) texts))
     other
 
--- the answer that is laid at a line is the printed answer of that statement
-line_said : (front : List Told) (answers : ℕ → List Answer) (told : Told) (session : ℕ) (statement : Statement)
-    (answer : Answer) → told.session ≡ session
-    → read_of told.text ≡ Ok statement
-    → slice_get (answers session) (rank_in front session) ≡ Some answer
-    → line_text told (slice_get (answers told.session) (rank_in front told.session))
-    ≡ said_text session (record { statement = statement; answer = answer })
-line_said front answers told session statement answer its read found =
-    ap (λ n. line_text told (slice_get (answers n) (rank_in front n))) its ∙ ap (line_text told) found
-    ∙ ap (λ (r : Result Statement ℕ). answer_text (decimal told.session) (reply_text (converts_in r) answer.reply)) read
-    ∙ ap (λ n. answer_text (decimal n) (reply_text (converts statement) answer.reply)) its
+-- before any of these lines is carried out, a session has all its statements of them left, each with its answer, if it
+-- has as many answers, and its lines have these as their texts
+abbrev OpensWith : ℕ → List Told → List (List ℕ) → List Answer → Type 0
+OpensWith session lines texts answers = length answers ≡ length (statements_of session lines)
+    → texts_of session lines texts ≡ printed session (statements_of session lines) answers
+    → left session lines (replicate (length lines) []) texts
+    ≡ owed_by session (said_of (statements_of session lines) answers)
 
--- before any of these lines is carried out, a session has all its statements of them left, each with its answer: the
--- first with the one that comes after the answers to its lines in front. There are answers enough, and each line is
--- read
-pub opening_left : (front : List Told) (answers : ℕ → List Answer) (lines : List Told) (session : ℕ)
-    → All IsReadLine lines
-    → length (statements_of session lines) + rank_in front session ≤ length (answers session)
-    → left session lines (replicate (length lines) []) (laid_texts front answers lines)
-    ≡ owed_by session (said_of (statements_of session lines) (drop (rank_in front session) (answers session)))
-opening_left front answers [] session read enough =
-    ap (λ l. owed_by session (said_of l (drop (rank_in front session) (answers session)))) (sym (given_none session))
-opening_left front answers (told ∷ lines) session read enough =
-    by (λ more. opening_left (front ++ told ∷ []) answers lines session (All-tail IsReadLine told lines read) more)
-    (told.session == session) refl
+-- so it is if each line is read and has a text
+pub opening_left : (session : ℕ) (lines : List Told) (texts : List (List ℕ)) (answers : List Answer)
+    → All IsReadLine lines → length texts ≡ length lines → length answers ≡ length (statements_of session lines)
+    → texts_of session lines texts ≡ printed session (statements_of session lines) answers
+    → left session lines (replicate (length lines) []) texts
+    ≡ owed_by session (said_of (statements_of session lines) answers)
+opening_left session [] texts answers read long enough is =
+    ap (λ l. owed_by session (said_of l answers)) (sym (given_none session))
+opening_left session (told ∷ lines) [] answers read long enough is = absurd (omega (arith, long))
+opening_left session (told ∷ lines) (text ∷ texts) answers read long enough is =
+    by (λ others equal texts_are. opening_left session lines texts others (All-tail IsReadLine told lines read)
+    (omega (arith, long)) equal texts_are) (told.session == session) refl
   where
     of : IsReadLine told
     of = All-head IsReadLine told lines read
 
-    by : (length (statements_of session lines) + rank_in (front ++ told ∷ []) session ≤ length (answers session)
-        → left session lines (replicate (length lines) []) (laid_texts (front ++ told ∷ []) answers lines)
-        ≡ owed_by session (said_of (statements_of session lines)
-        (drop (rank_in (front ++ told ∷ []) session) (answers session))))
-        → (b : Bool)
-        → (told.session == session) ≡ b
-        → left_with session told lines (laid_texts front answers (told ∷ lines))
-        ≡ owed_by session (said_of (statements_of session (told ∷ lines))
-        (drop (rank_in front session) (answers session)))
+    own : ((others : List Answer) → OpensWith session lines texts others)
+        → (given : List Answer) → length given ≡ suc (length (statements_of session lines))
+        → text ∷ texts_of session lines texts ≡ printed session (of.0 ∷ statements_of session lines) given
+        → (read_of told.text, text) ∷ left session lines (replicate (length lines) []) texts
+        ≡ owed_by session (said_of (of.0 ∷ statements_of session lines) given)
+    own rest [] equal same = absurd (omega (arith, equal))
+    own rest (answer ∷ others) equal same =
+        let text_is : text ≡ answer_text (decimal session) (reply_text (converts of.0) answer.reply) =
+        ap (λ (l : List (List ℕ)). head_or l text) same in
+        let texts_are : texts_of session lines texts ≡ printed session (statements_of session lines) others =
+        ap (λ (l : List (List ℕ)). tail_of l) same in
+        ap (λ r. (r, text) ∷ left session lines (replicate (length lines) []) texts) of.1
+        ∙ ap (λ t. (Ok of.0, t) ∷ left session lines (replicate (length lines) []) texts) text_is
+        ∙ ap (λ l. (Ok of.0, said_text session (record { statement = of.0; answer = answer })) ∷ l)
+        (rest others (omega (arith, equal)) texts_are)
+
+    by : ((others : List Answer) → OpensWith session lines texts others) → (b : Bool) → (told.session == session) ≡ b
+        → left session (told ∷ lines) (replicate (length (told ∷ lines)) []) (text ∷ texts)
+        ≡ owed_by session (said_of (statements_of session (told ∷ lines)) answers)
     by rest true its =
-        let is : told.session ≡ session = same_of_test told.session session its in
         let given : statements_of session (told ∷ lines) ≡ of.0 ∷ statements_of session lines =
         given_own session told lines of.0 its of.1 in
-        let below : rank_in front session < length (answers session) = omega (arith, ap length given, enough) in
-        let at : (x : Answer) × (slice_get (answers session) (rank_in front session) ≡ Some x)
-        × (drop (rank_in front session) (answers session) ≡ x ∷ drop (rank_in front session + 1) (answers session)) =
-        from_there (answers session) (rank_in front session) below in
-        let more : rank_in (front ++ told ∷ []) session ≡ rank_in front session + 1 = rank_own front told session its in
-        let later = rest (omega (arith, ap length given, enough, more)) in
-        ap (λ (l : List (List ℕ)). left_with session told lines l) (laid_one front answers told lines)
-        ∙ left_own session told lines (line_text told (slice_get (answers told.session) (rank_in front told.session)))
-        (laid_texts (front ++ told ∷ []) answers lines) its
-        ∙ ap (λ (r : Result Statement ℕ).
-        (r, line_text told (slice_get (answers told.session) (rank_in front told.session)))
-        ∷ left session lines (replicate (length lines) []) (laid_texts (front ++ told ∷ []) answers lines)) of.1
-        ∙ ap (λ (t : List ℕ). (Ok of.0, t) ∷ left session lines (replicate (length lines) [])
-        (laid_texts (front ++ told ∷ []) answers lines))
-        (line_said front answers told session of.0 at.0 is of.1 at.1)
-        ∙ ap (λ (l : List Owed). (Ok of.0, said_text session (record { statement = of.0; answer = at.0 })) ∷ l)
-        (later ∙ ap (λ n. owed_by session (said_of (statements_of session lines) (drop n (answers session)))) more)
-        ∙ ap (λ l. owed_by session (said_of (of.0 ∷ statements_of session lines) l)) (sym at.2)
-        ∙ ap (λ l. owed_by session (said_of l (drop (rank_in front session) (answers session)))) (sym given)
+        left_own session told lines text texts its
+        ∙ own rest answers (enough ∙ ap length given)
+        (sym (ap (λ b. cond b (text ∷ texts_of session lines texts) (texts_of session lines texts)) its) ∙ is
+        ∙ ap (λ l. printed session l answers) given)
+        ∙ ap (λ l. owed_by session (said_of l answers)) (sym given)
     by rest false other =
         let given : statements_of session (told ∷ lines) ≡ statements_of session lines =
         given_other session told lines other in
-        let same : rank_in (front ++ told ∷ []) session ≡ rank_in front session = rank_other front told session other in
-        let later = rest (omega (arith, ap length given, enough, same)) in
-        ap (λ (l : List (List ℕ)). left_with session told lines l) (laid_one front answers told lines)
-        ∙ left_other session told lines (line_text told (slice_get (answers told.session) (rank_in front told.session)))
-        (laid_texts (front ++ told ∷ []) answers lines) other
-        ∙ later
-        ∙ ap (λ n. owed_by session (said_of (statements_of session lines) (drop n (answers session)))) same
-        ∙ ap (λ l. owed_by session (said_of l (drop (rank_in front session) (answers session)))) (sym given)
+        left_other session told lines text texts other
+        ∙ rest answers (enough ∙ ap length given)
+        (sym (ap (λ b. cond b (text ∷ texts_of session lines texts) (texts_of session lines texts)) other) ∙ is
+        ∙ ap (λ l. printed session l answers) given)
+        ∙ ap (λ l. owed_by session (said_of l answers)) (sym given)

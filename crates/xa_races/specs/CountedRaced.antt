@@ -1,7 +1,7 @@
 -- Races of lines that several sessions give.
 -- Every rule here is the project's own: docs/COMMANDS.md#race-statistics.
-use Rattle.std.specs.Prelude.{◌≡◌, ℕ, Bool, false, cond, ◌==◌, count_by, Option, Some, None, Result, Ok, Err, List, []}
-use Rattle.std.specs.{Prelude.{◌∷◌, ◌++◌, slice_get, decimal}, List.{All, concat, filter_map}}
+use Rattle.std.specs.Prelude.{◌≡◌, ℕ, cond, ◌==◌, Option, Some, None, Result, Ok, Err, List, [], ◌∷◌, ◌++◌, length}
+use Rattle.std.specs.{Prelude.decimal, List.{All, concat, filter_map}}
 use Rattle.xa_xid.specs.declared.statement.Statement.{Statement}
 use Rattle.xa_statement.specs.Reading.{read_of}
 use Rattle.xa_words.specs.Entry.{Entry}
@@ -26,37 +26,25 @@ unfoldable pub statements_of : ℕ → List Told → List Statement
 -- the statements that a session gives
 statements_of session lines = filter_map (statement_by session) lines
 
--- whether the statement that was read asks for identifiers in hexadecimal; false if none was read
-abbrev pub converts_in : Result Statement ℕ → Bool
-converts_in (Ok statement) = converts statement
-converts_in (Err place) = false
+-- what is written for a session's statements, each with its answer, as a run of a script writes it
+abbrev pub printed : ℕ → List Statement → List Answer → List (List ℕ)
+printed session (statement ∷ statements) (answer ∷ answers) =
+    answer_text (decimal session) (reply_text (converts statement) answer.reply) ∷ printed session statements answers
+printed session statements answers = []
 
--- an answer to the line, as a run of a script writes it; nothing if there is no answer
-abbrev pub line_text : Told → Option Answer → List ℕ
-line_text told None = []
-line_text told (Some answer) =
-    answer_text (decimal told.session) (reply_text (converts_in (read_of told.text)) answer.reply)
-
--- the number of lines that the session gives
-abbrev pub rank_in : List Told → ℕ → ℕ
-rank_in lines session = count_by (λ told. told.session == session) lines
-
--- what is written for each of these lines, which come after those in front: its session's answer at the place that is
--- the number of that session's lines before it, or nothing if there is no such answer
-unfoldable pub laid_texts : List Told → (ℕ → List Answer) → List Told → List (List ℕ)
--- what is written for each line
-laid_texts front answers [] = []
-laid_texts front answers (told ∷ lines) =
-    line_text told (slice_get (answers told.session) (rank_in front told.session)) ∷ laid_texts
-    (front ++ told ∷ []) answers lines
+-- the texts of the session's lines, in order: each line has the text at its place
+abbrev pub texts_of : ℕ → List Told → List (List ℕ) → List (List ℕ)
+texts_of session (told ∷ lines) (text ∷ texts) =
+    cond (told.session == session) (text ∷ texts_of session lines texts) (texts_of session lines texts)
+texts_of session lines texts = []
 
 -- the statement of the line is read
 abbrev pub IsReadLine : Told → Type 0
 IsReadLine told = (statement : Statement) × (read_of told.text ≡ Ok statement)
 
--- lines of sessions 1 to 16, each of which can be read, raced, beginning in the state `base`; this was written for
--- each, and `new` is the state after them. One history, of these sessions alone, explains what each session was
--- answered to its statements, and leads to that state
+-- lines of sessions 1 to 16, each of which can be read, raced, beginning in the state `base`, and `new` is the state
+-- after them. One history, of these sessions alone, explains what each session was answered to its statements, and
+-- leads to that state. For each line one text was written, for those of a session its answers in order
 pub record IsRaced (base : State) (lines : List Told) (texts : List (List ℕ)) (new : State) : Type 0 where
   pub history : List Entry
   pub answers : ℕ → List Answer
@@ -65,7 +53,9 @@ pub record IsRaced (base : State) (lines : List Told) (texts : List (List ℕ)) 
   pub own : AllOf 16 history
   pub legal : (session : ℕ) → IsSession session → IsLegal base history (newcomer session) (statements_of session lines)
       (answers session)
-  pub texts_are : texts ≡ laid_texts [] answers lines
+  pub long : length texts ≡ length lines
+  pub texts_are : (session : ℕ) → IsSession session → texts_of session lines texts
+      ≡ printed session (statements_of session lines) (answers session)
   pub new_is : new ≡ state_after base history
 
 -- the parts were raced, and this is what all lines were answered: first those before, one after another, then
