@@ -12,4 +12,3 @@ pub mod Histories
 pub mod Turns
 pub mod Schedules
 pub mod Law
-pub mod Written
