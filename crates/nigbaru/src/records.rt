@@ -6,6 +6,5 @@ pub use xa_judge::{
 };
 pub use xa_record::{
     AllowFault, Allowance, Asked, Form, Judged, LineGap, LineWanted, Outcome, StateFault,
-    StatementKind, judge_record, judge_record_from, judge_text, judge_text_from, read_allowances,
-    read_state, row_wanted_in, wanted_in,
+    StatementKind, judge_record, judge_text, read_allowances, read_state, row_wanted_in, wanted_in,
 };

@@ -10,10 +10,10 @@ use Rattle.xa_lines.specs.Script.{is_no_blank, is_empty_line, line_given, sessio
 use Rattle.xa_record.specs.Lines.{ShowsOk, ShowsValue, Calls, Returns, ReturnsUnknown, Leaves, LineSaid, Nothing, Bad}
 use Rattle.xa_record.specs.Lines.{Says, Awaits, Closed, is_silent, trimmed, alone, value_said, rows_said, error_said}
 use Rattle.xa_record.specs.Lines.{return_said, loss_said, session_said, filled_said, reading_of_line}
-use Rattle.xa_record.specs.{Rows.leading_number, Reading.{NumberedEvent, notes_of}, Records.{Tells, no_line}}
+use Rattle.xa_record.specs.{Rows.leading_number, Reading.{NumberedEvent, notes_by}, Records.{Tells, no_line}}
 use Rattle.xa_record.specs.Records.{silent_line, call_line, return_line, rows_lines, unknown_line, lost_line, gone_line}
 use Rattle.xa_record.specs.{Records.on_next_line, Replaying.{HasNoFeed, IsBare, IsBareTold, AreBare}}
-use Rattle.xa_record.proofs.{Feeds.{both, both_first, both_second, feed-append}, TextsTold.text-tells}
+use Rattle.xa_record.proofs.{Feeds.{both, both_first, both_second, feed-append}, RecordLines.text-tells}
 
 -- the first byte of a text that has no line feed isn't one
 first_of : (byte : ℕ) (text : List ℕ) → HasNoFeed (byte ∷ text) → not (byte == 10) ≡ true
@@ -248,5 +248,7 @@ lines-feed (byte ∷ bytes) = by (byte == 10) refl (lines-feed bytes)
     by false is later = first-feed byte (lines_of bytes) is later
 
 -- if no line of a record is faulty, each text that its sessions call for is bare
-pub notes-bare : (text : List ℕ) → (notes_of text).faults ≡ [] → AreBare (notes_of text).told
-notes-bare text clean = tells-bare (lines_of text) (notes_of text).told (text-tells text clean) (lines-feed text)
+pub notes-bare : (strict : Bool) (text : List ℕ) → (notes_by strict text).faults ≡ []
+    → AreBare (notes_by strict text).told
+notes-bare strict text clean =
+    tells-bare (lines_of text) (notes_by strict text).told (text-tells strict text clean) (lines-feed text)

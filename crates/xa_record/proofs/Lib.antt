@@ -27,10 +27,5 @@ pub mod Reported
 pub mod JudgedTexts
 pub mod Presences
 pub mod SessionsWithin
-pub mod FirstFaults
-pub mod TextsTold
-pub mod FaultyTexts
-pub mod StrictNotes
-pub mod LinesReported
 pub mod Unexplained
 pub mod RowsLeft

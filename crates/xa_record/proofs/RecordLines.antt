@@ -1,57 +1,152 @@
--- What is read of a record is what its lines tell, or one of its lines is the first faulty one.
-use Rattle.std.proofs.Common.{◌≡◌, ◌⊎◌, inl, inr, ℕ, zero, suc, ◌+◌, ◌-◌, ◌==◌, ◌<◌, ◌≤◌, nat_le, Bool, true, false}
+-- What is read of a record without a faulty line is what its lines tell.
+use Rattle.std.proofs.Common.{◌≡◌, ◌≢◌, ◌⊎◌, inl, inr, ℕ, zero, suc, ◌+◌, ◌-◌, ◌==◌, ◌<◌, Bool, true, false}
 use Rattle.std.proofs.Common.{if◌then◌else◌, Option, Some, None, List, [], ◌∷◌, ◌++◌, length, take, drop, slice_get}
 use Rattle.std.proofs.Common.{refl, ap, sym, ◌∙◌, subst, arith, append_assoc, append-nil}
 use Rattle.std.proofs.lemmas.{Bool.Decides.nat_tests, Grind.common_steps, List.take-append-drop}
-use Rattle.std.specs.List.{AllByRecursion as All}
 use Rattle.xa_xid.specs.{Bytes.unblank, declared.xid.Xid.Xid}
+use Rattle.xa_lines.specs.Script.{lines_of}
 use Rattle.xa_record.specs.{declared.{line_fault.LineFault.LineFault, presence.Presence.Presence}, Lines.Shown}
 use Rattle.xa_record.specs.Lines.{ShowsRows, Told, Calls, Returns, ReturnsUnknown, Leaves, LineSaid, Nothing, Bad, Says}
 use Rattle.xa_record.specs.{Lines.{Awaits, Closed, is_silent, reading_of_line}, Rows.row_said, Reading.NumberedEvent}
-use Rattle.xa_record.specs.Reading.{Awaited, Notes, blamed_too, noted_if, closed_if, cause_of, session_of, up_to_return}
-use Rattle.xa_record.specs.Reading.{returned, with_row, noted_row, noted_said, noted_line, noted_lines, no_notes}
-use Rattle.xa_record.specs.{Reading.awaiting, Records.{RowsOf, no_row, silent_row, one_row, on_next_line, Fits}}
-use Rattle.xa_record.specs.Records.{cause_next, presence_in, filled, AreRows, Tells, no_line, silent_line, call_line}
-use Rattle.xa_record.specs.Records.{return_line, rows_lines, unknown_line, lost_line, gone_line, HasFault, bad_line}
-use Rattle.xa_record.specs.Records.{unfit_line, unfit_gone, rows_missing, unfit_rows, bad_row}
+use Rattle.xa_record.specs.Reading.{Awaited, Notes, fault_text, blamed, blamed_if, blamed_too, beyond, noted_if}
+use Rattle.xa_record.specs.Reading.{closed_if, cause_of, session_of, fault_called, up_to_return, returned, with_row}
+use Rattle.xa_record.specs.Reading.{noted_row, noted_said}
+use Rattle.xa_record.specs.Reading.{noted_line, noted_lines, no_notes, awaiting, note_of, note_closed, note_strictly}
+use Rattle.xa_record.specs.Reading.{ended_by, notes_by}
+use Rattle.xa_record.specs.Records.{RowsOf, no_row, silent_row, one_row, on_next_line, Fits}
+use Rattle.xa_record.specs.Records.{Tells, no_line, silent_line, call_line, return_line, rows_lines, unknown_line}
+use Rattle.xa_record.specs.Records.{lost_line, gone_line}
 use Rattle.xa_record.proofs.{LastReturns.{ends, ends-in}, SessionsWithin.{Within, line_within}}
 use Rattle.xa_record.proofs.Presences.{Placed, placed-none, fits-here, placed-next, placed-closed}
 
--- an empty list has no line that isn't silent
-filled-none : filled [] ≡ 0
-unfolding filled
-filled-none = refl
+-- if two texts together are empty, so is the first
+nothing-before : (xs ys : List ℕ) → xs ++ ys ≡ [] → xs ≡ []
+nothing-before [] ys none = refl
+nothing-before (x ∷ xs) ys none = absurd (cc)
 
--- the lines that aren't silent, of two lists, are counted list by list
-pub filled-append : (xs ys : List (List ℕ)) → filled (xs ++ ys) ≡ filled xs + filled ys
-unfolding filled
-filled-append [] ys = omega (arith, filled-none)
-filled-append (line ∷ xs) ys = by (is_silent line) (filled-append xs ys)
-  where
-    by : (b : Bool) → filled (xs ++ ys) ≡ filled xs + filled ys
-        → (if b then filled (xs ++ ys) else suc (filled (xs ++ ys)))
-        ≡ (if b then filled xs else suc (filled xs)) + filled ys
-    by true same = same
-    by false same = omega (arith, same)
+-- if two texts together are empty, so is the second
+nothing-behind : (xs ys : List ℕ) → xs ++ ys ≡ [] → ys ≡ []
+nothing-behind [] ys none = none
+nothing-behind (x ∷ xs) ys none = absurd (cc)
 
--- a silent line doesn't count
-pub filled-silent : (line : List ℕ) (more : List (List ℕ)) → is_silent line ≡ true → filled (line ∷ more) ≡ filled more
-unfolding filled
-filled-silent line more is = ap (λ (b : Bool). if b then filled more else suc (filled more)) is
+-- a text behind which a fault was written isn't empty
+blamed-some : (faults : List ℕ) (number : ℕ) (fault : LineFault) → faults ++ fault_text number fault ≢ []
+blamed-some faults number fault none = absurd (let text = nothing-behind faults (fault_text number fault) none in cc)
 
--- a line that isn't silent counts as one
-pub filled-one : (line : List ℕ) (more : List (List ℕ)) → is_silent line ≡ false
-    → filled (line ∷ more) ≡ suc (filled more)
-unfolding filled
-filled-one line more is = ap (λ (b : Bool). if b then filled more else suc (filled more)) is
+-- what is written for faulty lines among the rows of a return that are still to come
+abbrev held : Option Awaited → List ℕ
+held None = []
+held (Some a) = a.faults
 
--- what holds of each element of two lists holds of each of both together
-All-append : {A : Type 0} (P : A → Type 0) (xs ys : List A) → All P xs → All P ys → All P (xs ++ ys)
-All-append P [] ys first second = second
-All-append P (x ∷ xs) ys first second = (first.0, All-append P xs ys first.1 second)
+-- no faulty line was read
+record Clean (notes : Notes) : Type 0 where
+  noted : notes.faults ≡ []
+  none_held : held notes.awaited ≡ []
 
--- a return with rows is on `line`, behind `before`; `came` are the lines behind it that were read, each silent or a
--- row, and `a.missing` rows are still to come, whose lines (`extends`) complete the lines of all `count` rows
+-- if no fault is written after an event, none was before, and the event has none
+noted-clean : (o : Option LineFault) (notes : Notes) (number : ℕ) (told : Told)
+    → (noted_if o notes number told).faults ≡ [] → (notes.faults ≡ []) × (o ≡ None)
+unfolding noted_if blamed
+noted-clean None notes number told clean = (clean, refl)
+noted-clean (Some fault) notes number told clean = absurd (blamed-some notes.faults number fault clean)
+
+-- if no fault is written after a connection was found closed, none was before, and its line has none
+closed-clean : (o : Option LineFault) (notes : Notes) (number session : ℕ)
+    → (closed_if o notes number session).faults ≡ [] → (notes.faults ≡ []) × (o ≡ None)
+unfolding closed_if blamed
+closed-clean None notes number session clean = (clean, refl)
+closed-clean (Some fault) notes number session clean = absurd (blamed-some notes.faults number fault clean)
+
+-- if no fault is written after a line may have been blamed, it wasn't
+blamed-clean : (o : Option LineFault) (notes : Notes) (number : ℕ) → (blamed_if o notes number).faults ≡ []
+    → blamed_if o notes number ≡ notes
+unfolding blamed
+blamed-clean None notes number clean = refl
+blamed-clean (Some fault) notes number clean = absurd (blamed-some notes.faults number fault clean)
+
+-- if no fault is written after an event, it is noted alike whether the texts of calls are tested or not
+strictly-clean : (strict : Bool) (notes : Notes) (number : ℕ) (told : Told)
+    → (note_strictly strict notes number told).faults ≡ []
+    → note_strictly strict notes number told ≡ note_of notes number told
+strictly-clean false notes number told clean = refl
+strictly-clean true notes number told clean =
+    blamed-clean (beyond (cause_of (slice_get notes.presence (session_of told)) told) (fault_called told))
+    (note_of notes number told) number clean
+
+-- if there is no fault after a return whose rows have come (`b`), or are still to come, there was none before
+awaiting-clean : (b : Bool) (notes : Notes) (a : Awaited)
+    → Clean (if b then returned notes a else record notes { awaited = Some a })
+    → (notes.faults ≡ []) × (a.faults ≡ [])
+awaiting-clean true notes a clean =
+    let told = Returns a.session (ShowsRows a.rows) in
+    let before = nothing-before (note_of notes a.number told).faults a.faults clean.noted in (
+      (noted-clean (cause_of (slice_get notes.presence a.session) told) notes a.number told before).0,
+      nothing-behind (note_of notes a.number told).faults a.faults clean.noted,
+    )
+awaiting-clean false notes a clean = (clean.noted, clean.none_held)
+
+-- if there is no fault after a line that isn't in the place of a row, none was before
+said-clean : (strict : Bool) (said : LineSaid) (notes : Notes) (number : ℕ)
+    → Clean (noted_said strict notes number said) → notes.faults ≡ []
+unfolding noted_said blamed
+said-clean strict Nothing notes number clean = clean.noted
+said-clean strict Bad notes number clean = absurd (blamed-some notes.faults number LineFault.NotALine clean.noted)
+said-clean strict (Says told) notes number clean =
+    let same = strictly-clean strict notes number told clean.noted in
+    (noted-clean (cause_of (slice_get notes.presence (session_of told)) told) notes number told
+    (ap (λ (n : Notes). n.faults) (sym same) ∙ clean.noted)).0
+said-clean strict (Closed session) notes number clean =
+    (closed-clean (cause_of (slice_get notes.presence session) (Leaves session)) notes number session clean.noted).0
+said-clean strict (Awaits session count) notes number clean =
+    (awaiting-clean (count == 0) notes
+    (record { session = session; number = number; missing = count; rows = []; faults = [] }) clean).0
+
+-- if there is no fault after a line in the place of a row, it is one, and there was none before
+row-clean : (row : Option Xid) (notes : Notes) (a : Awaited) (number : ℕ) → Clean (with_row notes a number row)
+    → (notes.faults ≡ []) × (a.faults ≡ []) × (row ≢ None)
+unfolding with_row
+row-clean None notes a number clean =
+    let b : Awaited =
+    record a { missing = a.missing - 1; faults = a.faults ++ fault_text number LineFault.NotARow } in
+    absurd (blamed-some a.faults number LineFault.NotARow (awaiting-clean (b.missing == 0) notes b clean).1)
+row-clean (Some xid) notes a number clean =
+    let b : Awaited = record a { missing = a.missing - 1; rows = a.rows ++ xid ∷ [] } in
+    let before = awaiting-clean (b.missing == 0) notes b clean in (before.0, before.1, λ none. absurd (cc))
+
+-- if there is no fault after a line among rows, silent or not, none was before
+quiet-clean : (silent : Bool) (notes : Notes) (a : Awaited) (number : ℕ) (row : Option Xid)
+    → Clean (if silent then record notes { awaited = Some a } else with_row (record notes { awaited = None }) a number
+    row)
+    → Clean (record notes { awaited = Some a })
+quiet-clean true notes a number row clean = clean
+quiet-clean false notes a number row clean =
+    let before = row-clean row (record notes { awaited = None }) a number clean in
+    record { noted = before.0; none_held = before.1 }
+
+-- if there is no fault after a line, none was before; the notes are given by their four parts
+line-clean : (strict : Bool) (list : List NumberedEvent) (faults : List ℕ) (presence : List Presence)
+    (awaited : Option Awaited) (number : ℕ) (line : List ℕ)
+    → Clean (noted_line strict (record { told = list; faults = faults; presence = presence; awaited = awaited }) number
+    line)
+    → Clean (record { told = list; faults = faults; presence = presence; awaited = awaited })
+unfolding noted_line noted_row
+line-clean strict list faults presence None number line clean =
+    record { noted = said-clean strict (reading_of_line line) _ number clean; none_held = refl }
+line-clean strict list faults presence (Some a) number line clean =
+    quiet-clean (is_silent line) (record { told = list; faults = faults; presence = presence; awaited = Some a }) a
+    number (row_said (unblank line)) clean
+
+-- if there is no fault after lines, none was before
+lines-clean : (strict : Bool) (lines : List (List ℕ)) (notes : Notes) (number : ℕ)
+    → Clean (noted_lines strict notes number lines) → Clean notes
+unfolding noted_lines
+lines-clean strict [] notes number clean = clean
+lines-clean strict (line ∷ lines) notes number clean =
+    line-clean strict notes.told notes.faults notes.presence notes.awaited number line
+    (lines-clean strict lines (noted_line strict notes number line) (number + 1) clean)
+
+-- a return with rows is on `line`, behind `before`; `came` are the lines behind it that were read, and `a.missing` rows
+-- are still to come, whose lines (`extends`) complete the lines of all `count` rows
 record Part (done : List (List ℕ)) (a : Awaited) (list : List NumberedEvent) : Type 0 where
   before : List (List ℕ)
   line : List ℕ
@@ -63,9 +158,6 @@ record Part (done : List (List ℕ)) (a : Awaited) (list : List NumberedEvent) :
   number : a.number ≡ length before + 1
   extends : (lines : List (List ℕ)) (more : List Xid) → RowsOf a.missing lines more
       → RowsOf count (came ++ lines) (a.rows ++ more)
-  clean : a.faults ≡ []
-  rows : AreRows came
-  counted : filled came + a.missing ≡ count
 
 -- what was read of these lines: with no row to come they tell the events, else they tell those before the return's
 -- line
@@ -73,28 +165,14 @@ abbrev Stands : List (List ℕ) → Option Awaited → List NumberedEvent → Ty
 Stands done None list = Tells done list
 Stands done (Some a) list = Part done a list × ((a.missing == 0) ≡ false)
 
--- no line was found faulty: the notes have no fault, keep of sessions what their events say (`Placed`), and have the
--- events that the lines tell (`Stands`)
+-- the notes keep of sessions what their events say (`Placed`), and have the events that the lines tell (`Stands`)
 record Right (done : List (List ℕ)) (notes : Notes) : Type 0 where
-  clean : notes.faults ≡ []
   placed : Placed notes.presence notes.told
   stands : Stands done notes.awaited notes.told
 
--- one of the lines is the first faulty one
-abbrev pub Found : List (List ℕ) → Type 0
-Found lines = (number : ℕ) × (fault : LineFault) × HasFault lines number fault
-
--- equal lists of lines have the same first fault
-found-as : (one two : List (List ℕ)) → one ≡ two → Found one → Found two
-found-as one two same found = subst Found same found
-
--- what is to be shown for one line more: the notes are right, or the first faulty line was found
-abbrev Next : List (List ℕ) → List ℕ → List (List ℕ) → Notes → Type 0
-Next done line todo new = Right (done ++ line ∷ []) new ⊎ Found (done ++ line ∷ todo)
-
--- notes with these events and presences, without a fault, that await no row
-abbrev noted : List NumberedEvent → List Presence → Notes
-noted list presence = record { told = list; faults = []; presence = presence; awaited = None }
+-- notes with these events, faults and presences, that await no row
+abbrev made : List NumberedEvent → List ℕ → List Presence → Notes
+made list faults presence = record { told = list; faults = faults; presence = presence; awaited = None }
 
 -- a number that tests as 0 is 0
 pub is-zero : (n : ℕ) → (n == 0) ≡ true → n ≡ 0
@@ -136,60 +214,44 @@ part-whole done a list none part fits =
     (Returns a.session (ShowsRows a.rows)) part.number
     (rows_lines part.before part.line part.came list a.session part.count a.rows part.tells part.says all fits))
 
--- the lines before a return's line, that line, and those after it, read and unread, are all lines
-behind : (done more : List (List ℕ)) (a : Awaited) (list : List NumberedEvent) (part : Part done a list)
-    → part.before ++ part.line ∷ (part.came ++ more) ≡ done ++ more
-behind done more a list part =
-    sym (append_assoc part.before (part.line ∷ part.came) more) ∙ ap (λ (l : List (List ℕ)). l ++ more) (sym part.parts)
-
--- once the last row of a return has come, the notes with the return are right, or there is a first faulty line
-all-next : (list : List NumberedEvent) (presence : List Presence) (done more : List (List ℕ)) (a : Awaited)
-    → a.missing ≡ 0 → Part done a list
-    → Placed presence list → Right done (returned (noted list presence) a) ⊎ Found (done ++ more)
+-- once the last row of a return has come, the notes with the return are right, if they have no fault
+all-next : (list : List NumberedEvent) (faults : List ℕ) (presence : List Presence) (done : List (List ℕ)) (a : Awaited)
+    → a.missing ≡ 0 → Part done a list → Placed presence list → Clean (returned (made list faults presence) a)
+    → Right done (returned (made list faults presence) a)
 unfolding noted_if
-all-next list presence done more a none part placed = by (cause_of (slice_get presence a.session) told) refl
+all-next list faults presence done a none part placed clean =
+    by (cause_of (slice_get presence a.session) told) refl
+    (noted-clean (cause_of (slice_get presence a.session) told) (made list faults presence) a.number told
+    (nothing-before _ a.faults clean.noted)).1
   where
     told : Told
     told = Returns a.session (ShowsRows a.rows)
 
-    within : a.session < 17
-    within = part-within done a list part
-
-    enough : part.count ≤ filled (part.came ++ more)
-    enough = omega (arith, part.counted, none, filled-append part.came more)
-
-    by : (o : Option LineFault) → cause_of (slice_get presence a.session) told ≡ o
-        → Right done (blamed_too (noted_if o (noted list presence) a.number told) a.faults) ⊎ Found (done ++ more)
-    by None is =
+    by : (o : Option LineFault) → cause_of (slice_get presence a.session) told ≡ o → o ≡ None
+        → Right done (blamed_too (noted_if o (made list faults presence) a.number told) a.faults)
+    by (Some fault) is fits = absurd (cc)
+    by None is fits_now =
+        let within = part-within done a list part in
         let fits : Fits list told = sym (fits-here presence list told within placed) ∙ is in
-        inl (record {
-          clean = part.clean;
+        record {
           placed = placed-next presence list a.number told within placed fits;
           stands = part-whole done a list none part fits;
-        })
-    by (Some fault) is =
-        let cause : cause_next list (Returns a.session (ShowsRows [])) ≡ Some fault =
-        cause-shown (Some (presence_in a.session list)) a.session (ShowsRows []) (ShowsRows a.rows)
-        ∙ sym (fits-here presence list told within placed) ∙ is in
-        inr (found-as _ _ (behind done more a list part) (
-          length part.before + 1,
-          fault,
-          unfit_rows part.before part.line
-              (part.came ++ more) list a.session part.count fault part.tells part.says enough cause,
-        ))
+        }
 
 -- after the line of a return and some of its rows, the notes with the return, if all its rows have come, or else with
--- it held back, are right, or there is a first faulty line
-awaiting-next : (list : List NumberedEvent) (presence : List Presence) (done more : List (List ℕ)) (a : Awaited)
-    → Part done a list → Placed presence list
-    → Right done (awaiting (noted list presence) a) ⊎ Found (done ++ more)
-awaiting-next list presence done more a part placed = by (a.missing == 0) refl
+-- it held back, are right, if they have no fault
+awaiting-next : (list : List NumberedEvent) (faults : List ℕ) (presence : List Presence) (done : List (List ℕ))
+    (a : Awaited) → Part done a list → Placed presence list → Clean (awaiting (made list faults presence) a)
+    → Right done (awaiting (made list faults presence) a)
+awaiting-next list faults presence done a part placed = by (a.missing == 0) refl
   where
-    by : (b : Bool) → (a.missing == 0) ≡ b
-        → Right done (if b then returned (noted list presence) a else record
-        { told = list; faults = []; presence = presence; awaited = Some a }) ⊎ Found (done ++ more)
-    by true is = all-next list presence done more a (is-zero a.missing is) part placed
-    by false is = inl (record { clean = refl; placed = placed; stands = (part, is) })
+    one : Bool → Notes
+    one b = if b then returned (made list faults presence) a else record (made list faults presence)
+        { awaited = Some a }
+
+    by : (b : Bool) → (a.missing == 0) ≡ b → Clean (one b) → Right done (one b)
+    by true is clean = all-next list faults presence done a (is-zero a.missing is) part placed clean
+    by false is clean = record { placed = placed; stands = (part, is) }
 
 -- a line that says an event which can happen tells that event
 happens-tells : (told : Told) (done : List (List ℕ)) (list : List NumberedEvent) (line : List ℕ)
@@ -201,45 +263,39 @@ happens-tells (Returns session shown) done list line is fits tells =
 happens-tells (ReturnsUnknown session) done list line is fits tells = unknown_line done line list session tells is fits
 happens-tells (Leaves session) done list line is fits tells = lost_line done line list session tells is fits
 
--- after a line that says an event the notes are right, or there is a first faulty line
-happens-next : (told : Told) (list : List NumberedEvent) (presence : List Presence) (done : List (List ℕ)) (number : ℕ)
-    (line : List ℕ) (todo : List (List ℕ))
+-- after a line that says an event the notes are right, if they have no fault
+happens-next : (told : Told) (list : List NumberedEvent) (faults : List ℕ) (presence : List Presence)
+    (done : List (List ℕ)) (number : ℕ) (line : List ℕ)
     → reading_of_line line ≡ Says told → number ≡ length done + 1 → session_of told < 17 → Placed presence list
-    → Tells done list
-    → Next done line todo (noted_if (cause_of (slice_get presence (session_of told)) told)
-    (noted list presence) number told)
+    → Tells done list → (note_of (made list faults presence) number told).faults ≡ []
+    → Right (done ++ line ∷ []) (note_of (made list faults presence) number told)
 unfolding noted_if
-happens-next told list presence done number line todo is at within placed tells =
+happens-next told list faults presence done number line is at within placed tells clean =
     by (cause_of (slice_get presence (session_of told)) told) refl
+    (noted-clean (cause_of (slice_get presence (session_of told)) told) (made list faults presence) number told clean).1
   where
-    by : (o : Option LineFault) → cause_of (slice_get presence (session_of told)) told ≡ o
-        → Next done line todo (noted_if o (noted list presence) number told)
-    by None none =
+    by : (o : Option LineFault) → cause_of (slice_get presence (session_of told)) told ≡ o → o ≡ None
+        → Right (done ++ line ∷ []) (noted_if o (made list faults presence) number told)
+    by (Some fault) some fits = absurd (cc)
+    by None none fits_now =
         let fits : Fits list told = sym (fits-here presence list told within placed) ∙ none in
-        inl (record {
-          clean = refl;
+        record {
           placed = placed-next presence list number told within placed fits;
           stands = told-at done list (done ++ line ∷ []) number told at
               (happens-tells told done list line is fits tells);
-        })
-    by (Some fault) some =
-        inr (
-          length done + 1,
-          fault,
-          unfit_line done line todo list told fault tells is
-              (sym (fits-here presence list told within placed) ∙ some),
-        )
+        }
 
--- after a line that says that a connection was found closed the notes are right, or there is a first faulty line
-closed-next : (session : ℕ) (list : List NumberedEvent) (presence : List Presence) (done : List (List ℕ)) (number : ℕ)
-    (line : List ℕ) (todo : List (List ℕ))
+-- after a line that says that a connection was found closed the notes are right, if they have no fault
+closed-next : (session : ℕ) (list : List NumberedEvent) (faults : List ℕ) (presence : List Presence)
+    (done : List (List ℕ)) (number : ℕ) (line : List ℕ)
     → reading_of_line line ≡ Closed session → number ≡ length done + 1 → session < 17 → Placed presence list
-    → Tells done list
-    → Next done line todo (closed_if (cause_of (slice_get presence session) (Leaves session))
-    (noted list presence) number session)
+    → Tells done list → (note_closed (made list faults presence) number session).faults ≡ []
+    → Right (done ++ line ∷ []) (note_closed (made list faults presence) number session)
 unfolding closed_if
-closed-next session list presence done number line todo is at within placed tells =
+closed-next session list faults presence done number line is at within placed tells clean =
     by (cause_of (slice_get presence session) (Leaves session)) refl
+    (closed-clean (cause_of (slice_get presence session) (Leaves session)) (made list faults presence) number session
+    clean).1
   where
     one : ℕ → NumberedEvent
     one n = record { number = n; told = Leaves session }
@@ -250,59 +306,42 @@ closed-next session list presence done number line todo is at within placed tell
     whole : take place list ++ drop place list ≡ list
     whole = take-append-drop place list
 
-    by : (o : Option LineFault) → cause_of (slice_get presence session) (Leaves session) ≡ o
-        → Next done line todo (closed_if o (noted list presence) number session)
-    by None none =
+    by : (o : Option LineFault) → cause_of (slice_get presence session) (Leaves session) ≡ o → o ≡ None
+        → Right (done ++ line ∷ []) (closed_if o (made list faults presence) number session)
+    by (Some fault) some fits = absurd (cc)
+    by None none fits_now =
         let fits : Fits list (Leaves session) = sym (fits-here presence list (Leaves session) within placed) ∙ none in
         let parts = ends session list in
         let told : Tells (done ++ line ∷ []) (take place list ++ one (length done + 1) ∷ drop place list) =
         gone_line done line (take place list) (drop place list) session (subst (Tells done) (sym whole) tells) is
         (ends-in session place list parts) parts.1
         (subst (λ (l : List NumberedEvent). Fits l (Leaves session)) (sym whole) fits) in
-        inl (record {
-          clean = refl;
+        record {
           placed = placed-closed presence (take place list) (drop place list) number session within
               (subst (Placed presence) (sym whole) placed);
           stands = subst (λ (n : ℕ). Tells (done ++ line ∷ []) (take place list ++ one n ∷ drop place list))
               (sym at) told;
-        })
-    by (Some fault) some =
-        inr (
-          length done + 1,
-          fault,
-          unfit_gone done line todo list session fault tells is
-              (sym (fits-here presence list (Leaves session) within placed) ∙ some),
-        )
+        }
 
--- the lines are the same whether the next one is counted at the end of those done or at the front of those to do
-line-end : (done : List (List ℕ)) (line : List ℕ) (todo : List (List ℕ))
-    → (done ++ line ∷ []) ++ todo ≡ done ++ line ∷ todo
-line-end done line todo = append_assoc done (line ∷ []) todo
-
--- if the notes are right for the lines done with this one, or all lines have a first faulty one, one step of reading
--- is right (`Next`)
-next-as : (done : List (List ℕ)) (line : List ℕ) (todo : List (List ℕ)) (new : Notes)
-    → Right (done ++ line ∷ []) new ⊎ Found ((done ++ line ∷ []) ++ todo)
-    → Next done line todo new
-next-as done line todo new (inl right) = inl right
-next-as done line todo new (inr found) = inr (found-as _ _ (line-end done line todo) found)
-
--- after a line that isn't in the place of a row, whatever it says, the notes are right, or there is a first faulty
--- line
-said-next : (said : LineSaid) (list : List NumberedEvent) (presence : List Presence) (done : List (List ℕ)) (number : ℕ)
-    (line : List ℕ) (todo : List (List ℕ))
+-- after a line that isn't in the place of a row, whatever it says, the notes are right, if they have no fault
+said-next : (strict : Bool) (said : LineSaid) (list : List NumberedEvent) (faults : List ℕ) (presence : List Presence)
+    (done : List (List ℕ)) (number : ℕ) (line : List ℕ)
     → reading_of_line line ≡ said → number ≡ length done + 1 → Within said → Placed presence list → Tells done list
-    → Next done line todo (noted_said false (noted list presence) number said)
-unfolding noted_said
-said-next Nothing list presence done number line todo is at within placed tells =
-    inl (record { clean = refl; placed = placed; stands = silent_line done line list tells is })
-said-next Bad list presence done number line todo is at within placed tells =
-    inr (length done + 1, LineFault.NotALine, bad_line done line todo list tells is)
-said-next (Says told) list presence done number line todo is at within placed tells =
-    happens-next told list presence done number line todo is at within placed tells
-said-next (Closed session) list presence done number line todo is at within placed tells =
-    closed-next session list presence done number line todo is at within placed tells
-said-next (Awaits session count) list presence done number line todo is at within placed tells =
+    → Clean (noted_said strict (made list faults presence) number said)
+    → Right (done ++ line ∷ []) (noted_said strict (made list faults presence) number said)
+unfolding noted_said blamed
+said-next strict Nothing list faults presence done number line is at within placed tells clean =
+    record { placed = placed; stands = silent_line done line list tells is }
+said-next strict Bad list faults presence done number line is at within placed tells clean =
+    absurd (blamed-some faults number LineFault.NotALine clean.noted)
+said-next strict (Says told) list faults presence done number line is at within placed tells clean =
+    let same = strictly-clean strict (made list faults presence) number told clean.noted in
+    subst (Right (done ++ line ∷ [])) (sym same)
+    (happens-next told list faults presence done number line is at within placed tells
+    (ap (λ (n : Notes). n.faults) (sym same) ∙ clean.noted))
+said-next strict (Closed session) list faults presence done number line is at within placed tells clean =
+    closed-next session list faults presence done number line is at within placed tells clean.noted
+said-next strict (Awaits session count) list faults presence done number line is at within placed tells clean =
     let a : Awaited = record { session = session; number = number; missing = count; rows = []; faults = [] } in
     let part : Part (done ++ line ∷ []) a list =
     record {
@@ -315,11 +354,8 @@ said-next (Awaits session count) list presence done number line todo is at withi
       says = is;
       number = at;
       extends = λ lines more came. came;
-      clean = refl;
-      rows = tt;
-      counted = omega (arith, filled-none);
     } in
-    next-as done line todo _ (awaiting-next list presence (done ++ line ∷ []) todo a part placed)
+    awaiting-next list faults presence (done ++ line ∷ []) a part placed clean
 
 -- with a silent line in front, the lines of the missing rows, at least one, are still lines of these rows
 silent-more : (line : List ℕ) (missing : ℕ) (lines : List (List ℕ)) (more : List Xid) → (missing == 0) ≡ false
@@ -343,10 +379,6 @@ longer : (done : List (List ℕ)) (line : List ℕ) (a : Awaited) (list : List N
 longer done line a list part = ap (λ (l : List (List ℕ)). l ++ line ∷ []) part.parts
     ∙ append_assoc part.before (part.line ∷ part.came) (line ∷ [])
 
--- a number that doesn't test as 0 is above 0
-some-missing : (missing : ℕ) → (missing == 0) ≡ false → 0 < missing
-some-missing missing is = grind (arith, nat_tests)
-
 -- after a silent line the same rows are to come
 part-silent : (done : List (List ℕ)) (line : List ℕ) (a : Awaited) (list : List NumberedEvent)
     → (a.missing == 0) ≡ false → is_silent line ≡ true → Part done a list
@@ -364,9 +396,6 @@ part-silent done line a list is silent part = record {
       subst (λ (l : List (List ℕ)). RowsOf part.count l (a.rows ++ more))
       (sym (append_assoc part.came (line ∷ []) lines))
       (part.extends (line ∷ lines) more (silent-more line a.missing lines more is silent came));
-  clean = part.clean;
-  rows = All-append _ part.came (line ∷ []) part.rows (inl silent, tt);
-  counted = omega (arith, filled-append part.came (line ∷ []), filled-silent line [] silent, filled-none, part.counted);
 }
 
 -- after a row's line one row less is to come
@@ -389,159 +418,97 @@ part-row done line a list xid is full said part = record {
       (subst (λ (l : List Xid). RowsOf part.count (part.came ++ line ∷ lines) l)
       (sym (append_assoc a.rows (xid ∷ []) more))
       (part.extends (line ∷ lines) (xid ∷ more) (one-more line a.missing xid lines more is full said came)));
-  clean = part.clean;
-  rows = All-append _ part.came (line ∷ []) part.rows (inr (xid, said), tt);
-  counted = omega (
-    arith,
-    filled-append part.came (line ∷ []),
-    filled-one line [] full,
-    filled-none,
-    part.counted,
-    some-missing
-        a.missing is,
-  );
 }
 
--- if a line in the place of a row is no row, there is a first faulty line
-bad-found : (list : List NumberedEvent) (done : List (List ℕ)) (line : List ℕ) (todo : List (List ℕ)) (a : Awaited)
-    → (a.missing == 0) ≡ false
-    → is_silent line ≡ false → row_said (unblank line) ≡ None → Part done a list → Found (done ++ line ∷ todo)
-bad-found list done line todo a is full said part = found-as _ _ (behind done (line ∷ todo) a list part)
-    (by (nat_le part.count (filled (part.came ++ line ∷ todo))) refl)
-  where
-    lines : List (List ℕ)
-    lines = part.before ++ part.line ∷ (part.came ++ line ∷ todo)
-
-    fewer : filled part.came < part.count
-    fewer = omega (arith, part.counted, some-missing a.missing is)
-
-    cause : (o : Option LineFault) → cause_next list (Returns a.session (ShowsRows [])) ≡ o
-        → part.count ≤ filled (part.came ++ line ∷ todo) → Found lines
-    cause None fits enough = (
-      length part.before + 1 + (length part.came + 1),
-      LineFault.NotARow,
-      bad_row part.before part.line part.came line todo list a.session part.count part.tells part.says fits part.rows
-          fewer full said enough,
-    )
-    cause (Some fault) some enough = (
-      length part.before + 1,
-      fault,
-      unfit_rows part.before part.line
-          (part.came ++ line ∷ todo) list a.session part.count fault part.tells part.says enough some,
-    )
-
-    by : (b : Bool) → nat_le part.count (filled (part.came ++ line ∷ todo)) ≡ b → Found lines
-    by true enough = cause (cause_next list (Returns a.session (ShowsRows []))) refl (grind (arith, nat_tests))
-    by false short = (
-      length part.before + 1,
-      LineFault.RowsMissing,
-      rows_missing part.before part.line (part.came ++ line ∷ todo) list a.session part.count part.tells part.says
-          (grind (arith, nat_tests)),
-    )
-
--- after a line in the place of a row that isn't silent, row or not, the notes are right, or the first faulty line was
--- found
-row-next : (row : Option Xid) (list : List NumberedEvent) (presence : List Presence) (done : List (List ℕ))
-    (a : Awaited) (number : ℕ) (line : List ℕ) (todo : List (List ℕ))
+-- after a line in the place of a row that isn't silent the notes are right, if they have no fault
+row-next : (row : Option Xid) (list : List NumberedEvent) (faults : List ℕ) (presence : List Presence)
+    (done : List (List ℕ)) (a : Awaited) (number : ℕ) (line : List ℕ)
     → row_said (unblank line) ≡ row → (a.missing == 0) ≡ false → is_silent line ≡ false → Part done a list
-    → Placed presence list
-    → Next done line todo (with_row (noted list presence) a number row)
+    → Placed presence list → Clean (with_row (made list faults presence) a number row)
+    → Right (done ++ line ∷ []) (with_row (made list faults presence) a number row)
 unfolding with_row
-row-next None list presence done a number line todo said is full part placed =
-    inr (bad-found list done line todo a is full said part)
-row-next (Some xid) list presence done a number line todo said is full part placed =
-    let b : Awaited = record a { missing = a.missing - 1; rows = a.rows ++ xid ∷ [] } in
-    next-as done line todo _ (awaiting-next list presence (done ++ line ∷ []) todo b
-    (part-row done line a list xid is full said part) placed)
+row-next None list faults presence done a number line said is full part placed clean =
+    absurd ((row-clean None (made list faults presence) a number clean).2 refl)
+row-next (Some xid) list faults presence done a number line said is full part placed clean =
+    awaiting-next list faults presence (done ++ line ∷ [])
+    (record a { missing = a.missing - 1; rows = a.rows ++ xid ∷ [] })
+    (part-row done line a list xid is full said part) placed clean
 
--- after a line in the place of a row, silent or not, the notes are right, or the first faulty line was found
-quiet-next : (silent : Bool) (list : List NumberedEvent) (presence : List Presence) (done : List (List ℕ)) (a : Awaited)
-    (number : ℕ) (line : List ℕ) (todo : List (List ℕ))
+-- after a line in the place of a row, silent or not, the notes are right, if they have no fault
+quiet-next : (silent : Bool) (list : List NumberedEvent) (faults : List ℕ) (presence : List Presence)
+    (done : List (List ℕ)) (a : Awaited) (number : ℕ) (line : List ℕ)
     → is_silent line ≡ silent → (a.missing == 0) ≡ false → Part done a list → Placed presence list
-    → Next done line todo
-    (if silent then record { told = list; faults = []; presence = presence; awaited = Some a } else
-    with_row (noted list presence) a number (row_said (unblank line)))
-quiet-next true list presence done a number line todo silent is part placed =
-    inl (record { clean = refl; placed = placed; stands = (part-silent done line a list is silent part, is) })
-quiet-next false list presence done a number line todo full is part placed =
-    row-next (row_said (unblank line)) list presence done a number line todo refl is full part placed
+    → Clean (if silent then record (made list faults presence) { awaited = Some a } else
+    with_row (made list faults presence) a number (row_said (unblank line)))
+    → Right (done ++ line ∷ []) (if silent then record (made list faults presence) { awaited = Some a } else
+    with_row (made list faults presence) a number (row_said (unblank line)))
+quiet-next true list faults presence done a number line silent is part placed clean =
+    record { placed = placed; stands = (part-silent done line a list is silent part, is) }
+quiet-next false list faults presence done a number line full is part placed clean =
+    row-next (row_said (unblank line)) list faults presence done a number line refl is full part placed clean
 
--- after any line, whether rows are awaited or not, the notes are right, or the first faulty line was found
-line-next : (list : List NumberedEvent) (faults : List ℕ) (presence : List Presence) (awaited : Option Awaited)
-    (done : List (List ℕ)) (number : ℕ) (line : List ℕ)
-    (todo : List (List ℕ)) → number ≡ length done + 1 → faults ≡ [] → Placed presence list → Stands done awaited list
-    → Next done line todo
-    (noted_line false (record { told = list; faults = faults; presence = presence; awaited = awaited }) number line)
+-- after any line, whether rows are awaited or not, the notes are right, if they have no fault
+line-next : (strict : Bool) (list : List NumberedEvent) (faults : List ℕ) (presence : List Presence)
+    (awaited : Option Awaited) (done : List (List ℕ)) (number : ℕ) (line : List ℕ)
+    → number ≡ length done + 1 → Placed presence list → Stands done awaited list
+    → Clean (noted_line strict (record { told = list; faults = faults; presence = presence; awaited = awaited }) number
+    line)
+    → Right (done ++ line ∷ []) (noted_line strict
+    (record { told = list; faults = faults; presence = presence; awaited = awaited }) number line)
 unfolding noted_line noted_row
-line-next list faults presence None done number line todo at clean placed stands =
-    subst (λ (f : List ℕ). Next done line todo (noted_said false
-    (record { told = list; faults = f; presence = presence; awaited = None }) number (reading_of_line line)))
-    (sym clean) (said-next (reading_of_line line) list presence done number line todo refl at
-    (line_within line) placed stands)
-line-next list faults presence (Some a) done number line todo at clean placed stands =
-    subst (λ (f : List ℕ). Next done line todo (noted_row
-    (record { told = list; faults = f; presence = presence; awaited = Some a }) a number line)) (sym clean)
-    (quiet-next (is_silent line) list presence done a number line todo refl stands.1 stands.0 placed)
+line-next strict list faults presence None done number line at placed stands clean =
+    said-next strict (reading_of_line line) list faults presence done number line refl at (line_within line) placed
+    stands clean
+line-next strict list faults presence (Some a) done number line at placed stands clean =
+    quiet-next (is_silent line) list faults presence done a number line refl stands.1 stands.0 placed clean
 
 -- with one line more, the number of lines done is one more
 length-line : (done : List (List ℕ)) (line : List ℕ) → length (done ++ line ∷ []) ≡ length done + 1
 length-line done line = grind (arith, common_steps)
 
--- if the notes are right for the lines done, they are right after all lines to do, or the first faulty line was found
-lines-next : (todo done : List (List ℕ)) (notes : Notes) (number : ℕ) → number ≡ length done + 1 → Right done notes
-    → Right (done ++ todo) (noted_lines false notes number todo) ⊎ Found (done ++ todo)
+-- the lines are the same whether the next one is counted at the end of those done or at the front of those to do
+line-end : (done : List (List ℕ)) (line : List ℕ) (todo : List (List ℕ))
+    → (done ++ line ∷ []) ++ todo ≡ done ++ line ∷ todo
+line-end done line todo = append_assoc done (line ∷ []) todo
+
+-- if the notes are right for the lines done, they are right after all lines to do, if they have no fault then
+lines-next : (strict : Bool) (todo done : List (List ℕ)) (notes : Notes) (number : ℕ) → number ≡ length done + 1
+    → Right done notes → Clean (noted_lines strict notes number todo)
+    → Right (done ++ todo) (noted_lines strict notes number todo)
 unfolding noted_lines
-lines-next [] done notes number at right =
-    inl (subst (λ (l : List (List ℕ)). Right l notes) (sym (append-nil done)) right)
-lines-next (line ∷ todo) done notes number at right =
-    by (line-next notes.told notes.faults notes.presence notes.awaited done number line todo at right.clean right.placed
-    right.stands)
-    (λ here. lines-next todo (done ++ line ∷ []) (noted_line false notes number line) (number + 1)
-    (ap (λ (n : ℕ). n + 1) (at ∙ sym (length-line done line))) here)
-  where
-    new : Notes
-    new = noted_line false notes number line
+lines-next strict [] done notes number at right clean =
+    subst (λ (l : List (List ℕ)). Right l notes) (sym (append-nil done)) right
+lines-next strict (line ∷ todo) done notes number at right clean =
+    let new = noted_line strict notes number line in
+    let here : Right (done ++ line ∷ []) new =
+    line-next strict notes.told notes.faults notes.presence notes.awaited done number line at right.placed right.stands
+    (lines-clean strict todo new (number + 1) clean) in
+    subst (λ (l : List (List ℕ)). Right l (noted_lines strict new (number + 1) todo)) (line-end done line todo)
+    (lines-next strict todo (done ++ line ∷ []) new (number + 1)
+    (ap (λ (n : ℕ). n + 1) (at ∙ sym (length-line done line))) here clean)
 
-    by : Next done line todo new
-        → (Right (done ++ line ∷ []) new → Right ((done ++ line ∷ []) ++ todo) (noted_lines false new (number + 1) todo)
-        ⊎ Found ((done ++ line ∷ []) ++ todo))
-        → Right (done ++ line ∷ todo) (noted_lines false new (number + 1) todo) ⊎ Found (done ++ line ∷ todo)
-    by (inr found) again = inr found
-    by (inl here) again =
-        subst (λ (l : List (List ℕ)). Right l (noted_lines false new (number + 1) todo) ⊎ Found l)
-        (line-end done line todo)
-        (again here)
+-- if no fault is written once the record has ended, none was written before, and no row is to come
+ended-clean : (awaited : Option Awaited) (notes : Notes) → (ended_by awaited notes).faults ≡ []
+    → (notes.faults ≡ []) × (awaited ≡ None)
+unfolding blamed
+ended-clean None notes clean = (clean, refl)
+ended-clean (Some a) notes clean =
+    absurd (blamed-some notes.faults a.number LineFault.RowsMissing (nothing-before _ a.faults clean))
 
--- the notes have no fault, await no row, and have the events that the lines tell
-pub record AllTold (lines : List (List ℕ)) (notes : Notes) : Type 0 where
-  pub clean : notes.faults ≡ []
-  pub none : notes.awaited ≡ None
-  pub tells : Tells lines notes.told
+-- of right notes without a row to come the lines tell the events
+ended-tells : (lines : List (List ℕ)) (awaited : Option Awaited) (notes : Notes) → awaited ≡ None
+    → Stands lines awaited notes.told → Tells lines (ended_by awaited notes).told
+ended-tells lines None notes none tells = tells
+ended-tells lines (Some a) notes none stands = absurd (cc)
 
--- at the end of the record: what was read is what the lines tell, or the first faulty line was found
-ended-told : (lines : List (List ℕ)) (list : List NumberedEvent) (faults : List ℕ) (presence : List Presence)
-    (awaited : Option Awaited) → faults ≡ []
-    → Stands lines awaited list
-    → AllTold lines (record { told = list; faults = faults; presence = presence; awaited = awaited }) ⊎ Found lines
-ended-told lines list faults presence None clean tells = inl (record { clean = clean; none = refl; tells = tells })
-ended-told lines list faults presence (Some a) clean (part, is) =
-    let short : filled (part.came ++ []) < part.count =
-    omega (arith, part.counted, some-missing a.missing is, filled-append part.came [], filled-none) in
-    inr (found-as _ _ (behind lines [] a list part ∙ append-nil lines) (
-      length part.before + 1,
-      LineFault.RowsMissing,
-      rows_missing part.before part.line
-          (part.came ++ []) list a.session part.count part.tells part.says short,
-    ))
-
--- of a whole record: what is read is what its lines tell, or its first faulty line was found
-pub lines-told : (lines : List (List ℕ)) → AllTold lines (noted_lines false no_notes 1 lines) ⊎ Found lines
-lines-told lines =
-    by (lines-next lines [] no_notes 1 refl (record { clean = refl; placed = placed-none; stands = no_line }))
-  where
-    notes : Notes
-    notes = noted_lines false no_notes 1 lines
-
-    by : Right lines notes ⊎ Found lines → AllTold lines notes ⊎ Found lines
-    by (inl right) = ended-told lines notes.told notes.faults notes.presence notes.awaited right.clean right.stands
-    by (inr found) = inr found
+-- if nothing was written for faults, the lines tell what is read of them, with the texts of calls tested or not
+pub text-tells : (strict : Bool) (text : List ℕ) → (notes_by strict text).faults ≡ []
+    → Tells (lines_of text) (notes_by strict text).told
+unfolding notes_by
+text-tells strict text clean =
+    let notes = noted_lines strict no_notes 1 (lines_of text) in
+    let end = ended-clean notes.awaited notes clean in
+    let right = lines-next strict (lines_of text) [] no_notes 1 refl
+    (record { placed = placed-none; stands = no_line })
+    (record { noted = end.0; none_held = ap held end.1 }) in
+    ended-tells (lines_of text) notes.awaited notes end.1 right.stands

@@ -3,19 +3,21 @@ use Rattle.std.proofs.Common.{◌≡◌, ℕ, suc, ◌+◌, ◌-◌, ◌==◌, �
 use Rattle.std.proofs.Common.{List, [], ◌∷◌, ◌++◌, length, slice_get, slice_set, refl, ap, sym, ◌∙◌, subst, arith}
 use Rattle.std.{proofs.{Common.{append_assoc, append-nil}, lemmas.Bool.Decides.nat_tests}, specs.List.insert}
 use Rattle.xa_xid.specs.{Bytes.unblank, declared.xid.Xid.Xid}
+use Rattle.xa_lines.specs.Script.{lines_of}
 use Rattle.xa_record.specs.{declared.{line_fault.LineFault.LineFault, presence.Presence.Presence}, Lines.ShowsRows}
 use Rattle.xa_record.specs.Lines.{Told, Calls, Returns, ReturnsUnknown, Leaves, LineSaid, Nothing, Says, Awaits, Closed}
 use Rattle.xa_record.specs.{Lines.{is_silent, reading_of_line}, Rows.row_said, Reading.{NumberedEvent, Awaited, Notes}}
 use Rattle.xa_record.specs.Reading.{blamed_too, noted_if, closed_if, cause_of, session_of, presence_after, up_to_return}
 use Rattle.xa_record.specs.Reading.{returned, awaiting, with_row, noted_row, noted_said, noted_line, noted_lines}
-use Rattle.xa_record.specs.{Reading.no_notes, Records.{RowsOf, no_row, silent_row, one_row, EndsInReturn, HasNoReturn}}
+use Rattle.xa_record.specs.Reading.{no_notes, ended_by, notes_by, notes_of}
+use Rattle.xa_record.specs.{Records.{RowsOf, no_row, silent_row, one_row, EndsInReturn, HasNoReturn}}
 use Rattle.xa_record.specs.Records.{Fits, Tells, no_line, silent_line, call_line, return_line, rows_lines, unknown_line}
 use Rattle.xa_record.{specs.Records.{lost_line, gone_line}, proofs.{LastReturns.inserted, RecordLines.cause-shown}}
 use Rattle.xa_record.proofs.Presences.{Placed, placed-none, fits-here, placed-next, placed-closed}
 use Rattle.xa_record.proofs.SessionsWithin.{Within, line_within}
 
 -- reading two lists of lines is reading the second from where the first ends
-pub noted_lines-append : (notes : Notes) (number : ℕ) (lines more : List (List ℕ))
+noted_lines-append : (notes : Notes) (number : ℕ) (lines more : List (List ℕ))
     → noted_lines false notes number (lines ++ more) ≡ noted_lines false (noted_lines false notes number lines)
     (number + length lines) more
 unfolding noted_lines
@@ -26,28 +28,28 @@ noted_lines-append notes number (line ∷ lines) more =
     (number + 1) lines) n more) (omega arith)
 
 -- notes with these events and presences, without a fault, that await no row
-abbrev pub noted : List NumberedEvent → List Presence → Notes
+abbrev noted : List NumberedEvent → List Presence → Notes
 noted list presence = record { told = list; faults = []; presence = presence; awaited = None }
 
 -- notes with these events and presences, without a fault, while the rows of a return are still to come
-abbrev pub waiting : List NumberedEvent → List Presence → Awaited → Notes
+abbrev waiting : List NumberedEvent → List Presence → Awaited → Notes
 waiting list presence a = record { told = list; faults = []; presence = presence; awaited = Some a }
 
 -- the lines were read without a fault as these events, and no row is to come
-pub record IsRead (lines : List (List ℕ)) (list : List NumberedEvent) : Type 0 where
-  pub presence : List Presence
-  pub placed : Placed presence list
-  pub is : noted_lines false no_notes 1 lines ≡ noted list presence
+record IsRead (lines : List (List ℕ)) (list : List NumberedEvent) : Type 0 where
+  presence : List Presence
+  placed : Placed presence list
+  is : noted_lines false no_notes 1 lines ≡ noted list presence
 
 -- a line outside of a return's rows is noted by what it says
-pub said-of : (said : LineSaid) (list : List NumberedEvent) (presence : List Presence) (line : List ℕ) (number : ℕ)
+said-of : (said : LineSaid) (list : List NumberedEvent) (presence : List Presence) (line : List ℕ) (number : ℕ)
     → reading_of_line line ≡ said
     → noted_line false (noted list presence) number line ≡ noted_said false (noted list presence) number said
 unfolding noted_line
 said-of said list presence line number is = ap (noted_said false (noted list presence) number) is
 
 -- reading lines and one more is reading that one with the notes that the others leave
-pub lines-more : (lines : List (List ℕ)) (line : List ℕ) (more : List (List ℕ)) (list : List NumberedEvent)
+lines-more : (lines : List (List ℕ)) (line : List ℕ) (more : List (List ℕ)) (list : List NumberedEvent)
     (read : IsRead lines list)
     → noted_lines false no_notes 1 (lines ++ line ∷ more) ≡ noted_lines false
     (noted_line false (noted list read.presence) (length lines + 1) line) (length lines + 1 + 1) more
@@ -142,29 +144,29 @@ closed-read session lines line before after is ends_so last fits read =
     }
 
 -- a number of missing rows that is 0 tests as 0
-pub zero-missing : (missing : ℕ) → missing ≡ 0 → (missing == 0) ≡ true
+zero-missing : (missing : ℕ) → missing ≡ 0 → (missing == 0) ≡ true
 zero-missing missing is = grind (arith, nat_tests)
 
 -- a number above 0 doesn't test as 0
-pub some-missing : (missing : ℕ) → 0 < missing → (missing == 0) ≡ false
+some-missing : (missing : ℕ) → 0 < missing → (missing == 0) ≡ false
 some-missing missing some = grind (arith, nat_tests)
 
 -- while rows are missing the return is held back
-pub waits : (list : List NumberedEvent) (presence : List Presence) (a : Awaited) → 0 < a.missing
+waits : (list : List NumberedEvent) (presence : List Presence) (a : Awaited) → 0 < a.missing
     → awaiting (noted list presence) a ≡ waiting list presence a
 waits list presence a some =
     ap (λ (b : Bool). if b then returned (noted list presence) a else waiting list presence a)
     (some-missing a.missing some)
 
 -- once none of its rows is missing a return is noted, or its line blamed if it can't happen (`returned`)
-pub all-came : (list : List NumberedEvent) (presence : List Presence) (a : Awaited) → a.missing ≡ 0
+all-came : (list : List NumberedEvent) (presence : List Presence) (a : Awaited) → a.missing ≡ 0
     → awaiting (noted list presence) a ≡ returned (noted list presence) a
 all-came list presence a none =
     ap (λ (b : Bool). if b then returned (noted list presence) a else waiting list presence a)
     (zero-missing a.missing none)
 
 -- a silent line among rows changes nothing
-pub come-silent : (list : List NumberedEvent) (presence : List Presence) (a : Awaited) (number : ℕ) (line : List ℕ)
+come-silent : (list : List NumberedEvent) (presence : List Presence) (a : Awaited) (number : ℕ) (line : List ℕ)
     → is_silent line ≡ true
     → noted_line false (waiting list presence a) number line ≡ waiting list presence a
 unfolding noted_line noted_row
@@ -173,7 +175,7 @@ come-silent list presence a number line silent =
     (row_said (unblank line))) silent
 
 -- a line among rows that isn't silent is read as a row
-pub come-row : (list : List NumberedEvent) (presence : List Presence) (a : Awaited) (number : ℕ) (line : List ℕ)
+come-row : (list : List NumberedEvent) (presence : List Presence) (a : Awaited) (number : ℕ) (line : List ℕ)
     (row : Option Xid) → is_silent line ≡ false
     → row_said (unblank line) ≡ row → noted_line false (waiting list presence a) number line
     ≡ with_row (noted list presence) a number row
@@ -184,7 +186,7 @@ come-row list presence a number line row full said =
     ∙ ap (with_row (noted list presence) a number) said
 
 -- a row that can be read is added to those that came
-pub with-row-some : (list : List NumberedEvent) (presence : List Presence) (a : Awaited) (number : ℕ) (xid : Xid)
+with-row-some : (list : List NumberedEvent) (presence : List Presence) (a : Awaited) (number : ℕ) (xid : Xid)
     → with_row (noted list presence) a number (Some xid)
     ≡ awaiting (noted list presence) (record a { missing = a.missing - 1; rows = a.rows ++ xid ∷ [] })
 unfolding with_row
@@ -238,13 +240,13 @@ rows-read count lines more (one_row {count = c} {line = line} {lines = rest} {xi
     (append_assoc a.rows (xid ∷ []) fewer)
 
 -- a return of this many rows, before the first of them was read
-abbrev pub first-awaited : ℕ → ℕ → ℕ → Awaited
+abbrev first-awaited : ℕ → ℕ → ℕ → Awaited
 first-awaited session number count =
     record { session = session; number = number; missing = count; rows = []; faults = [] }
 
 -- after a line that announces rows, the lines behind it are read with the notes that `awaiting` gives: that return is
 -- held back, or taken at once if it has no rows
-pub awaits-said : (lines : List (List ℕ)) (line : List ℕ) (more : List (List ℕ)) (list : List NumberedEvent)
+awaits-said : (lines : List (List ℕ)) (line : List ℕ) (more : List (List ℕ)) (list : List NumberedEvent)
     (read : IsRead lines list) (session count : ℕ)
     → reading_of_line line ≡ Awaits session count
     → noted_lines false no_notes 1 (lines ++ line ∷ more)
@@ -279,7 +281,7 @@ rows-lines-read lines line more list session count rows is came fits read =
     }
 
 -- what lines tell is what is read of them, and none is faulty
-pub lines-read : (lines : List (List ℕ)) (list : List NumberedEvent) → Tells lines list → IsRead lines list
+lines-read : (lines : List (List ℕ)) (list : List NumberedEvent) → Tells lines list → IsRead lines list
 lines-read lines list no_line = no-line-read
 lines-read lines list (silent_line before line same tells is) =
     silent-read before line same is (lines-read before same tells)
@@ -295,3 +297,13 @@ lines-read lines list (lost_line before line old session tells is fits) =
     happens-read (Leaves session) before line old is fits (lines-read before old tells)
 lines-read lines list (gone_line before line front back session tells is ends_so last fits) =
     closed-read session before line front back is ends_so last fits (lines-read before (front ++ back) tells)
+
+-- what lines tell is what is read of them, if the texts of calls aren't tested, and no line is faulty
+pub text-told : (text : List ℕ) (list : List NumberedEvent) → Tells (lines_of text) list
+    → ((notes_of text).faults ≡ []) × (list ≡ (notes_of text).told)
+unfolding notes_by
+text-told text list tells =
+    let read = lines-read (lines_of text) list tells in (
+      ap (λ (n : Notes). (ended_by n.awaited n).faults) read.is,
+      sym (ap (λ (n : Notes). (ended_by n.awaited n).told) read.is),
+    )

@@ -7,18 +7,9 @@ use Rattle.xa_judge.specs.{declared.{event.Event.Event, verdict.Verdict.Verdict}
 use Rattle.xa_record.specs.declared.{allowance.Allowance.Allowance, asked.Asked.Asked}
 use Rattle.xa_record.specs.declared.line_event.NumberedEvent.{NumberedEvent as NumberedRead}
 use Rattle.xa_record.specs.{declared.report.Report.Report as ReportMade, Reading.NumberedEvent, Events.AreEvents}
-use Rattle.xa_record.specs.{Judged.{IsJudgement, IsReportedOf, IsReportedByNotes}, Kept.{numbered_kept, report_kept}}
+use Rattle.xa_record.specs.{Judged.{IsJudgement, IsReportedBy}, Kept.{numbered_kept, report_kept}}
 use Rattle.xa_record.specs.{Replaying.{AreBare, IsWrittenCall}, Reports.{Report, IsReportOf}}
 use Rattle.xa_record.proofs.Replays.{bare_replayed}
-
--- with at least one event the report is the judgement on the events
-reported_of : (base : State) (allowances : List Allowance) (lines : List (List ℕ))
-    (numbered : List NumberedRead) (asked : Asked)
-    (report : Report) → (length numbered == 0) ≡ false
-    → IsJudgement base allowances lines (map numbered_kept numbered) asked report
-    → IsReportedOf base allowances lines (map numbered_kept numbered) asked report
-reported_of base allowances lines [] asked report some is = absurd (cc)
-reported_of base allowances lines (one ∷ numbered) asked report some is = is
 
 -- the report of a right verdict on the events that lines say is a judgement of these lines, if the texts of calls are
 -- bare, and supported statements among them are written back
@@ -46,13 +37,11 @@ pub reported : {E : Type 0} (result : Result ReportMade E) (base : State) (allow
     (lines : List (List ℕ)) (faults : List ℕ) (numbered : List NumberedRead) (asked : Asked)
     → faults ≡ [] → (length numbered == 0) ≡ false
     → IfOk result (λ report. IsJudgement base allowances lines (map numbered_kept numbered) asked (report_kept report))
-    → IfOk result (λ report. IsReportedByNotes base allowances lines faults (map numbered_kept numbered) asked
+    → IfOk result (λ report. IsReportedBy base allowances lines faults (map numbered_kept numbered) asked
     (report_kept report))
-reported (Ok report) base allowances lines faults numbered asked none some is =
-    subst (λ (f : List ℕ). IsReportedByNotes base allowances lines f (map numbered_kept numbered) asked
-    (report_kept report)) (sym none)
-    (reported_of base allowances lines numbered asked (report_kept report) some is)
-reported (Err fault) base allowances lines faults numbered asked none some is = tt
+reported result base allowances lines (byte ∷ faults) numbered asked none some is = absurd (cc)
+reported result base allowances lines [] [] asked none some is = absurd (cc)
+reported result base allowances lines [] (one ∷ numbered) asked none some is = is
 
 -- a text whose length tests as 0 is empty: no line was faulty
 pub no_fault : (faults : List ℕ) → (length faults == 0) ≡ true → faults ≡ []

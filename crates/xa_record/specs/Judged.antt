@@ -1,14 +1,12 @@
 -- What judging a record comes to. Every rule here is the project's own: docs/HISTORIES.md.
 --     record_bytes, record_reads     the greatest length of a record;  the greatest number of reads
---     AppendsJudgedFrom, AppendsJudgedPrefix      the writer got that text;  or a prefix of it
---     IsJudged, AppendsJudged, IsJudgedText, AfterJudgeFault     the same of a record that begins with a server that
---                            holds nothing
+--     AppendsJudged, AppendsJudgedPrefix      the writer got that text;  or a prefix of it
 use Rattle.std.specs.{Prelude.{◌≡◌, ℕ, Option, List, [], ◌∷◌, IfSome}, Io.KnownBytes.{Keeps, Appends}}
-use Rattle.xa_server.specs.State.{State, no_state}
+use Rattle.xa_server.specs.State.{State}
 use Rattle.xa_lines.specs.{declared.script_fault.ScriptFault.ScriptFault, Script.lines_of, Transcript.AppendsPrefix}
 use Rattle.xa_judge.specs.{declared.{event.Event.Event, verdict.Verdict.Verdict}, Verdicts.IsVerdict}
 use Rattle.xa_record.specs.declared.{allowance.Allowance.Allowance, asked.Asked.Asked, outcome.Outcome.Outcome}
-use Rattle.xa_record.specs.{Reading.{NumberedEvent, Notes}, Records.Tells, FaultyLines.faulty_text, Events.AreEvents}
+use Rattle.xa_record.specs.{Reading.{NumberedEvent, Notes, notes_by}, Events.AreEvents}
 use Rattle.xa_record.specs.{Replaying.IsReplayed, Reports.{Report, Faulty, Empty, outcome_of, IsReportOf}}
 use Rattle.xa_record.specs.Forms.{text_in}
 
@@ -32,73 +30,49 @@ pub record IsJudgement (base : State) (allowances : List Allowance) (lines : Lis
   pub replayed : IsReplayed base numbered events verdict
   pub is : IsReportOf base allowances lines asked numbered events verdict report
 
--- lines without a fault are judged if they tell an event; else there is nothing to judge
-abbrev pub IsReportedOf : State → List Allowance → List (List ℕ) → List NumberedEvent → Asked → Report → Type 0
-IsReportedOf base allowances lines [] asked report = report ≡ Empty
-IsReportedOf base allowances lines (one ∷ more) asked report =
+-- what is reported of lines, by what was read of them: what is written for the faulty ones, if there are any; that
+-- there is no event; else what the events come to
+abbrev pub IsReportedBy : State → List Allowance → List (List ℕ) → (faults : List ℕ) → List NumberedEvent → Asked
+    → Report → Type 0
+IsReportedBy base allowances lines (byte ∷ faults) numbered asked report = report ≡ Faulty (byte ∷ faults)
+IsReportedBy base allowances lines [] [] asked report = report ≡ Empty
+IsReportedBy base allowances lines [] (one ∷ more) asked report =
     IsJudgement base allowances lines (one ∷ more) asked report
 
--- if a line is faulty, only the faulty lines are reported; else what the lines tell is judged
-abbrev pub IsReportedWith : State → List Allowance → List ℕ → List (List ℕ) → Asked → Report → Type 0
-IsReportedWith base allowances [] lines asked report =
-    (numbered : List NumberedEvent) × Tells lines numbered
-    × IsReportedOf base allowances lines numbered asked report
-IsReportedWith base allowances (byte ∷ faults) lines asked report = report ≡ Faulty (byte ∷ faults)
+-- the report of what was read of these lines
+abbrev pub IsReportedOf : State → List Allowance → List (List ℕ) → Notes → Asked → Report → Type 0
+IsReportedOf base allowances lines notes asked report =
+    IsReportedBy base allowances lines notes.faults notes.told asked report
 
--- what is reported of these lines
-abbrev pub IsReported : State → List Allowance → List (List ℕ) → Asked → Report → Type 0
-IsReported base allowances lines asked report = IsReportedWith base
-    allowances (faulty_text asked.strict_calls lines) lines asked report
-
--- what is reported: the text of the faulty lines if there is one, else a report on the events of the lines
-abbrev pub IsReportedByNotes : State → List Allowance → List (List ℕ) → List ℕ → List NumberedEvent → Asked → Report
-    → Type 0
-IsReportedByNotes base allowances lines [] numbered asked report =
-    IsReportedOf base allowances lines numbered asked report
-IsReportedByNotes base allowances lines (byte ∷ faults) numbered asked report = report ≡ Faulty (byte ∷ faults)
-
--- the report of what was read of the lines: of the faulty ones if there are any, else of the events
-abbrev pub IsReportedOfNotes : State → List Allowance → List (List ℕ) → Notes → Asked → Report → Type 0
-IsReportedOfNotes base allowances lines notes asked report =
-    IsReportedByNotes base allowances lines notes.faults notes.told asked report
+-- what is reported of a text, which is read line by line
+abbrev pub IsReported : State → List Allowance → List ℕ → Asked → Report → Type 0
+IsReported base allowances written asked report =
+    IsReportedOf base allowances (lines_of written) (notes_by asked.strict_calls written) asked report
 
 -- a record of the text `written`, which begins in a state, ends with this outcome, and `text` is written for it
-pub record IsJudgedFrom (base : State) (written : List ℕ) (allowances : List Allowance) (asked : Asked)
+pub record IsJudged (base : State) (written : List ℕ) (allowances : List Allowance) (asked : Asked)
     (outcome : Outcome) (text : List ℕ) : Type 0 where
   pub report : Report
-  pub told : IsReported base allowances (lines_of written) asked report
+  pub told : IsReported base allowances written asked report
   pub outcome_is : outcome ≡ outcome_of report
   pub text_is : text ≡ text_in asked.form report
 
--- a record of the text `written`, which begins with an empty store, ends with this outcome, and `text` is written then
-abbrev pub IsJudged : List ℕ → List Allowance → Asked → Outcome → List ℕ → Type 0
-IsJudged written allowances asked outcome text = IsJudgedFrom no_state written allowances asked outcome text
-
 -- the writer got what is written for the record
-abbrev pub AppendsJudgedFrom : State → List Allowance → Asked → Outcome → List ℕ → Option (List ℕ) → Option (List ℕ)
+abbrev pub AppendsJudged : State → List Allowance → Asked → Outcome → List ℕ → Option (List ℕ) → Option (List ℕ)
     → Type 0
-AppendsJudgedFrom base allowances asked outcome written old new =
-    (text : List ℕ) × IsJudgedFrom base written allowances asked outcome text × Appends old new text
-
--- the writer got the whole text for a record that begins with an empty store
-abbrev pub AppendsJudged : List Allowance → Asked → Outcome → List ℕ → Option (List ℕ) → Option (List ℕ) → Type 0
-AppendsJudged allowances asked outcome written old new = AppendsJudgedFrom no_state allowances asked outcome written
-    old new
+AppendsJudged base allowances asked outcome written old new =
+    (text : List ℕ) × IsJudged base written allowances asked outcome text × Appends old new text
 
 -- the writer got a prefix of what may be written for the record, judged from the base state
 abbrev pub AppendsJudgedPrefix : State → List Allowance → Asked → List ℕ → Option (List ℕ) → Option (List ℕ) → Type 0
 AppendsJudgedPrefix base allowances asked written old new =
-    (outcome : Outcome) × (text : List ℕ) × IsJudgedFrom base written allowances asked outcome text
+    (outcome : Outcome) × (text : List ℕ) × IsJudged base written allowances asked outcome text
     × AppendsPrefix old new text
 
 -- what may be written for a record, however judging it ends
-abbrev pub IsJudgedTextFrom : State → List Allowance → Asked → List ℕ → List ℕ → Type 0
-IsJudgedTextFrom base allowances asked written text = (outcome : Outcome)
-    × IsJudgedFrom base written allowances asked outcome text
-
--- the text is one that may be written for a record that begins with an empty store
-abbrev pub IsJudgedText : List Allowance → Asked → List ℕ → List ℕ → Type 0
-IsJudgedText allowances asked written text = IsJudgedTextFrom no_state allowances asked written text
+abbrev pub IsJudgedText : State → List Allowance → Asked → List ℕ → List ℕ → Type 0
+IsJudgedText base allowances asked written text = (outcome : Outcome)
+    × IsJudged base written allowances asked outcome text
 
 -- a fault of judging a record that was read: there was no memory
 abbrev pub IsFaultOfJudging : List ℕ → ScriptFault → Type 0
@@ -106,16 +80,11 @@ IsFaultOfJudging written fault = fault ≡ ScriptFault.NoMemory
 
 -- what a fault leaves in the writer: a prefix of the text if a write failed, else nothing. Judging has no
 -- fault of a race
-abbrev pub AfterJudgeFaultFrom : State → List Allowance → Asked → ScriptFault → Option (List ℕ) → Option (List ℕ)
+abbrev pub AfterJudgeFault : State → List Allowance → Asked → ScriptFault → Option (List ℕ) → Option (List ℕ)
     → Option (List ℕ) → Type 0
-AfterJudgeFaultFrom base allowances asked ScriptFault.Write input old new = IfSome input
+AfterJudgeFault base allowances asked ScriptFault.Write input old new = IfSome input
     (λ written. AppendsJudgedPrefix base allowances asked written old new)
-AfterJudgeFaultFrom base allowances asked ScriptFault.Full input old new = ⊥
-AfterJudgeFaultFrom base allowances asked ScriptFault.GateShut input old new = ⊥
-AfterJudgeFaultFrom base allowances asked ScriptFault.ThreadRefused input old new = ⊥
-AfterJudgeFaultFrom base allowances asked fault input old new = Keeps old new
-
--- what a fault leaves in the writer, for a record that begins with an empty store
-abbrev pub AfterJudgeFault : List Allowance → Asked → ScriptFault → Option (List ℕ) → Option (List ℕ) → Option (List ℕ)
-    → Type 0
-AfterJudgeFault allowances asked fault input old new = AfterJudgeFaultFrom no_state allowances asked fault input old new
+AfterJudgeFault base allowances asked ScriptFault.Full input old new = ⊥
+AfterJudgeFault base allowances asked ScriptFault.GateShut input old new = ⊥
+AfterJudgeFault base allowances asked ScriptFault.ThreadRefused input old new = ⊥
+AfterJudgeFault base allowances asked fault input old new = Keeps old new

@@ -3,7 +3,6 @@ pub mod Lines
 pub mod Reading
 pub mod Allowances
 pub mod Records
-pub mod FaultyLines
 pub mod Events
 pub mod VerdictText
 pub mod Replaying

@@ -1,9 +1,7 @@
--- What the lines of a record tell, and which of them is the first faulty one: a rule for each kind of line
--- and of fault.
+-- What the lines of a record tell: a rule for each kind of line.
 -- The rules know no order of reading; Reading.antt says how lines are read one by one. Texts of calls aren't tested.
 --     EndsInReturn, HasNoReturn      the last event, if there is one, is a return to the session;  no event is
 --     presence_in, Fits   whether a session has an open call or is lost after events;  an event is possible next
---     filled, AreRows     how many of the lines aren't silent;  each of the lines is silent, or a row
 use Rattle.std.specs.Prelude.{◌≡◌, ◌⊎◌, ℕ, suc, ◌+◌, ◌==◌, ◌<◌, ◌≤◌, true, false, if◌then◌else◌, Option, Some, None}
 use Rattle.std.specs.{Prelude.{List, [], ◌∷◌, ◌++◌, length}, List.AllByRecursion}
 use Rattle.xa_xid.specs.{Bytes.unblank, declared.xid.Xid.Xid}
@@ -98,52 +96,3 @@ pub data Tells : List (List ℕ) → List NumberedEvent → Type 0 where
       → reading_of_line line ≡ Closed session → EndsInReturn session before → HasNoReturn session after
       → Fits (before ++ after) (Leaves session)
       → Tells (lines ++ line ∷ []) (before ++ on_next_line lines (Leaves session) ∷ after)
-
--- how many of the lines aren't silent
-unfoldable pub filled : List (List ℕ) → ℕ
-filled [] = 0
-filled (line ∷ lines) = if is_silent line then filled lines else suc (filled lines)
-
--- each of the lines is silent, or a row
-abbrev pub AreRows : List (List ℕ) → Type 0
-AreRows lines =
-    AllByRecursion (λ line. (is_silent line ≡ true) ⊎ ((xid : Xid) × (row_said (unblank line) ≡ Some xid))) lines
-
--- the first faulty line of these has this number, for this cause
-pub data HasFault : List (List ℕ) → ℕ → LineFault → Type 0 where
-  -- a line that isn't written as one
-  bad_line : (lines : List (List ℕ)) (line : List ℕ) (more : List (List ℕ)) (list : List NumberedEvent)
-      → Tells lines list → reading_of_line line ≡ Bad
-      → HasFault (lines ++ line ∷ more) (length lines + 1) LineFault.NotALine
-  -- a line that says what can't happen there
-  unfit_line : (lines : List (List ℕ)) (line : List ℕ) (more : List (List ℕ)) (list : List NumberedEvent) (told : Told)
-      (fault : LineFault) → Tells lines list
-      → reading_of_line line ≡ Says told → cause_next list told ≡ Some fault
-      → HasFault (lines ++ line ∷ more) (length lines + 1) fault
-  -- a connection was found closed whose client was lost before
-  unfit_gone : (lines : List (List ℕ)) (line : List ℕ) (more : List (List ℕ)) (list : List NumberedEvent) (session : ℕ)
-      (fault : LineFault) → Tells lines list
-      → reading_of_line line ≡ Closed session → cause_next list (Leaves session) ≡ Some fault
-      → HasFault (lines ++ line ∷ more) (length lines + 1) fault
-  -- the record ends before all rows have come
-  rows_missing : (lines : List (List ℕ)) (line : List ℕ) (more : List (List ℕ)) (list : List NumberedEvent)
-      (session count : ℕ) → Tells lines list
-      → reading_of_line line ≡ Awaits session count → filled more < count
-      → HasFault (lines ++ line ∷ more) (length lines + 1) LineFault.RowsMissing
-  -- enough lines have come in the place of rows, rows or not, and the return can't happen there
-  unfit_rows : (lines : List (List ℕ)) (line : List ℕ) (more : List (List ℕ)) (list : List NumberedEvent)
-      (session count : ℕ) (fault : LineFault) → Tells lines list
-      → reading_of_line line ≡ Awaits session count → count ≤ filled more
-      → cause_next list (Returns session (ShowsRows [])) ≡ Some fault
-      → HasFault (lines ++ line ∷ more) (length lines + 1) fault
-  -- enough lines have come in the place of rows, and the return can happen; `row` is the first of them that isn't one
-  bad_row : (lines : List (List ℕ)) (line : List ℕ) (rows : List (List ℕ)) (row : List ℕ) (more : List (List ℕ))
-      (list : List NumberedEvent) (session count : ℕ)
-      → Tells lines list → reading_of_line line ≡ Awaits session count → Fits list (Returns session (ShowsRows []))
-      → AreRows rows → filled rows < count
-      → is_silent row ≡ false → row_said (unblank row) ≡ None → count ≤ filled (rows ++ row ∷ more)
-      → HasFault (lines ++ line ∷ (rows ++ row ∷ more)) (length lines + 1 + (length rows + 1)) LineFault.NotARow
-
--- the text `whole` begins with `text`
-abbrev pub Begins : List ℕ → List ℕ → Type 0
-Begins whole text = (rest : List ℕ) × (whole ≡ text ++ rest)

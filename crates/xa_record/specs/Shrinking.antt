@@ -3,10 +3,9 @@
 use Rattle.std.specs.Prelude.{◌≡◌, ℕ, Bool, true, false, Option, Some, None, List, [], ◌∷◌, ◌++◌, codes}
 use Rattle.xa_xid.specs.Bytes.{unblank}
 use Rattle.xa_server.specs.State.{State}
-use Rattle.xa_lines.specs.Script.{lines_of}
 use Rattle.xa_judge.specs.{declared.{event.Event.Event, verdict.Verdict.Verdict}, Verdicts.IsVerdict}
 use Rattle.xa_record.specs.{declared.{allowance.Allowance.Allowance, asked.Asked.Asked}, Events.AreEvents}
-use Rattle.xa_record.specs.{FaultyLines.faulty_text, Reading.NumberedEvent, Records.Tells}
+use Rattle.xa_record.specs.Reading.{notes_by}
 
 -- a line without the blanks at its beginning and with a line feed at its end, if it is chosen; else nothing
 abbrev pub line_if : Bool → List ℕ → List ℕ
@@ -31,14 +30,12 @@ abbrev pub AreUnexplained : State → List Event → (limit : ℕ) → Type 0
 AreUnexplained base events limit =
     (verdict : Verdict) × IsVerdict base events limit verdict × (is_illegal verdict ≡ true)
 
--- no line of a record is faulty, and no order explains what its lines tell
+-- no line of a record is faulty, and no order explains what is read of it
 pub record IsUnexplained (base : State) (allowances : List Allowance) (asked : Asked) (written : List ℕ)
     : Type 0 where
-  pub faultless : faulty_text asked.strict_calls (lines_of written) ≡ []
-  pub numbered : List NumberedEvent
-  pub tells : Tells (lines_of written) numbered
+  pub faultless : (notes_by asked.strict_calls written).faults ≡ []
   pub events : List Event
-  pub are : AreEvents allowances numbered events
+  pub are : AreEvents allowances (notes_by asked.strict_calls written).told events
   pub unexplained : AreUnexplained base events asked.limit
 
 -- the record is made of some of the lines, in their order, and no order explains it

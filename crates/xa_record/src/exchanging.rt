@@ -2,8 +2,9 @@
 ghost use Rattle.std.specs.{Prelude.{◌≡◌, ◌++◌, ◌<◌, None, OnOk, IfOk, map, length}, Option.option_map};
 ghost use Rattle.xa_record.specs.{Events.AreCalls, Exchanges.{shown_text, seen_line, is_call_by, last_call, call_line}};
 ghost use Rattle.xa_record.specs.Exchanges.{exchange_with as exchange_of, exchange_at, exchange_sought};
-ghost use Rattle.xa_record.specs.{Kept.{told_kept, shown_kept, numbered_kept, exchange_kept}, Reading.notes_of};
+ghost use Rattle.xa_record.specs.{Kept.{told_kept, shown_kept, numbered_kept, exchange_kept}, Reading.notes_by};
 
+use crate::asked::Asked;
 use crate::events::{request_of, rows_in};
 use crate::exchange::Exchange;
 use crate::line_event::{LineEvent, NumberedEvent};
@@ -159,26 +160,27 @@ fn exchange_again(
 }
 
 /// Returns what was seen at `place` in the record of this text, and its call, the last one of the session before that
-/// place; None unless `sought`. `place` is an index in the record's events. Only the contract needs these, as `events`.
+/// place; None if `asked` asks for no explanation. `place` is an index in the record's events. Only the contract needs
+/// these, as `events`.
 ///
 /// May return `NoMemory`.
 pub fn exchange_for(
     alloc: Global,
-    sought: bool,
+    asked: Asked,
     text: &[u8],
     events: &[Event],
     place: usize,
 ) -> Result<Option<Exchange>, NoMemory>
-    requires are { AreCalls (notes_of text.now).told events.now }
+    requires are { AreCalls (notes_by asked.strict_calls text.now).told events.now }
     requires within { place < length events.now }
     // Proved (records, illegal-exchange): What an explained ILLEGAL verdict says was seen is what the return at its
     //   place shows, and its call is the last one of the session before that, both in canonical form.
     ensures { IfOk result (λ exchange. option_map exchange_kept exchange
-        ≡ exchange_sought sought (notes_of text.now).told place) }
+        ≡ exchange_sought asked.explains (notes_by asked.strict_calls text.now).told place) }
 {
-    if !sought {
+    if !asked.explains {
         return Ok(None);
     }
-    let numbered = numbered_in(alloc, text)?;
+    let numbered = numbered_in(alloc, asked.strict_calls, text)?;
     Ok(Some(exchange_again(alloc, numbered.as_slice(), events, place)?))
 }

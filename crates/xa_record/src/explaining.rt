@@ -2,7 +2,7 @@
 ghost use Rattle.std.specs.{Prelude.{◌≡◌, ◌<◌, ℕ, length, IfOk, MatchOption, take}, Option.option_map};
 ghost use Rattle.xa_judge.specs.{Explained.{Config, opening_config, LeadsThrough, Explained}, Verdicts.IsWide};
 ghost use Rattle.xa_lines.specs.Listing.{listing};
-ghost use Rattle.xa_record.specs.{Events.AreCalls, Kept.reason_kept, Reading.notes_of};
+ghost use Rattle.xa_record.specs.{Events.AreCalls, Kept.reason_kept, Reading.notes_by};
 ghost use Rattle.xa_record.specs.Reports.{keys_named, is_reason_asked, IsReason, IsReasonFound, IsReasonSought};
 
 use crate::asked::Asked;
@@ -52,25 +52,27 @@ fn state_lines(
 }
 
 /// The order of these moves, which lead from `base` through the events before `place`, and the store after that order.
-/// `text` is the record's, and `events` are all of its events, also those from `place` on.
+/// `text` is the record's, read with the texts of calls tested if `strict`, and `events` are all of its events, also
+/// those from `place` on.
 fn reason_by(
     alloc: Global,
     base: &Server,
+    strict: bool,
     text: &[u8],
     events: &[Event],
     place: usize,
     moves: &[Move],
 ) -> Result<Reason, NoMemory>
-    requires are { AreCalls (notes_of text.now).told events.now }
+    requires are { AreCalls (notes_by strict text.now).told events.now }
     requires within { place < length events.now }
     requires lead { (config : Config) × LeadsThrough (opening_config base.now)
         (take place events.now) moves.now config }
     ensures { IfOk result
-        (λ reason. IsReason base.now (take place (notes_of text.now).told) (take place events.now)
+        (λ reason. IsReason base.now (take place (notes_by strict text.now).told) (take place events.now)
         (reason_kept reason)) }
 {
     let state = state_lines(alloc, base, &events[..place], moves)?;
-    let order = order_before(alloc, text, events, place, moves)?;
+    let order = order_before(alloc, strict, text, events, place, moves)?;
     Ok(Reason { order, state })
 }
 
@@ -96,28 +98,36 @@ fn moves_through<P: Progress>(
 }
 
 /// An order that explains the events before `place`, and the store after that order. Some order has to explain them.
-/// None only if more than `limit` different configurations have to be kept before one of them. `text` is the record's,
-/// and `events` are all of its events.
+/// None only if more than `asked.limit` different configurations have to be kept before one of them. `text` is the
+/// record's, and `events` are all of its events.
 fn reason_of<P: Progress>(
     alloc: Global,
     base: &Server,
-    limit: usize,
+    asked: Asked,
     text: &[u8],
     events: &[Event],
     place: usize,
     progress: &mut P,
 ) -> Result<Option<Reason>, NoMemory>
-    requires are { AreCalls (notes_of text.now).told events.now }
+    requires are { AreCalls (notes_by asked.strict_calls text.now).told events.now }
     requires within { place < length events.now }
     requires explained { Explained base.now (take place events.now) }
     ensures { IfOk result
-        (λ reason. IsReasonFound base.now (take place (notes_of text.now).told) (take place events.now) limit
-        (option_map reason_kept reason)) }
+        (λ reason. IsReasonFound base.now (take place (notes_by asked.strict_calls text.now).told)
+        (take place events.now) asked.limit (option_map reason_kept reason)) }
 {
-    let found = moves_through(alloc, base, limit, &events[..place], progress)?;
+    let found = moves_through(alloc, base, asked.limit, &events[..place], progress)?;
     match found {
         None => Ok(None),
-        Some(moves) => Ok(Some(reason_by(alloc, base, text, events, place, moves.as_slice())?)),
+        Some(moves) => Ok(Some(reason_by(
+            alloc,
+            base,
+            asked.strict_calls,
+            text,
+            events,
+            place,
+            moves.as_slice(),
+        )?)),
     }
 }
 
@@ -137,16 +147,16 @@ pub fn reason_for<P: Progress>(
     place: usize,
     progress: &mut P,
 ) -> Result<Option<Reason>, NoMemory>
-    requires are { AreCalls (notes_of text.now).told events.now }
+    requires are { AreCalls (notes_by asked.strict_calls text.now).told events.now }
     requires within { place < length events.now }
     requires explained { Explained base.now (take place events.now) }
     ensures { IfOk result
-        (λ reason. IsReasonSought (is_reason_asked asked) base.now (take place (notes_of text.now).told)
-        (take place events.now) asked.limit
+        (λ reason. IsReasonSought (is_reason_asked asked) base.now
+        (take place (notes_by asked.strict_calls text.now).told) (take place events.now) asked.limit
         (option_map reason_kept reason)) }
 {
     if !asked.explains || asked.shrinks {
         return Ok(None);
     }
-    reason_of(alloc, base, asked.limit, text, events, place, progress)
+    reason_of(alloc, base, asked, text, events, place, progress)
 }

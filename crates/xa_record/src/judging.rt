@@ -2,8 +2,8 @@
 ghost use Rattle.std.specs.Prelude.{◌≡◌, IfOk};
 ghost use Rattle.xa_lines.specs.Script.{lines_of};
 ghost use Rattle.xa_record.specs.{Events.{AreCalls, AreEvents}, Forms.text_in as text_of_report};
-ghost use Rattle.xa_record.specs.Judged.{IsJudgement, IsReported, IsReportedOfNotes, IsJudged, IsJudgedFrom};
-ghost use Rattle.xa_record.specs.{Kept.{notes_kept, report_kept}, Reading.{notes_of, notes_by}, Replaying.AreBare};
+ghost use Rattle.xa_record.specs.Judged.{IsJudgement, IsReported, IsJudged};
+ghost use Rattle.xa_record.specs.{Kept.{notes_kept, report_kept}, Reading.notes_by, Replaying.AreBare};
 
 use crate::allowance::Allowance;
 use crate::asked::Asked;
@@ -55,11 +55,11 @@ fn verdict_on<P: Progress>(
     asked: Asked,
     progress: &mut P,
 ) -> Result<Report, NoMemory>
-    requires calls { AreCalls (notes_of text.now).told events.now }
-    requires bare { AreBare (notes_of text.now).told }
-    requires are { AreEvents allowances.now (notes_of text.now).told events.now }
-    ensures { IfOk result (λ report. IsJudgement base.now allowances.now (lines_of text.now) (notes_of text.now).told
-        asked (report_kept report)) }
+    requires calls { AreCalls (notes_by asked.strict_calls text.now).told events.now }
+    requires bare { AreBare (notes_by asked.strict_calls text.now).told }
+    requires are { AreEvents allowances.now (notes_by asked.strict_calls text.now).told events.now }
+    ensures { IfOk result (λ report. IsJudgement base.now allowances.now (lines_of text.now)
+        (notes_by asked.strict_calls text.now).told asked (report_kept report)) }
 {
     // Does nothing. The contract needs its law: the statements of an order are read back as they were called for.
     are_written_calls(events);
@@ -79,9 +79,7 @@ fn report_on<P: Progress>(
     asked: Asked,
     progress: &mut P,
 ) -> Result<Report, NoMemory>
-    ensures { IfOk result
-        (λ report. IsReportedOfNotes base.now allowances.now (lines_of text.now)
-        (notes_by asked.strict_calls text.now) asked (report_kept report)) }
+    ensures { IfOk result (λ report. IsReported base.now allowances.now text.now asked (report_kept report)) }
 {
     let notes = read_notes(alloc, asked.strict_calls, text)?;
     if !notes.faults.is_empty() {
@@ -100,22 +98,6 @@ fn report_on<P: Progress>(
         asked,
         progress,
     )
-}
-
-/// What `report_on` returns. This contract has the rules for single lines in place of what was read: reading finds
-/// exactly the lines that are faulty by these rules.
-fn report_of_lines<P: Progress>(
-    alloc: Global,
-    base: &Server,
-    text: &[u8],
-    allowances: &[Allowance],
-    asked: Asked,
-    progress: &mut P,
-) -> Result<Report, NoMemory>
-    ensures { IfOk result
-        (λ report. IsReported base.now allowances.now (lines_of text.now) asked (report_kept report)) }
-{
-    report_on(alloc, base, text, allowances, asked, progress)
 }
 
 /// The text of a report in a form.
@@ -140,8 +122,8 @@ fn text_in(alloc: Global, form: Form, report: &Report) -> Result<Vec<u8>, NoMemo
 /// judging is.
 /// Errors: `NoMemory` if an allocation failed.
 /// May return `NoMemory`. Doesn't wait.
-/// Own rule: docs/HISTORIES.md#records-in-pieces.
-pub fn judge_text_from<P: Progress>(
+/// Own rule: docs/HISTORIES.md#verdicts.
+pub fn judge_text<P: Progress>(
     alloc: Global,
     base: &Server,
     text: &[u8],
@@ -149,45 +131,13 @@ pub fn judge_text_from<P: Progress>(
     asked: Asked,
     progress: &mut P,
 ) -> Result<Judged, NoMemory>
-    // Proved (records, judged-from): A record that begins with a store that isn't empty ends, and is written,
-    //   as a record that begins with an empty one: with the state of that store as the beginning.
-    ensures { IfOk result
-        (λ judged. IsJudgedFrom base.now text.now allowances.now asked judged.outcome judged.text.items) }
-{
-    let report = report_of_lines(alloc, base, text, allowances, asked, progress)?;
-    Ok(Judged {
-        outcome: report.outcome(),
-        text: text_in(alloc, asked.form, &report)?,
-    })
-}
-
-/// Judges the record of this text, and returns how that ended and the text of the verdict.
-///
-/// The server holds nothing at first. `allowances` are known differences between its answers and the rules.
-/// The end is `Undecided` only if more than `asked.limit` different configurations have to be kept before an event.
-/// With `asked.explains` the part before an ILLEGAL line is judged once more; if that is undecided, neither an
-/// order nor the store is told. With `asked.shrinks` parts of an ILLEGAL record are judged instead, at most
-/// 1,000 times, and `progress` isn't told of that. If lines are faulty, or there is no event, there is no verdict. With
-/// `asked.strict_calls` a call whose text isn't a statement is a faulty line. `progress` takes note of how far
-/// judging is.
-/// Errors: `NoMemory` if an allocation failed.
-/// May return `NoMemory`. Doesn't wait.
-/// Own rule: docs/HISTORIES.md#verdicts.
-pub fn judge_text<P: Progress>(
-    alloc: Global,
-    text: &[u8],
-    allowances: &[Allowance],
-    asked: Asked,
-    progress: &mut P,
-) -> Result<Judged, NoMemory>
-    // Proved (records, judged-faulty): A record with a faulty line ends as faulty, and exactly its faulty
-    //   lines are written, each with its cause, in order. Whether a line is faulty, and why, is a rule for that
-    //   line, by the lines before and after it. If calls are strict, a call whose text isn't a statement is
-    //   faulty too.
+    // Proved (records, judged-faulty): A record with a faulty line ends as faulty, and what is written for it is
+    //   what its definition says, which reads line by line: the number of each faulty line, and a cause. If calls
+    //   are strict, a call whose text isn't a statement is faulty too.
     // Proved (records, judged-empty): A record without a faulty line and without an event ends as empty, and
     //   `EMPTY` is written.
     // Proved (records, judged-verdict): Every other record ends with a verdict that is right for the events
-    //   of its lines, beginning with a server that holds nothing, and that verdict is written.
+    //   of its lines, beginning with the given server, and that verdict is written.
     // Proved (records, judged-allowances): In a record that is judged, a refusal stands for its own number,
     //   and for those that the allowances let it stand for.
     // Proved (records, judged-forms): The text of a verdict is its lines, or that of a JSON object with a
@@ -202,11 +152,15 @@ pub fn judge_text<P: Progress>(
     //   store only if more configurations than allowed come before a place of what was seen before it, or if a
     //   smaller record is asked for: then it has neither.
     // Proved (records, illegal-smaller)
-    // Proved (records, order-replayed): The order that is written for a legal record, run as a script by a
-    //   server that holds nothing, gives for each effect, in order, the answer that its session has there,
+    // Proved (records, order-replayed): The order that is written for a legal record, run as a script by the
+    //   server with which it begins, gives for each effect, in order, the answer that its session has there,
     //   along the moves by which the record is explained. `run` reads orders of up to 1,048,576 bytes.
-    ensures { IfOk result (λ judged. IsJudged text.now allowances.now asked judged.outcome judged.text.items) }
+    ensures { IfOk result
+        (λ judged. IsJudged base.now text.now allowances.now asked judged.outcome judged.text.items) }
 {
-    let base = Server::new(alloc);
-    judge_text_from(alloc, &base, text, allowances, asked, progress)
+    let report = report_on(alloc, base, text, allowances, asked, progress)?;
+    Ok(Judged {
+        outcome: report.outcome(),
+        text: text_in(alloc, asked.form, &report)?,
+    })
 }

@@ -1,40 +1,27 @@
 //! What holds of all records: laws, stated as contracts of functions that do nothing.
-ghost use Rattle.std.specs.Prelude.{◌≡◌, ◌≢◌, ℕ, List, []};
+ghost use Rattle.std.specs.Prelude.{◌≡◌, ℕ, Bool, List, []};
 ghost use Rattle.xa_server.specs.State.{State};
 ghost use Rattle.xa_judge.specs.declared.{event.Event.Event, moves.Move.Move, request.Request.Request};
 ghost use Rattle.xa_judge.specs.Explained.{Config, opening_config, LeadsThrough, next_state};
 ghost use Rattle.xa_lines.specs.{Script.{line_of, lines_of}, Transcript.{answer_of, state_after_line}};
-ghost use Rattle.xa_record.specs.declared.{allowance.Allowance.Allowance, line_fault.LineFault.LineFault};
+ghost use Rattle.xa_record.specs.declared.allowance.Allowance.{Allowance};
 ghost use Rattle.xa_record.specs.{Events.AreEvents, VerdictText.{order_text, no_calls}};
 ghost use Rattle.xa_record.specs.Replaying.{order_lines, joined, GivesRequest, AnswersSo, AreEffects, AreWellCalled};
-ghost use Rattle.xa_record.specs.{Reading.{NumberedEvent, fault_text, notes_of}, Records.{Tells, HasFault, Begins}};
+ghost use Rattle.xa_record.specs.{Reading.{NumberedEvent, notes_by, notes_of}, Records.Tells};
 
-/// States that a record without a faulty line is read as its lines tell by the rules, and that lines that tell events
-/// by the rules have no fault and are read as these. Texts of calls aren't tested. Does nothing when it is called.
+/// States that a record without a faulty line is read as its lines tell by the rules. If texts of calls aren't tested,
+/// lines that tell events by the rules have no fault and are read as these. Does nothing when it is called.
 ///
 /// Takes no memory. Doesn't wait. Own rule: docs/HISTORIES.md#records.
 pub fn lines_tell_what_is_read()
     // Proved (records, lines-tell): What is read of a record without a faulty line is what its lines tell by
-    //   rules, one for each kind of line. If these rules let lines tell something, none is faulty, and that
-    //   is what is read.
-    ensures told { (text : List ℕ) → (notes_of text).faults ≡ [] → Tells (lines_of text) (notes_of text).told }
+    //   rules, one for each kind of line. If these rules let lines tell something, and texts of calls aren't
+    //   tested, none is faulty, and that is what is read.
+    ensures told { (strict : Bool) (text : List ℕ) → (notes_by strict text).faults ≡ []
+        → Tells (lines_of text) (notes_by strict text).told }
     // Proved (records, lines-tell)
     ensures only { (text : List ℕ) (list : List NumberedEvent) → Tells (lines_of text) list
         → ((notes_of text).faults ≡ []) × (list ≡ (notes_of text).told) }
-{}
-
-/// States that one line of a record with faulty lines is the first faulty one by the rules, for one cause,
-/// and is written first. Texts of calls aren't tested. Does nothing when it is called.
-///
-/// Takes no memory. Doesn't wait. Own rule: docs/HISTORIES.md#records.
-pub fn first_fault_is_written_first()
-    // Proved (records, first-fault): If a record has faulty lines, one is the first by rules, one for each
-    //   kind of fault. What is written begins with its number and its cause.
-    ensures found { (text : List ℕ) → (notes_of text).faults ≢ []
-        → (number : ℕ) × (fault : LineFault) × HasFault (lines_of text) number fault }
-    // Proved (records, first-fault)
-    ensures first { (text : List ℕ) (number : ℕ) (fault : LineFault) → HasFault (lines_of text) number fault
-        → Begins (notes_of text).faults (fault_text number fault) }
 {}
 
 /// States that the order that is written for a legal record is a script that gives the answers of that order.

@@ -1,10 +1,10 @@
 //! Records of what clients of a server saw, as texts: read, judged by `xa_judge`, and the verdict written.
 //!
 //! `judge_text` judges the text of a record. `judge_record` reads it from a reader, and writes the verdict to a writer.
-//! `judge_text_from` and `judge_record_from` begin with a given store. `read_allowances` reads known differences
-//! between a server and the rules. `wanted_in` and `row_wanted_in` tell what has to come in a faulty line. Read
-//! docs/HISTORIES.md#records, then `specs/Judged.antt`, `specs/Reading.antt` and `src/judging.rt`.
-//! `specs/Records.antt` has the rules of reading without its order.
+//! Both begin with a given store. `read_allowances` reads known differences between a server and the rules. `wanted_in`
+//! and `row_wanted_in` tell what has to come in a faulty line. Read docs/HISTORIES.md#records, then
+//! `specs/Judged.antt`, `specs/Reading.antt` and `src/judging.rt`. `specs/Records.antt` has the rules of reading
+//! without its order.
 //!
 //! `read_state` reads the state that a record begins with: a listing as `show` prints it, with every row that has a
 //! value and no other. Each line becomes statements, which a server that holds nothing carries out: rows first, then
@@ -72,11 +72,11 @@ pub use allowance::Allowance;
 pub use allowances::read_allowances;
 pub use asked::Asked;
 pub use form::Form;
-pub use judging::{Judged, judge_text, judge_text_from};
+pub use judging::{Judged, judge_text};
 pub use line_wanted::{LineGap, LineWanted, wanted_in};
 pub use outcome::Outcome;
 pub use row_wanted::row_wanted_in;
-pub use run::{judge_record, judge_record_from};
+pub use run::judge_record;
 pub use state_fault::StateFault;
 pub use state_reading::read_state;
 pub use statement_kind::StatementKind;

@@ -2,7 +2,7 @@
 ghost use Rattle.std.specs.Prelude.{◌≡◌, IfOk, map};
 ghost use Rattle.xa_judge.specs.Verdicts.{IsVerdict, IsRefuted};
 ghost use Rattle.xa_lines.specs.Script.{lines_of};
-ghost use Rattle.xa_record.specs.{Events.AreCalls, Kept.{report_kept, grounds_kept}, Reading.notes_of};
+ghost use Rattle.xa_record.specs.{Events.AreCalls, Kept.{report_kept, grounds_kept}, Reading.notes_by};
 ghost use Rattle.xa_record.specs.Reports.{IsReportOf, AreGrounds};
 ghost use Rattle.xa_record.specs.VerdictText.{answer_text as text_of_answer, texts_of};
 
@@ -71,13 +71,13 @@ fn grounds_for<P: Progress>(
     place: usize,
     progress: &mut P,
 ) -> Result<Grounds, NoMemory>
-    requires are { AreCalls (notes_of text.now).told events.now }
+    requires are { AreCalls (notes_by asked.strict_calls text.now).told events.now }
     requires refuted { IsRefuted base.now events.now place }
     ensures { IfOk result
-        (λ grounds. AreGrounds base.now allowances.now (lines_of text.now) asked (notes_of text.now).told events.now
-        place (grounds_kept grounds)) }
+        (λ grounds. AreGrounds base.now allowances.now (lines_of text.now) asked
+        (notes_by asked.strict_calls text.now).told events.now place (grounds_kept grounds)) }
 {
-    let exchange = exchange_for(alloc, asked.explains, text, events, place)?;
+    let exchange = exchange_for(alloc, asked, text, events, place)?;
     let reason = reason_for(alloc, base, asked, text, events, place, progress)?;
     let smaller = smaller_for(alloc, base, asked, allowances, text, place)?;
     Ok(Grounds {
@@ -100,15 +100,15 @@ pub fn report_of<P: Progress>(
     verdict: &Verdict,
     progress: &mut P,
 ) -> Result<Report, NoMemory>
-    requires are { AreCalls (notes_of text.now).told events.now }
+    requires are { AreCalls (notes_by asked.strict_calls text.now).told events.now }
     requires right { IsVerdict base.now events.now asked.limit verdict.now }
     ensures { IfOk result
-        (λ report. IsReportOf base.now allowances.now (lines_of text.now) asked (notes_of text.now).told events.now
-        verdict.now (report_kept report)) }
+        (λ report. IsReportOf base.now allowances.now (lines_of text.now) asked
+        (notes_by asked.strict_calls text.now).told events.now verdict.now (report_kept report)) }
 {
     match verdict {
         Verdict::Legal(moves) => {
-            let order = order_in(alloc, text, events, moves.as_slice())?;
+            let order = order_in(alloc, asked.strict_calls, text, events, moves.as_slice())?;
             Ok(Report::Legal(order))
         }
         Verdict::Illegal(place, answers) => {
@@ -116,9 +116,14 @@ pub fn report_of<P: Progress>(
             let grounds = grounds_for(
                 alloc, base, asked, allowances, text, events, *place, progress,
             )?;
-            let number = number_in(alloc, text, *place)?;
+            let number = number_in(alloc, asked.strict_calls, text, *place)?;
             Ok(Report::Illegal(number, texts, grounds))
         }
-        Verdict::Undecided(place) => Ok(Report::Undecided(number_in(alloc, text, *place)?)),
+        Verdict::Undecided(place) => Ok(Report::Undecided(number_in(
+            alloc,
+            asked.strict_calls,
+            text,
+            *place,
+        )?)),
     }
 }

@@ -132,7 +132,7 @@ fn smallest_of(
     ensures { IfOk result (λ found. IsSmallerIfSome base.now allowances.now asked (lines_of text.now)
         (option_map (λ written. written.items) found)) }
 {
-    let numbered = numbered_in(alloc, text)?;
+    let numbered = numbered_in(alloc, asked.strict_calls, text)?;
     let mut cuts = Cuts::of(alloc, text, numbered.as_slice(), place)?;
     smallest_by(alloc, base, allowances, asked, text, &mut cuts)
 }

@@ -4,7 +4,7 @@ use Rattle.std.specs.{Prelude.{IfSome, IfOk, IfErr}, Io.KnownBytes.{Consumes, Is
 use Rattle.xa_lines.specs.{declared.script_fault.ScriptFault.ScriptFault, Transcript.IsOfReading}
 use Rattle.xa_server.specs.State.{State}
 use Rattle.xa_record.specs.declared.{allowance.Allowance.Allowance, asked.Asked.Asked}
-use Rattle.xa_record.specs.Judged.{AppendsJudgedFrom, AppendsJudgedPrefix, AfterJudgeFaultFrom}
+use Rattle.xa_record.specs.Judged.{AppendsJudged, AppendsJudgedPrefix, AfterJudgeFault}
 use Rattle.xa_script.{specs.Status.AppendsVerdict, proofs.{Allowed.read_whole, Audited.kept_all}}
 
 -- if a reader gave these bytes and is at its end, `input`, which had the same bytes, has these and no more
@@ -22,15 +22,15 @@ judged_whole base allowances asked (Err fault) given input rest old new read end
 judged_whole base allowances asked (Ok status) given input rest old new read end verdict = (
   verdict.0,
   verdict.1,
-  read_whole (λ text. AppendsJudgedFrom base allowances asked verdict.0 text old new) input rest given read end
+  read_whole (λ text. AppendsJudged base allowances asked verdict.0 text old new) input rest given read end
       verdict.2,
 )
 
 -- what a fault of judging the bytes that were read up to the end leaves, it leaves of all that the reader had
 pub faulted_whole : (base : State) (allowances : List Allowance) (asked : Asked) (result : Result ℕ ScriptFault)
     (given : List ℕ) (input rest old new : Option (List ℕ)) → Consumes input rest given → IsAtEnd rest
-    → IfErr result (λ fault. AfterJudgeFaultFrom base allowances asked fault (Some given) old new)
-    → IfErr result (λ fault. AfterJudgeFaultFrom base allowances asked fault input old new)
+    → IfErr result (λ fault. AfterJudgeFault base allowances asked fault (Some given) old new)
+    → IfErr result (λ fault. AfterJudgeFault base allowances asked fault input old new)
 faulted_whole base allowances asked (Ok status) given input rest old new read end left = tt
 faulted_whole base allowances asked (Err ScriptFault.Read) given input rest old new read end left = left
 faulted_whole base allowances asked (Err ScriptFault.TooLong) given input rest old new read end left = left
@@ -41,10 +41,10 @@ faulted_whole base allowances asked (Err ScriptFault.Full) given input rest old 
 faulted_whole base allowances asked (Err ScriptFault.GateShut) given input rest old new read end left = left
 faulted_whole base allowances asked (Err ScriptFault.ThreadRefused) given input rest old new read end left = left
 
--- a writer that is as it was is what a fault of reading leaves (`AfterJudgeFaultFrom`)
+-- a writer that is as it was is what a fault of reading leaves (`AfterJudgeFault`)
 pub unread : (base : State) (allowances : List Allowance) (asked : Asked) (fault : ScriptFault)
     (input contents : Option (List ℕ)) → IsOfReading fault
-    → AfterJudgeFaultFrom base allowances asked fault input contents contents
+    → AfterJudgeFault base allowances asked fault input contents contents
 unread base allowances asked ScriptFault.Read input contents of = kept_all contents
 unread base allowances asked ScriptFault.TooLong input contents of = kept_all contents
 unread base allowances asked ScriptFault.NoMemory input contents of = kept_all contents

@@ -12,7 +12,7 @@ use Rattle.xa_lines.specs.{Uncommented.uncommented, Writing.{AppendsObjects, Aft
 use Rattle.xa_races.specs.Came.{AfterRunsFault}
 use Rattle.xa_orders.specs.Scripts.{AfterExploreFault}
 use Rattle.xa_manager.specs.Scripts.{AfterStopsFault}
-use Rattle.xa_record.specs.{Judged.AfterJudgeFaultFrom, declared.{allowance.Allowance.Allowance, asked.Asked.Asked}}
+use Rattle.xa_record.specs.{Judged.AfterJudgeFault, declared.{allowance.Allowance.Allowance, asked.Asked.Asked}}
 use Rattle.xa_audit.specs.declared.form.Form.{Form as AuditForm}
 use Rattle.xa_script.specs.{declared.command.Job.Job, Status.{AppendsVerdict, AppendsOutcomes, AppendsRaceBy}}
 use Rattle.xa_script.specs.Status.{AppendsCame, AppendsStopped, AppendsAuditBy, AfterAuditing, asked_of, end_of}
@@ -64,7 +64,7 @@ HasRacedAll json renews capacity (Some runs) input old new done = HasCame json r
 abbrev pub HasJudged : State → List Allowance → Asked → (input old new : Option (List ℕ)) → End → Type 0
 HasJudged base allowances asked input old new done =
     MatchResult done (λ status. AppendsVerdict base allowances asked status input old new)
-    (λ fault. AfterJudgeFaultFrom base allowances asked fault input old new)
+    (λ fault. AfterJudgeFault base allowances asked fault input old new)
 
 -- what a fault of exploring leaves in the writer, with `--json` and without
 abbrev pub AfterExploring : (json : Bool) → (limit : ℕ) → ScriptFault → (input old new : Option (List ℕ)) → Type 0

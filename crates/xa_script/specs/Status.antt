@@ -6,7 +6,7 @@ use Rattle.xa_audit.specs.declared.form.Form.{Form as AuditForm}
 use Rattle.xa_races.specs.{Outcome.AppendsRace, Came.AppendsRuns}
 use Rattle.xa_lines.specs.declared.script_fault.ScriptFault.{ScriptFault}
 use Rattle.xa_orders.specs.{Scripts.AppendsExplored, declared.ended.Ended.Ended}
-use Rattle.xa_record.specs.{Allowances.allowances_of, Judged.AppendsJudgedFrom, declared.allowance.Allowance.Allowance}
+use Rattle.xa_record.specs.{Allowances.allowances_of, Judged.AppendsJudged, declared.allowance.Allowance.Allowance}
 use Rattle.xa_record.specs.declared.{asked.Asked.Asked, form.Form.Form, outcome.Outcome.Outcome}
 use Rattle.xa_server.specs.State.{State}
 use Rattle.xa_manager.specs.{Scripts.AppendsText, declared.stop_ended.Ended.Ended as StopsEnded}
@@ -53,7 +53,7 @@ abbrev pub AppendsVerdict : State → List Allowance → Asked → (status : ℕ
     → Option (List ℕ) → Type 0
 AppendsVerdict base allowances asked status input old new =
     (outcome : Outcome) × (status ≡ status_for outcome)
-    × IfSome input (λ text. AppendsJudgedFrom base allowances asked outcome text old new)
+    × IfSome input (λ text. AppendsJudged base allowances asked outcome text old new)
 
 -- a verdict is an object of JSON where that is asked
 abbrev pub form_of : (json : Bool) → Form

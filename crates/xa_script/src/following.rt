@@ -6,7 +6,7 @@ use std::io;
 use std::io::Read;
 use xa_judge::Silent;
 use xa_lines::split_line;
-use xa_record::{Allowance, Asked, Form, Outcome, judge_text_from};
+use xa_record::{Allowance, Asked, Form, Outcome, judge_text};
 use xa_server::Server;
 use xa_xid::NoMemory;
 
@@ -99,7 +99,7 @@ impl<'r, I: Read, R: Eprint + Alloc<A = Global>> Following<'r, I, R> {
             return Ok(false);
         };
         let alloc = self.rt.alloc();
-        let judged = judge_text_from(
+        let judged = judge_text(
             alloc,
             self.base,
             front,

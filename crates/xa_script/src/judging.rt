@@ -1,13 +1,13 @@
 //! Judges a record, and returns the exit status for how that ended.
 ghost use Rattle.std.specs.Prelude.{◌≡◌, Some, IfOk, IfErr};
-ghost use Rattle.xa_record.specs.Judged.{AfterJudgeFaultFrom};
+ghost use Rattle.xa_record.specs.Judged.{AfterJudgeFault};
 ghost use Rattle.xa_script.specs.{CommandLine.IsLimit, Status.{asked_of, form_of, status_for, AppendsVerdict}};
 
 use std::alloc::Global;
 use std::io::Write;
 use xa_judge::Progress;
 use xa_lines::{ScriptFault, write_whole};
-use xa_record::{Allowance, Asked, Form, Outcome, judge_text_from};
+use xa_record::{Allowance, Asked, Form, Outcome, judge_text};
 use xa_server::Server;
 
 /// The status of a record that some order explains.
@@ -92,10 +92,10 @@ pub fn judge_within<W: Write, P: Progress>(
         (λ status. AppendsVerdict base.now allowances.now asked status (Some text.now)
         (W.contents writer.old) (W.contents writer.new)) }
     ensures fault { IfErr result
-        (λ fault. AfterJudgeFaultFrom base.now allowances.now asked fault (Some text.now)
+        (λ fault. AfterJudgeFault base.now allowances.now asked fault (Some text.now)
         (W.contents writer.old) (W.contents writer.new)) }
 {
-    let judged = judge_text_from(alloc, base, text, allowances, asked, progress)?;
+    let judged = judge_text(alloc, base, text, allowances, asked, progress)?;
     write_whole(writer, judged.text.as_slice())?;
     Ok(status_of_outcome(judged.outcome))
 }

@@ -1,7 +1,7 @@
 //! Reads a record and judges it, and says so if its form isn't that of a record.
 ghost use Rattle.std.specs.{Prelude.{ℕ, Option, List, IfOk, IfErr}, Io.KnownBytes.{Consumes, IsAtEnd}};
 ghost use Rattle.xa_lines.specs.Transcript.{IsOfReading};
-ghost use Rattle.xa_record.specs.Judged.{AfterJudgeFaultFrom};
+ghost use Rattle.xa_record.specs.Judged.{AfterJudgeFault};
 ghost use Rattle.xa_script.specs.{CommandLine.IsLimit, Status.AppendsVerdict};
 
 use crate::following::Following;
@@ -80,7 +80,7 @@ pub fn judge_read<I: Read, W: Write, R: Eprint + Alloc<A = Global>, P: Progress>
         (λ status. AppendsVerdict base.now allowances.now asked status (I.remaining reader.old)
         (W.contents writer.old) (W.contents writer.new)) }
     ensures fault { IfErr result
-        (λ fault. AfterJudgeFaultFrom base.now allowances.now asked fault (I.remaining reader.old)
+        (λ fault. AfterJudgeFault base.now allowances.now asked fault (I.remaining reader.old)
         (W.contents writer.old) (W.contents writer.new)) }
 {
     let record_read = record_in(rt, base, reader, name, allowances, asked, follows)?;

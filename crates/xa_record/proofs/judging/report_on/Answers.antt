@@ -1,49 +1,44 @@
-use Rattle.std.proofs.Common.{◌≡◌, ◌==◌, false, [], IfOk, List, length, map, ap, sym, ◌∙◌, subst, arith}
+use Rattle.std.proofs.Common.{◌≡◌, ◌==◌, false, [], IfOk, List, length, ap, sym, ◌∙◌, subst, arith}
 use Rattle.std.proofs.lemmas.Grind.{common_steps}
 use Rattle.xa_judge.specs.declared.event.Event.{Event}
 use Rattle.xa_lines.specs.Script.{lines_of}
-use Rattle.xa_record.specs.{Events.{AreEvents, AreCalls}, Judged.{IsJudgement, IsReportedOfNotes}}
-use Rattle.xa_record.specs.{Kept.{numbered_kept, report_kept}, Reading.{NumberedEvent, Notes, notes_of}}
-use Rattle.xa_record.proofs.{BareTexts.notes-bare, Reported.{reported, no_fault}, StrictNotes.{told-same, clean-too}}
+use Rattle.xa_record.specs.{Events.{AreEvents, AreCalls}, Judged.{IsJudgement, IsReportedOf}}
+use Rattle.xa_record.specs.{Kept.report_kept, Reading.{NumberedEvent, Notes, notes_by}}
+use Rattle.xa_record.proofs.{BareTexts.notes-bare, Reported.{reported, no_fault}}
 use Rattle.xa_record.proofs.judging.report_on.Goals as goal
 
 pub returns : goal.returns
 returns g c =
     let notes = c.in_ok-notes.notes in
     let same = c.in_ok-notes.ensures in
-    let told = (notes_of c.args.text.now).told in
-    let told_is : map numbered_kept notes.numbered.items ≡ told =
-    ap (λ (n : Notes). n.told) same ∙ told-same c.args.asked.strict_calls c.args.text.now in
     let none : notes.faults.items ≡ [] = no_fault notes.faults.items (grind (arith, common_steps)) in
     let some : (length notes.numbered.items == 0) ≡ false = grind (arith, common_steps) in
     let lines = lines_of c.args.text.now in
     subst (λ (n : Notes). IfOk c.verdict_on.result
-    (λ report. IsReportedOfNotes c.args.base.now c.args.allowances.now lines n c.args.asked (report_kept report))) same
+    (λ report. IsReportedOf c.args.base.now c.args.allowances.now lines n c.args.asked (report_kept report))) same
     (reported c.verdict_on.result c.args.base.now c.args.allowances.now lines notes.faults.items notes.numbered.items
     c.args.asked none some
-    (subst (λ (l : List NumberedEvent). IfOk c.verdict_on.result
-    (λ report. IsJudgement c.args.base.now c.args.allowances.now lines l c.args.asked (report_kept report)))
-    (sym told_is) c.verdict_on.ensures))
+    (subst (λ (n : Notes). IfOk c.verdict_on.result
+    (λ report. IsJudgement c.args.base.now c.args.allowances.now lines n.told c.args.asked (report_kept report)))
+    (sym same) c.verdict_on.ensures))
 
 pub verdict_on-requires-clause-are : goal.verdict_on-requires-clause-are
 verdict_on-requires-clause-are g c =
-    let told_is =
-    ap (λ (n : Notes). n.told) c.in_ok-notes.ensures ∙ told-same c.args.asked.strict_calls c.args.text.now in
-    subst (λ (l : List Event). AreEvents c.args.allowances.now (notes_of c.args.text.now).told l)
-    (sym c.as_slice.ensures.value)
-    (subst (λ (l : List NumberedEvent). AreEvents c.args.allowances.now l c.in_ok-events.events.items) told_is
+    subst (λ (l : List Event). AreEvents c.args.allowances.now
+    (notes_by c.args.asked.strict_calls c.args.text.now).told l) (sym c.as_slice.ensures.value)
+    (subst (λ (n : Notes). AreEvents c.args.allowances.now n.told c.in_ok-events.events.items) c.in_ok-notes.ensures
     c.in_ok-events.ensures.are)
 
 pub verdict_on-requires-clause-calls : goal.verdict_on-requires-clause-calls
 verdict_on-requires-clause-calls g c =
-    let told_is =
-    ap (λ (n : Notes). n.told) c.in_ok-notes.ensures ∙ told-same c.args.asked.strict_calls c.args.text.now in
-    subst (λ (l : List Event). AreCalls (notes_of c.args.text.now).told l) (sym c.as_slice.ensures.value)
-    (subst (λ (l : List NumberedEvent). AreCalls l c.in_ok-events.events.items) told_is c.in_ok-events.ensures.calls)
+    subst (λ (l : List Event). AreCalls (notes_by c.args.asked.strict_calls c.args.text.now).told l)
+    (sym c.as_slice.ensures.value)
+    (subst (λ (n : Notes). AreCalls n.told c.in_ok-events.events.items) c.in_ok-notes.ensures
+    c.in_ok-events.ensures.calls)
 
 pub verdict_on-requires-clause-bare : goal.verdict_on-requires-clause-bare
 verdict_on-requires-clause-bare g c =
     let notes = c.in_ok-notes.notes in
     let none : notes.faults.items ≡ [] = no_fault notes.faults.items (grind (arith, common_steps)) in
-    notes-bare c.args.text.now (clean-too c.args.asked.strict_calls c.args.text.now
-    (ap (λ (n : Notes). n.faults) (sym c.in_ok-notes.ensures) ∙ none))
+    notes-bare c.args.asked.strict_calls c.args.text.now
+    (ap (λ (n : Notes). n.faults) (sym c.in_ok-notes.ensures) ∙ none)

@@ -1,4 +1,4 @@
-use Rattle.xa_record.proofs.TextsTold.{text-tells, text-told}
+use Rattle.xa_record.proofs.{RecordLines.text-tells, RecordReads.text-told}
 use Rattle.xa_record.proofs.laws.lines_tell_what_is_read.Goals as goal
 
 pub returns-clause-told : goal.returns-clause-told

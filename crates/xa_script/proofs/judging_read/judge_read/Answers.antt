@@ -1,5 +1,5 @@
 use Rattle.std.{proofs.Common.{subst, Some, List, ℕ}, specs.Prelude.{IfOk, IfErr}}
-use Rattle.xa_record.specs.Judged.{AfterJudgeFaultFrom}
+use Rattle.xa_record.specs.Judged.{AfterJudgeFault}
 use Rattle.xa_script.{specs.Status.AppendsVerdict, proofs.RecordsRead.{judged_whole, faulted_whole}}
 use Rattle.xa_script.proofs.judging_read.judge_read.Goals as goal
 
@@ -17,7 +17,7 @@ pub returns-clause-fault : goal.returns-clause-fault
 returns-clause-fault g c =
     let record_read = c.in_ok-record_read.record_read in
     let left = subst (λ (text : List ℕ). IfErr c.judge_within.result
-    (λ fault. AfterJudgeFaultFrom c.args.base.now c.args.allowances.now c.args.asked fault (Some text)
+    (λ fault. AfterJudgeFault c.args.base.now c.args.allowances.now c.args.asked fault (Some text)
     (g.W.Write.contents c.args.writer.now) (g.W.Write.contents c.judge_within.new.writer)))
     c.as_slice-record.ensures.value c.judge_within.ensures.fault in
     faulted_whole c.args.base.now c.args.allowances.now c.args.asked c.judge_within.result record_read.items _ _ _ _
