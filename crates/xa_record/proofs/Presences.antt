@@ -8,14 +8,14 @@ use Rattle.xa_record.specs.Reading.{NumberedEvent, session_of, presence_after, c
 use Rattle.xa_record.specs.Records.{presence_then, presence_from, presence_in, cause_next, Fits}
 
 -- after an element was set, it is what was set
-pub set_same : {A : Type 0} (xs : List A) (place : ℕ) (x : A) → place < length xs
+set_same : {A : Type 0} (xs : List A) (place : ℕ) (x : A) → place < length xs
     → slice_get (slice_set xs place x) place ≡ Some x
 set_same [] place x below = absurd (omega arith)
 set_same (y ∷ ys) zero x below = refl
 set_same (y ∷ ys) (suc place) x below = set_same ys place x (omega arith)
 
 -- setting one element of a list leaves the others
-pub set_other : {A : Type 0} (xs : List A) (place other : ℕ) (x : A) → other ≢ place
+set_other : {A : Type 0} (xs : List A) (place other : ℕ) (x : A) → other ≢ place
     → slice_get (slice_set xs place x) other ≡ slice_get xs other
 set_other [] place other x apart = refl
 set_other (y ∷ ys) zero zero x apart = absurd (apart refl)
@@ -24,17 +24,17 @@ set_other (y ∷ ys) (suc place) zero x apart = refl
 set_other (y ∷ ys) (suc place) (suc other) x apart = set_other ys place other x (λ same. apart (ap suc same))
 
 -- each element of a repeated one is that one
-pub replicated : {A : Type 0} (count place : ℕ) (x : A) → place < count → slice_get (replicate count x) place ≡ Some x
+replicated : {A : Type 0} (count place : ℕ) (x : A) → place < count → slice_get (replicate count x) place ≡ Some x
 replicated zero place x within = absurd (omega arith)
 replicated (suc count) zero x within = refl
 replicated (suc count) (suc place) x within = replicated count place x (omega arith)
 
 -- numbers that test as equal are equal
-pub tested : (m n : ℕ) → (m == n) ≡ true → m ≡ n
+tested : (m n : ℕ) → (m == n) ≡ true → m ≡ n
 tested m n is = grind (arith, nat_tests)
 
 -- numbers that test as unequal are different
-pub apart_test : (m n : ℕ) → (m == n) ≡ false → m ≢ n
+apart_test : (m n : ℕ) → (m == n) ≡ false → m ≢ n
 apart_test m n is = grind (arith, nat_tests)
 
 -- a session whose client has gone stays lost, whatever else is said
@@ -49,7 +49,7 @@ lost-stays session (one ∷ more) = by (session_of one.told == session) (lost-st
     by false later = later
 
 -- a session's presence after two lists of events is the one after the second, begun with what the first leaves
-pub from-append : (session : ℕ) (presence : Presence) (xs ys : List NumberedEvent)
+from-append : (session : ℕ) (presence : Presence) (xs ys : List NumberedEvent)
     → presence_from session presence (xs ++ ys) ≡ presence_from session (presence_from session presence xs) ys
 unfolding presence_from
 from-append session presence [] ys = refl
@@ -78,7 +78,7 @@ unfolding presence_from
 none-from session presence = refl
 
 -- an event that can happen leaves its session as `presence_after` says
-pub then-after : (presence : Presence) (told : Told) → cause_of (Some presence) told ≡ None
+then-after : (presence : Presence) (told : Told) → cause_of (Some presence) told ≡ None
     → presence_then presence told ≡ presence_after told
 then-after Idle told fits = refl
 then-after Open told fits = refl

@@ -1,6 +1,6 @@
 -- What is told of a record of which no line is faulty.
-use Rattle.std.proofs.Common.{◌≡◌, ℕ, ◌==◌, true, false, Result, Ok, Err, IfOk, List, [], ◌∷◌, length, map, refl, sym}
-use Rattle.std.proofs.{Common.{subst, arith}, lemmas.{List.Elements.recursion_from_All, Grind.common_steps}}
+use Rattle.std.proofs.Common.{◌≡◌, ℕ, ◌==◌, true, false, Result, Ok, Err, IfOk, List, [], ◌∷◌, length, map, refl}
+use Rattle.std.proofs.{Common.arith, lemmas.{List.Elements.recursion_from_All, Grind.common_steps}}
 use Rattle.std.specs.List.{All}
 use Rattle.xa_server.specs.State.{State}
 use Rattle.xa_judge.specs.{declared.{event.Event.Event, verdict.Verdict.Verdict}, Verdicts.IsVerdict}
@@ -8,7 +8,7 @@ use Rattle.xa_record.specs.declared.{allowance.Allowance.Allowance, asked.Asked.
 use Rattle.xa_record.specs.declared.line_event.NumberedEvent.{NumberedEvent as NumberedRead}
 use Rattle.xa_record.specs.{declared.report.Report.Report as ReportMade, Reading.NumberedEvent, Events.AreEvents}
 use Rattle.xa_record.specs.{Judged.{IsJudgement, IsReportedBy}, Kept.{numbered_kept, report_kept}}
-use Rattle.xa_record.specs.{Replaying.{AreBare, IsWrittenCall}, Reports.{Report, IsReportOf}}
+use Rattle.xa_record.specs.{Replaying.{AreBare, IsWrittenCall}, Reports.IsReportOf}
 use Rattle.xa_record.proofs.Replays.{bare_replayed}
 
 -- the report of a right verdict on the events that lines say is a judgement of these lines, if the texts of calls are

@@ -2,11 +2,11 @@
 -- The rules know no order of reading; Reading.antt says how lines are read one by one. Texts of calls aren't tested.
 --     EndsInReturn, HasNoReturn      the last event, if there is one, is a return to the session;  no event is
 --     presence_in, Fits   whether a session has an open call or is lost after events;  an event is possible next
-use Rattle.std.specs.Prelude.{◌≡◌, ◌⊎◌, ℕ, suc, ◌+◌, ◌==◌, ◌<◌, ◌≤◌, true, false, if◌then◌else◌, Option, Some, None}
-use Rattle.std.specs.{Prelude.{List, [], ◌∷◌, ◌++◌, length}, List.AllByRecursion}
+use Rattle.std.specs.Prelude.{◌≡◌, ◌⊎◌, ℕ, suc, ◌+◌, ◌==◌, true, false, if◌then◌else◌, Option, Some, None}
+use Rattle.std.specs.Prelude.{List, [], ◌∷◌, ◌++◌, length}
 use Rattle.xa_xid.specs.{Bytes.unblank, declared.xid.Xid.Xid}
 use Rattle.xa_record.specs.{declared.{line_fault.LineFault.LineFault, presence.Presence.Presence}, Lines.Shown}
-use Rattle.xa_record.specs.Lines.{ShowsRows, Told, Calls, Returns, ReturnsUnknown, Leaves, Nothing, Bad, Says, Awaits}
+use Rattle.xa_record.specs.Lines.{ShowsRows, Told, Calls, Returns, ReturnsUnknown, Leaves, Nothing, Says, Awaits}
 use Rattle.xa_record.specs.{Lines.{Closed, is_silent, reading_of_line}, Rows.row_said}
 use Rattle.xa_record.specs.Reading.{NumberedEvent, is_return_of, session_of, presence_after, cause_of}
 

@@ -3,7 +3,7 @@ use Rattle.std.proofs.lemmas.Grind.{common_steps}
 use Rattle.xa_judge.specs.declared.event.Event.{Event}
 use Rattle.xa_lines.specs.Script.{lines_of}
 use Rattle.xa_record.specs.{Events.{AreEvents, AreCalls}, Judged.{IsJudgement, IsReportedOf}}
-use Rattle.xa_record.specs.{Kept.report_kept, Reading.{NumberedEvent, Notes, notes_by}}
+use Rattle.xa_record.specs.{Kept.report_kept, Reading.{Notes, notes_by}}
 use Rattle.xa_record.proofs.{BareTexts.notes-bare, Reported.{reported, no_fault}}
 use Rattle.xa_record.proofs.judging.report_on.Goals as goal
 
