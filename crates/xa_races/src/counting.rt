@@ -73,7 +73,10 @@ pub(crate) fn seen_of(
         }
     }
     text.extend_from_slice(b"SEEN ")?;
-    push_number(&mut text, tallies.iter().filter(|one| one.came > 0).count() as u64)?;
+    push_number(
+        &mut text,
+        tallies.iter().filter(|one| one.came > 0).count() as u64,
+    )?;
     if is_known {
         text.extend_from_slice(b" OF ")?;
         push_number(&mut text, tallies.len() as u64)?;

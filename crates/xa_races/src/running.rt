@@ -92,14 +92,6 @@ pub fn runs_script<I: PieceReader, O: PieceWriter, G: Gate + Sync, R: Threads + 
         writer.old writer.new) }
 {
     let script = read_all(alloc, reader)?;
-    let came = runs_text(
-        rt,
-        alloc,
-        script.as_slice(),
-        capacity,
-        renews,
-        runs,
-        gate,
-    )?;
+    let came = runs_text(rt, alloc, script.as_slice(), capacity, renews, runs, gate)?;
     write_came(writer, &came)
 }

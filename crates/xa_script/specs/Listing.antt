@@ -1,10 +1,7 @@
 -- How the verdicts on several records are written, and with which status judging them ends. Every rule here is the
 -- project's own, but the form of TAP: the Test Anything Protocol, version 13.
---     worse, worst_from    the worse of two statuses;  the worst of many
---     tap_point, tap_piece      a record as a test of TAP, without notes and with them
---     piece, pieces        what is written for one of several records;  for many
-use Rattle.std.specs.Prelude.{◌==◌, ◌+◌, ◌++◌, ◌∷◌, [], ◌||◌, if◌then◌else◌, nat_lt, ℕ, Bool, true, false, List, Option}
-use Rattle.std.specs.Prelude.{Some, None, codes, decimal}
+use Rattle.std.specs.Prelude.{◌==◌, ◌+◌, ◌++◌, ◌∷◌, [], ◌||◌, if◌then◌else◌, nat_lt, ℕ, Bool, true, false, List}
+use Rattle.std.specs.Prelude.{codes, decimal}
 use Rattle.xa_lines.specs.Script.{lines_of}
 
 -- the worse of two statuses: the least that isn't 0, or 0 if both are. ILLEGAL goes before UNDECIDED, then faulty
@@ -84,8 +81,3 @@ heading false count = []
 -- verdicts are listed where there are several records, or TAP is asked for
 abbrev pub is_list : (tap : Bool) → (count : ℕ) → Bool
 is_list tap count = tap || nat_lt 1 count
-
--- the name of a record, if there is only one
-abbrev pub only_of : List (List ℕ) → Option (List ℕ)
-only_of (name ∷ []) = Some name
-only_of names = None

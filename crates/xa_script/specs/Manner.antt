@@ -1,13 +1,10 @@
 -- What a command line asks for.
---     AreHistories, AreRecords      the files that they name, and how verdicts are listed
---     IsLine, Says      all that was found for a subcommand;  all that the words say
-use Rattle.std.specs.Prelude.{◌≡◌, ◌≢◌, ◌<◌, ◌⊎◌, Option, None, List, [], codes, length, map, unwrap_or, Result}
+use Rattle.std.specs.Prelude.{◌≡◌, ◌≢◌, ◌<◌, ◌⊎◌, ℕ, None, List, [], codes, length, map, unwrap_or, Result}
 use Rattle.std.specs.{Prelude.MatchResult, Option.{IsSomeAnd, option_map}}
 use Rattle.clap.specs.Words.{HasKind, Row, Text, all_of, fault_of, first_of, one_of, subcommand_of}
 use Rattle.clap.specs.declared.error.Error.{Error}
 use Rattle.xa_script.specs.{CommandLine.{IsFlagOf, IsJob, Names, script_app}, declared.command.Job.Job}
-use Rattle.xa_script.specs.declared.{command_line.CommandLine.CommandLine, histories.Histories.Histories}
-use Rattle.xa_script.specs.declared.{manner.Manner.Manner, records.Records.Records}
+use Rattle.xa_script.specs.declared.{command_line.CommandLine.CommandLine, manner.Manner.Manner}
 
 -- each file is the value of its option, and each flag is as its option says
 abbrev pub IsManner : List Row → Manner → Type 0
@@ -18,33 +15,28 @@ IsManner rows manner =
     × IsFlagOf (one_of (codes "verbose") rows) manner.verbose
     × IsFlagOf (one_of (codes "strict") rows) manner.strict × IsFlagOf (one_of (codes "text") rows) manner.text
     × IsFlagOf (one_of (codes "quiet") rows) manner.quiet × IsFlagOf (one_of (codes "json") rows) manner.json
-    × IsFlagOf (one_of (codes "follow") rows) manner.follow
+    × IsFlagOf (one_of (codes "follow") rows) manner.follow × IsFlagOf (one_of (codes "tap") rows) manner.tap
 
--- the names are all values of `HISTORY..`, in their order; none, for a job that has no such argument
-abbrev pub AreHistories : List Row → Histories → Type 0
-AreHistories rows histories = map (λ name. name.now) histories.names.items ≡ unwrap_or (all_of (codes "history") rows) []
-
--- the names are all values of `RECORD..`, in their order (none if there are none, as for a job that has no such
--- argument), and TAP is as its option says
-abbrev pub AreRecords : List Row → Records → Type 0
-AreRecords rows records = (map (λ name. name.now) records.names.items ≡ unwrap_or (all_of (codes "record") rows) [])
-    × IsFlagOf (one_of (codes "tap") rows) records.tap
-
--- what was found for a subcommand is this job, done in this manner, over these files
+-- what was found for a subcommand is this job, done in this manner; the names are all values of `HISTORY..` or
+-- `RECORD..`, in their order, and none for a job that has no such argument
 pub record IsLine (line : CommandLine) (found : Text × List Row) : Type 0 where
   pub job : IsJob line.job found
   pub manner : IsManner found.1 line.manner
-  pub histories : AreHistories found.1 line.histories
-  pub records : AreRecords found.1 line.records
+  pub names : map (λ name. name.now) line.names.items ≡ unwrap_or (all_of (codes "name") found.1) []
 
 -- the words ask for this, as `clap` matches them
 abbrev pub Says : List Text → CommandLine → Type 0
 Says words line = IsSomeAnd (subcommand_of script_app words) (IsLine line)
 
--- there are more than 64 histories or 1,000 records, or a record is named beside `--file`
+-- how many names of files a job takes: an audit 64, any other 1,000
+abbrev pub most_names : Job → ℕ
+most_names Job.Audit = 64
+most_names job = 1000
+
+-- there are more histories or records than that, or one is named beside `--file`
 abbrev pub HasExcess : CommandLine → Type 0
-HasExcess line = (64 < length line.histories.names.items) ⊎ (1000 < length line.records.names.items)
-    ⊎ ((line.records.names.items ≢ []) × (line.manner.file ≢ None))
+HasExcess line = (most_names line.job < length line.names.items)
+    ⊎ ((line.names.items ≢ []) × (line.manner.file ≢ None))
 
 -- a command line is read only if `clap` finds no fault in it. Else the error has the kind of its fault, or memory ran
 -- out; or the words name no job, or files that it doesn't take

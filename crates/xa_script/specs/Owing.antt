@@ -1,5 +1,4 @@
 -- What a writer of texts has written, and has still to write.
---     Ends, Comes, Passes     bytes end a line;  come after those of a line;  pass unchanged
 use Rattle.std.specs.Prelude.{◌≡◌, ◌≤◌, ◌<◌, ℕ, ◌+◌, true, false, not, List, [], ◌++◌, ◌⊎◌, length, take, drop, Option}
 use Rattle.std.specs.Io.KnownBytes.{Appends, append_known}
 use Rattle.xa_script.specs.declared.{line_form.LineForm.LineForm, texts.Texts.Texts}

@@ -1,11 +1,12 @@
 -- What is written for several records that are judged in one call, and how that ends.
-use Rattle.std.specs.Prelude.{◌≡◌, ◌+◌, ◌++◌, ◌∷◌, [], ℕ, Bool, Option, Some, None, List, length, map, IfSome}
+use Rattle.std.specs.Prelude.{◌≡◌, ◌+◌, ◌++◌, ◌∷◌, [], if◌then◌else◌, ℕ, Bool, Option, Some, None, List, length, map, IfSome}
 use Rattle.std.specs.Io.KnownBytes.{Keeps, Appends}
 use Rattle.xa_lines.specs.{Transcript.AppendsPrefix, declared.script_fault.ScriptFault.{ScriptFault, TheVariants.Write}}
 use Rattle.xa_server.specs.State.{State}
 use Rattle.xa_record.specs.declared.{allowance.Allowance.Allowance, asked.Asked.Asked}
-use Rattle.xa_script.specs.{Listing.{worse, worst_from, piece, pieces, heading}, declared.listed.Listed.Listed}
-use Rattle.xa_script.specs.{Status.{AppendsVerdict, asked_of, strict_status}, declared.command.Job.Job}
+use Rattle.xa_script.specs.{Listing.{worse, worst_from, piece, pieces, heading, is_list}, declared.listed.Listed.Listed}
+use Rattle.xa_script.specs.Status.{AppendsVerdict, asked_of, strict_status}
+use Rattle.xa_script.specs.declared.{command.Job.Job, command_line.CommandLine.CommandLine}
 
 -- a status and a text are what judging this record alone comes to
 abbrev pub IsVerdictOn : State → List Allowance → Asked → (seen : List ℕ) → ℕ × List ℕ → Type 0
@@ -65,6 +66,11 @@ AfterListing base allowances asked tap names records Write old new =
 AfterListing base allowances asked tap names records fault old new = Keeps old new
 
 -- what is asked of judging, if the job is to judge
-abbrev pub judging_asked : Job → Option Asked
-judging_asked (Job.Judge limit explain json strict shrink) = Some (asked_of limit explain json strict shrink)
-judging_asked job = None
+abbrev pub judging_asked : (json : Bool) → Job → Option Asked
+judging_asked json (Job.Judge limit explain strict shrink) = Some (asked_of limit explain json strict shrink)
+judging_asked json job = None
+
+-- what is asked of judging, if verdicts are listed: several records are named, or TAP is asked for
+abbrev pub listing_asked : CommandLine → Option Asked
+listing_asked line =
+    if is_list line.manner.tap (length line.names.items) then judging_asked line.manner.json line.job else None

@@ -60,13 +60,12 @@ abbrev pub rows_in_verdict : List ℕ → ℕ
 rows_in_verdict line =
     if could_be line then rows_of (drop 9 line) else (if was_seen line then rows_of (seen_reply line) else 0)
 
--- how many rows a line says that the next lines are. An answer's reply comes after its session and its place; objects
--- and the lines of TAP have no rows
+-- how many rows a line says that the next lines are. An answer's reply comes after its session and its place; the lines
+-- of TAP have no rows
 abbrev pub rows_after : LineForm → (line : List ℕ) → ℕ
 rows_after LineForm.Answers line = rows_of (past_number (past_number line))
 rows_after LineForm.Shown line = rows_of (past_number (past_number line))
 rows_after LineForm.Verdict line = rows_in_verdict line
-rows_after LineForm.Object line = 0
 rows_after LineForm.Noted line = 0
 
 -- whether the bytes of a row have room for a gtrid and bqual of these lengths; true if one of these can't be read
@@ -114,12 +113,11 @@ abbrev pub is_point_or_own : (line : List ℕ) → Bool
 is_point_or_own line = if starts_with nat_eq line (codes "# ") then is_own (drop 2 line) else true
 
 -- whether a line is written as it is: a comment where stores are shown, a client's own line of a verdict (with TAP
--- behind `# `), each line of TAP that is no comment, and each object, but no answer
+-- behind `# `), and each line of TAP that is no comment, but no answer
 abbrev pub keeps_line : LineForm → (line : List ℕ) → Bool
 keeps_line LineForm.Answers line = false
 keeps_line LineForm.Shown line = is_comment_line line
 keeps_line LineForm.Verdict line = is_own line
-keeps_line LineForm.Object line = true
 keeps_line LineForm.Noted line = is_point_or_own line
 
 -- what is written for a line that isn't a row

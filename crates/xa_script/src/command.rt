@@ -1,8 +1,7 @@
 //! The jobs, and the options of each.
-ghost use Rattle.std.specs.{Prelude.{◌≡◌, ℕ, None, IfSome, codes}, Option.IsSomeAnd};
+ghost use Rattle.std.specs.Prelude.{◌≡◌, None, IfSome, codes};
 ghost use Rattle.clap.specs.Words.{found_of, one_of, rows_of};
-ghost use Rattle.xa_script.specs.CommandLine.{CanBeDone, HasOptions, IsCapacityText, IsJob, IsLimitText, IsRunsOf};
-ghost use Rattle.xa_script.specs.CommandLine.{IsScheduleOf, IsStoresText, name_of};
+ghost use Rattle.xa_script.specs.CommandLine.{CanBeDone, IsJob, IsScheduleOf};
 
 use crate::Schedule;
 use crate::found::{flag_in, number_in};
@@ -45,8 +44,6 @@ pub enum Job {
         /// Whether what was seen and its call come with an ILLEGAL verdict, and, unless `shrink`, an order of the lines
         /// before and the store after it.
         explain: bool,
-        /// Whether the verdict is a JSON object.
-        json: bool,
         /// Whether a call that isn't a statement is a faulty line.
         strict_calls: bool,
         /// Whether a smaller record comes with an ILLEGAL verdict.
@@ -61,14 +58,9 @@ pub enum Job {
     Stops {
         /// How many stores, in `[1, 16]`.
         stores: u64,
-        /// How many entries each store has room for, in `[1, 1024]`. It has no effect.
-        capacity: u64,
     },
     /// Audits the histories that the command line names.
-    Audit {
-        /// Whether the audit is a JSON object.
-        json: bool,
-    },
+    Audit,
 }
 
 /// Returns how the sessions come to their lines. If a seed is given, `--together` changes nothing.
@@ -88,44 +80,6 @@ fn schedule_in(found: &ArgMatches<'_>) -> Schedule
     }
 }
 
-/// Returns the value of `--capacity`; None if it isn't a number from 1 to 1024.
-fn capacity_in(found: &ArgMatches<'_>) -> Option<u64>
-    ensures some { IfSome result (λ capacity. IsSomeAnd (one_of (codes "capacity") (rows_of (found_of found.now)))
-        (IsCapacityText capacity)) }
-    ensures none { result ≡ None → (capacity : ℕ)
-        → IsSomeAnd (one_of (codes "capacity") (rows_of (found_of found.now))) (IsCapacityText capacity) → ⊥ }
-{
-    number_in(found, "capacity", 1, 1024)
-}
-
-/// Returns the value of `--stores`; None if it isn't a number from 1 to 16.
-fn stores_in(found: &ArgMatches<'_>) -> Option<u64>
-    ensures some { IfSome result (λ stores. IsSomeAnd (one_of (codes "stores") (rows_of (found_of found.now)))
-        (IsStoresText stores)) }
-    ensures none { result ≡ None → (stores : ℕ) → IsSomeAnd (one_of (codes "stores") (rows_of (found_of found.now)))
-        (IsStoresText stores) → ⊥ }
-{
-    number_in(found, "stores", 1, 16)
-}
-
-/// Returns the value of `--limit`; None if it isn't a number from 1 to 1,000,000.
-fn limit_in(found: &ArgMatches<'_>) -> Option<u64>
-    ensures some { IfSome result (λ limit. IsSomeAnd (one_of (codes "limit") (rows_of (found_of found.now)))
-        (IsLimitText limit)) }
-    ensures none { result ≡ None → (limit : ℕ) → IsSomeAnd (one_of (codes "limit") (rows_of (found_of found.now)))
-        (IsLimitText limit) → ⊥ }
-{
-    number_in(found, "limit", 1, 1_000_000)
-}
-
-/// Returns the value of `--runs`; None without a number from 1 to 1,000,000.
-fn runs_in(found: &ArgMatches<'_>) -> Option<u64>
-    ensures { IsRunsOf (one_of (codes "runs") (rows_of (found_of found.now))) result }
-{
-    // The option's parser takes no number out of its range, so None means that the option isn't given.
-    number_in(found, "runs", 1, 1_000_000)
-}
-
 /// Returns the race that the options of `race` ask for; None if the capacity isn't in its range.
 fn race_in(found: &ArgMatches<'_>) -> Option<Job>
     ensures some { IfSome result (λ job. IsJob job (codes "race", rows_of (found_of found.now))) }
@@ -133,10 +87,11 @@ fn race_in(found: &ArgMatches<'_>) -> Option<Job>
     ensures done { IfSome result CanBeDone }
 {
     Some(Job::Race {
-        capacity: capacity_in(found)?,
+        capacity: number_in(found, "capacity", 1, 1024)?,
         schedule: schedule_in(found),
         renews: flag_in(found, "renew"),
-        runs: runs_in(found),
+        // The option's parser takes no number out of its range, so None means that the option isn't given.
+        runs: number_in(found, "runs", 1, 1_000_000),
     })
 }
 
@@ -147,8 +102,8 @@ fn coordinate_in(found: &ArgMatches<'_>) -> Option<Job>
     ensures done { IfSome result CanBeDone }
 {
     Some(Job::Coordinate {
-        stores: stores_in(found)?,
-        capacity: capacity_in(found)?,
+        stores: number_in(found, "stores", 1, 16)?,
+        capacity: number_in(found, "capacity", 1, 1024)?,
         fixed: flag_in(found, "fixed"),
     })
 }
@@ -159,8 +114,8 @@ fn stops_in(found: &ArgMatches<'_>) -> Option<Job>
     ensures none { result ≡ None → (job : Job) → IsJob job (codes "stops", rows_of (found_of found.now)) → ⊥ }
     ensures done { IfSome result CanBeDone }
 {
-    let (stores, capacity) = (stores_in(found)?, capacity_in(found)?);
-    Some(Job::Stops { stores, capacity })
+    let stores = number_in(found, "stores", 1, 16)?;
+    Some(Job::Stops { stores })
 }
 
 /// Returns the job that the options of `judge` ask for; None if the limit isn't in its range.
@@ -170,9 +125,8 @@ fn judge_in(found: &ArgMatches<'_>) -> Option<Job>
     ensures done { IfSome result CanBeDone }
 {
     Some(Job::Judge {
-        limit: limit_in(found)?,
+        limit: number_in(found, "limit", 1, 1_000_000)?,
         explain: flag_in(found, "explain"),
-        json: flag_in(found, "json"),
         strict_calls: flag_in(found, "strict-calls"),
         shrink: flag_in(found, "shrink"),
     })
@@ -184,18 +138,8 @@ fn explore_in(found: &ArgMatches<'_>) -> Option<Job>
     ensures none { result ≡ None → (job : Job) → IsJob job (codes "explore", rows_of (found_of found.now)) → ⊥ }
     ensures done { IfSome result CanBeDone }
 {
-    let limit = limit_in(found)?;
+    let limit = number_in(found, "limit", 1, 1_000_000)?;
     Some(Job::Explore { limit })
-}
-
-/// Returns the job that the options of `audit` ask for.
-fn audit_in(found: &ArgMatches<'_>) -> Job
-    ensures job { IsJob result (codes "audit", rows_of (found_of found.now)) }
-    ensures done { CanBeDone result }
-{
-    Job::Audit {
-        json: flag_in(found, "json"),
-    }
 }
 
 /// Returns the job of the subcommand of this name, by what was found for its options; None if there is no such job, or
@@ -224,7 +168,7 @@ pub fn job_in(name: &str, found: &ArgMatches<'_>) -> Option<Job>
     } else if name == "stops" {
         stops_in(found)
     } else if name == "audit" {
-        Some(audit_in(found))
+        Some(Job::Audit)
     } else {
         None
     }

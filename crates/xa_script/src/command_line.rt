@@ -1,25 +1,17 @@
 //! Reading the command line.
-ghost use Rattle.std.specs.{Prelude.{◌≡◌, ◌≤◌, None, IfOk, IfSome, length, map}, Option.IsSomeAnd};
-ghost use Rattle.clap.specs.Words.{app_of, found_of, rows_of, subcommand_rows_of};
+ghost use Rattle.std.specs.{Prelude.{◌≡◌, ◌≤◌, [], None, IfOk, IfSome, codes, length, map, unwrap_or}, Option.IsSomeAnd};
+ghost use Rattle.clap.specs.Words.{all_of, app_of, found_of, rows_of, subcommand_rows_of};
 ghost use Rattle.xa_script.specs.CommandLine.{script_app, CanBeDone, IsJob};
-ghost use Rattle.xa_script.specs.Manner.{AreHistories, AreRecords, HasExcess, IsLine, IsManner, ReadsLine, Says};
+ghost use Rattle.xa_script.specs.Manner.{HasExcess, IsLine, IsManner, ReadsLine, Says, most_names as most_names_of};
 
 use crate::command::{Job, job_in};
-use crate::found::{flag_in, texts_in};
-use crate::histories::Histories;
+use crate::found::texts_in;
 use crate::manner::{Manner, manner_in};
-use crate::records::Records;
 use crate::subcommands::script_command;
 use clap::error::ErrorKind;
 use clap::{ArgMatches, Command, Error};
 use std::alloc::{AllocError, Global};
 use std::convert::AsStr;
-
-/// The greatest number of histories that an audit takes (own rule: docs/COMMANDS.md#audit).
-const MOST_HISTORIES: usize = 64;
-
-/// The greatest number of records that are judged in one call (own rule: docs/COMMANDS.md#several-records).
-const MOST_RECORDS: usize = 1_000;
 
 /// What a command line asks for.
 #[derive(Drop)]
@@ -28,10 +20,25 @@ pub struct CommandLine<'a> {
     pub job: Job,
     /// How it is done.
     pub manner: Manner<'a>,
-    /// The histories of `audit`.
-    pub histories: Histories<'a>,
-    /// The records of `judge` that are named.
-    pub records: Records<'a>,
+    /// The files that are named as arguments: the histories of `audit`, that of the first store first, or the records
+    /// of `judge`.
+    pub names: Vec<&'a str>,
+}
+
+/// Returns how many names of files a job takes, and what is said of more (own rules: docs/COMMANDS.md#audit,
+/// docs/COMMANDS.md#several-records).
+fn most_names(job: Job) -> (usize, &'static str)
+    ensures { result.0 ≡ most_names_of job }
+{
+    match job {
+        Job::Audit => (64, "audit takes at most 64 histories"),
+        Job::Run | Job::Race { .. } | Job::Coordinate { .. } | Job::Serve | Job::Show => {
+            (1_000, "judge takes at most 1000 records")
+        }
+        Job::Judge { .. } | Job::Explore { .. } | Job::Stops { .. } => {
+            (1_000, "judge takes at most 1000 records")
+        }
+    }
 }
 
 impl CommandLine<'_> {
@@ -39,17 +46,14 @@ impl CommandLine<'_> {
     /// if nothing is.
     fn excess(&self) -> Option<(ErrorKind, &'static str)>
         ensures some { IfSome result (λ wrong. HasExcess self.now) }
-        ensures histories { result ≡ None → length self.now.histories.names.items ≤ 64 }
-        ensures records { result ≡ None → length self.now.records.names.items ≤ 1000 }
+        ensures names { result ≡ None → length self.now.names.items ≤ most_names_of self.now.job }
     {
-        if self.histories.names.len() > MOST_HISTORIES {
-            return Some((ErrorKind::TooManyValues, "audit takes at most 64 histories"));
+        let (most, message) = most_names(self.job);
+        if self.names.len() > most {
+            return Some((ErrorKind::TooManyValues, message));
         }
-        if self.records.names.len() > MOST_RECORDS {
-            return Some((ErrorKind::TooManyValues, "judge takes at most 1000 records"));
-        }
-        // Only `judge` takes names. Each names a file, so that of `--file` would be one more input.
-        if !self.records.names.is_empty() && self.manner.file.is_some() {
+        // Only `judge` takes names beside `--file`, which would be one more input.
+        if !self.names.is_empty() && self.manner.file.is_some() {
             let message = "judge takes records either by their names or by --file";
             return Some((ErrorKind::ArgumentConflict, message));
         }
@@ -65,19 +69,13 @@ fn line_of<'a>(
 ) -> Result<CommandLine<'a>, AllocError>
     ensures job { IfOk result (λ line. line.job ≡ job) }
     ensures manner { IfOk result (λ line. IsManner (rows_of (found_of found.now)) line.manner) }
-    ensures histories { IfOk result (λ line. AreHistories (rows_of (found_of found.now)) line.histories) }
-    ensures records { IfOk result (λ line. AreRecords (rows_of (found_of found.now)) line.records) }
+    ensures names { IfOk result (λ line. map (λ name. name.now) line.names.items
+        ≡ unwrap_or (all_of (codes "name") (rows_of (found_of found.now))) []) }
 {
     Ok(CommandLine {
         job,
         manner: manner_in(found),
-        histories: Histories {
-            names: texts_in(alloc, found, "history")?,
-        },
-        records: Records {
-            names: texts_in(alloc, found, "record")?,
-            tap: flag_in(found, "tap"),
-        },
+        names: texts_in(alloc, found, "name")?,
     })
 }
 
@@ -111,8 +109,7 @@ fn line_by<'a, S: AsStr>(
     requires { app_of command.old ≡ script_app }
     ensures says { IfOk result (Says (map S.text words.entry.now)) }
     ensures done { IfOk result (λ line. CanBeDone line.job) }
-    ensures histories { IfOk result (λ line. length line.histories.names.items ≤ 64) }
-    ensures records { IfOk result (λ line. length line.records.names.items ≤ 1000) }
+    ensures names { IfOk result (λ line. length line.names.items ≤ most_names_of line.job) }
     ensures fault { ReadsLine (map S.text words.entry.now) result }
 {
     let matches = command.try_get_matches_from_mut(words)?;
@@ -148,9 +145,7 @@ pub fn read_line<'a, S: AsStr>(alloc: Global, words: &'a [S]) -> Result<CommandL
     //   limit or a number of runs from 1 to 1,000,000. There are at most 64 histories, and at most 1,000 records.
     ensures done { IfOk result (λ line. CanBeDone line.job) }
     // Proved (scripts, command-ranges)
-    ensures histories { IfOk result (λ line. length line.histories.names.items ≤ 64) }
-    // Proved (scripts, command-ranges)
-    ensures records { IfOk result (λ line. length line.records.names.items ≤ 1000) }
+    ensures names { IfOk result (λ line. length line.names.items ≤ most_names_of line.job) }
     // Proved (scripts, command-line)
     ensures fault { ReadsLine (map S.text words.entry.now) result }
 {

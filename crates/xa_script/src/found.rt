@@ -1,7 +1,7 @@
 //! What `clap` found for the options of a subcommand.
-ghost use Rattle.std.specs.{Prelude.{◌≡◌, [], ℕ, None, IfOk, IfSome, map, option_map, unwrap_or}, Option.IsSomeAnd};
+ghost use Rattle.std.specs.Prelude.{◌≡◌, [], IfOk, map, option_map, unwrap_or};
 ghost use Rattle.clap.specs.Words.{all_of, first_of, found_of, matched_of, one_of, one_text, raw_values, rows_of};
-ghost use Rattle.xa_script.specs.CommandLine.{IsFlagOf, IsNumberText};
+ghost use Rattle.xa_script.specs.CommandLine.{IsFlagOf, IsNumberOf};
 
 use clap::ArgMatches;
 use std::alloc::{AllocError, Global};
@@ -23,10 +23,7 @@ pub fn flag_in(found: &ArgMatches<'_>, name: &str) -> bool
 
 /// Returns the value of the option of this name, if it is a number from `least` to `most`.
 fn number_at(found: &ArgMatches<'_>, name: &str, least: u64, most: u64) -> Option<u64>
-    ensures some { IfSome result (λ number. IsSomeAnd (one_text (found_of found.now) name.now)
-        (IsNumberText least most number)) }
-    ensures none { result ≡ None → (number : ℕ) → IsSomeAnd (one_text (found_of found.now) name.now)
-        (IsNumberText least most number) → ⊥ }
+    ensures { IsNumberOf least most (one_text (found_of found.now) name.now) result }
 {
     match found.get_one::<u64>(name) {
         // The option's parser takes no other number. That isn't known here.
@@ -37,10 +34,7 @@ fn number_at(found: &ArgMatches<'_>, name: &str, least: u64, most: u64) -> Optio
 
 /// Returns the value of the option of this name, if it is a number from `least` to `most`.
 pub fn number_in(found: &ArgMatches<'_>, name: &str, least: u64, most: u64) -> Option<u64>
-    ensures some { IfSome result (λ number. IsSomeAnd (one_of name.now (rows_of (found_of found.now)))
-        (IsNumberText least most number)) }
-    ensures none { result ≡ None → (number : ℕ) → IsSomeAnd (one_of name.now (rows_of (found_of found.now)))
-        (IsNumberText least most number) → ⊥ }
+    ensures { IsNumberOf least most (one_of name.now (rows_of (found_of found.now))) result }
 {
     number_at(found, name, least, most)
 }

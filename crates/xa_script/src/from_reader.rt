@@ -1,26 +1,31 @@
-//! Does a job from a reader to a writer, with its lines looked at as they are read.
-ghost use Rattle.std.specs.{Prelude.{◌≡◌, ◌||◌, false, Some}, Io.Buffered.writer_contents};
-ghost use Rattle.xa_script.specs.{CommandLine.{CanBeDone, ReadsInput}, Jobs.{HasDone, IsLookedAt}};
-ghost use Rattle.xa_script.specs.Lines.{kind_of_lines, most_bytes, form_of_job, form_of_lines, form_of_texts};
-ghost use Rattle.xa_script.specs.Status.{strict_status, end_of};
+//! Does what a command line asks for, from readers whose lines are looked at as they are read, to a writer.
+ghost use Rattle.std.specs.Prelude.{◌≡◌, ◌≤◌, ◌||◌, [], ℕ, List, Some, IfSome, false, true, length, map, option_map, unwrap_or};
+ghost use Rattle.std.specs.Io.Buffered.{writer_contents};
+ghost use Rattle.xa_script.specs.CommandLine.{CanBeDone, IsLimit, ReadsInput, audits};
+ghost use Rattle.xa_script.specs.{Jobs.{HasEnded, HasReadOne, IsFlushed}, Several.{judging_asked, listing_asked}};
+ghost use Rattle.xa_script.specs.Manner.{most_names};
+ghost use Rattle.xa_script.specs.Lines.{kind_of_lines, most_bytes, form_of_job, form_of_texts};
+ghost use Rattle.xa_script.specs.Status.{end_of};
 
+use crate::auditing::{audit_within, form_asked};
 use crate::judging::asked;
+use crate::judging_each::list_within;
 use crate::line_form::LineForm;
 use crate::line_kind::LineKind;
 use crate::watch::Watch;
-use crate::{DONE, Job, Manner, UNREAD, jobs};
+use crate::{CommandLine, DONE, Job, Manner, UNREAD, jobs};
 use std::alloc::Global;
 use std::io::{BufWriter, Read, Write};
 use std::rt::Clock;
 use std::sync::Wait;
 use std::thread::Threads;
 use xa_lines::{LINE_BYTES, ScriptFault};
-use xa_record::Allowance;
+use xa_record::{Allowance, Asked};
 use xa_server::Server;
 
 /// Returns how a job reads its lines, and above how many bytes a line counts as too long: `usize::MAX`, so never, for
 /// the jobs that read their whole input first. `stops` itself refuses a line of more than 65,536 bytes all the same.
-fn lines_of(job: Job) -> (LineKind, usize)
+pub fn lines_of(job: Job) -> (LineKind, usize)
     // Proved (scripts, lines-of-a-job): Each job looks at its lines as the page says: as statements, calls or a
     //   record, with comments or without. It looks at lines of any length, unless it answers line by line.
     ensures kind { result.0 ≡ kind_of_lines job }
@@ -34,74 +39,86 @@ fn lines_of(job: Job) -> (LineKind, usize)
         Job::Stops { .. } => (LineKind::Stopped, usize::MAX),
         Job::Serve => (LineKind::Statement, LINE_BYTES),
         Job::Show => (LineKind::Shown, LINE_BYTES),
-        Job::Audit { .. } => (LineKind::Shown, usize::MAX),
+        Job::Audit => (LineKind::Shown, usize::MAX),
         Job::Judge { .. } => (LineKind::Record, usize::MAX),
         // Counted races take the words that divide a script, too.
         Job::Explore { .. } | Job::Race { runs: Some(_), .. } => (LineKind::Explored, usize::MAX),
     }
 }
 
-/// Returns the form of the lines that a job writes where `Manner::json` doesn't make them objects. `judge` and `audit`
-/// have a `json` of their own, which makes what they write an object.
+/// Returns the form of the lines that a job writes without `--json`.
 fn form_of(job: Job) -> LineForm
     ensures { result ≡ form_of_job job }
 {
     match job {
         Job::Run | Job::Race { .. } | Job::Coordinate { .. } | Job::Serve => LineForm::Answers,
-        Job::Explore { .. } | Job::Stops { .. } => LineForm::Answers,
+        Job::Explore { .. } | Job::Stops { .. } | Job::Audit => LineForm::Answers,
         Job::Show => LineForm::Shown,
-        Job::Judge { json: true, .. } => LineForm::Object,
-        Job::Judge { json: false, .. } => LineForm::Verdict,
-        Job::Audit { json: true } => LineForm::Object,
-        Job::Audit { json: false } => LineForm::Answers,
+        Job::Judge { .. } => LineForm::Verdict,
     }
 }
 
-/// Returns the form of the lines that a job writes: objects if `json`, which is `Manner::json`, else as `form_of` says.
-fn written_form(job: Job, json: bool) -> LineForm
-    ensures { result ≡ form_of_lines json job }
+/// Returns the form of the lines whose literals are written as texts; None without `--text`, and if objects are written,
+/// which stay as they are. If verdicts are `listed`, only TAP has lines below each, which may have literals.
+pub fn text_form(line: &CommandLine<'_>, listed: bool) -> Option<LineForm>
+    // Proved (scripts, text-form): `--text` is heard beside any other option but `--json`, and takes the lines for what
+    //   the job writes: verdicts, shown stores or answers; or for TAP, if verdicts are listed so.
+    ensures { result ≡ form_of_texts line.now.manner listed line.now.job }
 {
-    if json { LineForm::Object } else { form_of(job) }
+    let manner = &line.manner;
+    if !manner.text || manner.json || (listed && !manner.tap) {
+        return None;
+    }
+    if listed {
+        return Some(LineForm::Noted);
+    }
+    Some(form_of(line.job))
 }
 
-/// Returns the form of the lines whose literals are written as texts; None without `--text`.
-pub fn text_form(job: Job, manner: &Manner<'_>) -> Option<LineForm>
-    // Proved (scripts, text-form): `--text` is heard beside any other option, and takes the lines for what the job
-    //   writes: objects with `--json`, else verdicts, shown stores or answers.
-    ensures { result ≡ form_of_texts manner.now.text manner.now.json job }
+/// Returns whether a job is to audit.
+pub fn is_audit(job: Job) -> bool
+    ensures audits { result ≡ audits job }
+    ensures histories { result ≡ true → most_names job ≤ 64 }
+    ensures records { most_names job ≤ 1000 }
+    ensures one { 1 ≤ most_names job }
 {
-    if manner.text {
-        Some(written_form(job, manner.json))
+    match job {
+        Job::Audit => true,
+        Job::Run | Job::Race { .. } | Job::Coordinate { .. } | Job::Serve | Job::Show => false,
+        Job::Judge { .. } | Job::Explore { .. } | Job::Stops { .. } => false,
+    }
+}
+
+/// Returns what is asked of judging; None if the job isn't to judge.
+fn judging_in(job: Job, json: bool) -> Option<Asked>
+    requires { CanBeDone job }
+    // Proved (scripts, judging-as-asked)
+    ensures asked { result ≡ judging_asked json job }
+    ensures limit { IfSome result (λ asked. IsLimit asked.limit) }
+{
+    match job {
+        Job::Judge {
+            limit,
+            explain,
+            strict_calls,
+            shrink,
+        } => Some(asked(limit, explain, json, strict_calls, shrink)),
+        Job::Run | Job::Race { .. } | Job::Coordinate { .. } | Job::Serve | Job::Show => None,
+        Job::Explore { .. } | Job::Stops { .. } | Job::Audit => None,
+    }
+}
+
+/// Returns what is asked of judging if verdicts are listed: several records are named, or they are to be listed by
+/// `--tap`.
+pub fn listing_in(line: &CommandLine<'_>) -> Option<Asked>
+    requires { CanBeDone line.now.job }
+    ensures asked { result ≡ listing_asked line.now }
+    ensures limit { IfSome result (λ asked. IsLimit asked.limit) }
+{
+    if line.manner.tap || line.names.len() > 1 {
+        judging_in(line.job, line.manner.json)
     } else {
         None
-    }
-}
-
-/// Does a job that isn't to audit, from a reader to the standard output, and returns the exit status. Only `judge`
-/// needs the allowances and `base`, the store with which a record begins.
-pub fn carry_out_on<
-    I: Read + Drop,
-    R: Clock + Print + Eprint + Alloc<A = Global> + Threads + Wait + Sync,
->(
-    rt: &R,
-    input: I,
-    job: Job,
-    manner: &Manner<'_>,
-    allowances: &[Allowance],
-    base: &Server,
-) -> Result<u8, ScriptFault>
-    requires done { CanBeDone job }
-    requires input { ReadsInput job }
-{
-    match text_form(job, manner) {
-        Some(form) => {
-            let mut output = jobs::text_output(rt, manner.verbose, form)?;
-            carry_out_to(rt, input, &mut output, job, manner, allowances, base)
-        }
-        None => {
-            let mut output = jobs::output(rt, manner.verbose)?;
-            carry_out_to(rt, input, &mut output, job, manner, allowances, base)
-        }
     }
 }
 
@@ -144,97 +161,83 @@ fn faults_seen<I: Read + Drop, R: Eprint + Alloc<A = Global>>(
     watch.has_faults().ok()
 }
 
-/// Does a job from a reader to a writer, with its lines looked at as they are read, and returns the exit status.
-fn carry_out_to<
+/// Does a job that isn't to audit, from a reader to a writer, and returns the exit status.
+fn end_one<I: Read + Drop, O: Write, R: Clock + Eprint + Alloc<A = Global> + Threads + Wait + Sync>(
+    rt: &R,
+    mut input: Watch<'_, I, R>,
+    output: &mut O,
+    line: &CommandLine<'_>,
+    allowances: &[Allowance],
+    base: &Server,
+) -> Result<u8, ScriptFault>
+    requires done { CanBeDone line.now.job }
+    requires input { ReadsInput line.now.job }
+    // Proved (scripts, jobs-as-asked): `run`, `race`, `judge` and `explore` write what the job and `--json` ask for, of
+    //   all that the input holds, and `stops` a whole text. They return the status for that, or a write fault in its
+    //   place. No other option changes a byte of it. `--strict` alone changes a status. Only with it or `--verbose` may
+    //   memory be refused afterwards.
+    ensures { HasReadOne line.now base.now allowances.now (I.remaining input.entry.inner) (O.contents output.old)
+        (O.contents output.new) result }
+{
+    let manner = &line.manner;
+    let done = jobs::write_as_asked(rt, &mut input, output, line.job, manner, allowances, base);
+    looked_at(manner.strict, faults_seen(&input, manner), done)
+}
+
+/// Does what a command line asks for, from readers to a writer, and returns the exit status.
+fn end_all<I: Read + Drop, O: Write, R: Clock + Eprint + Alloc<A = Global> + Threads + Wait + Sync>(
+    rt: &R,
+    inputs: Vec<Watch<'_, I, R>>,
+    output: &mut O,
+    line: &CommandLine<'_>,
+    allowances: &[Allowance],
+    base: &Server,
+) -> Result<u8, ScriptFault>
+    requires done { CanBeDone line.now.job }
+    requires count { length inputs.items ≤ most_names line.now.job }
+    // Proved (scripts, jobs-as-asked)
+    ensures { (texts : List (List ℕ)) → map (λ input. I.remaining input.inner) inputs.entry.items ≡ map Some texts
+        → HasEnded line.now base.now allowances.now
+        (map (λ input. unwrap_or (option_map (λ name. name.now) input.name) []) inputs.entry.items) texts
+        (O.contents output.old) (O.contents output.new) result }
+{
+    let manner = &line.manner;
+    if is_audit(line.job) {
+        return audit_within(rt, inputs, output, form_asked(manner.json, manner.quiet));
+    }
+    if let Some(asked) = listing_in(line) {
+        return list_within(rt, base, inputs, output, allowances, asked, manner);
+    }
+    let mut inputs = inputs;
+    match inputs.pop() {
+        Some(input) => end_one(rt, input, output, line, allowances, base),
+        // There is one. That isn't known here.
+        None => Err(ScriptFault::Read),
+    }
+}
+
+/// Does what a command line asks for, from readers to a writer that is flushed then, and returns the exit status. An
+/// audit and a list of verdicts read all of them, and any other job the last.
+pub fn carry_out_on<
     I: Read + Drop,
     W: Write + Drop,
     R: Clock + Eprint + Alloc<A = Global> + Threads + Wait + Sync,
 >(
     rt: &R,
-    input: I,
+    inputs: Vec<Watch<'_, I, R>>,
     output: &mut BufWriter<W>,
-    job: Job,
-    manner: &Manner<'_>,
+    line: &CommandLine<'_>,
     allowances: &[Allowance],
     base: &Server,
 ) -> Result<u8, ScriptFault>
-    requires done { CanBeDone job }
-    requires input { ReadsInput job }
-    // Proved (scripts, jobs-as-asked): `run`, `race`, `judge` and `explore` write what the job and `--json` ask for, of
-    //   all that the input holds, and `stops` a whole text. They return the status for that, or a write fault in its
-    //   place. No other option changes a byte of it. `--strict` alone changes a status. Only with it or `--verbose` may
-    //   memory be refused afterwards.
-    ensures { IsLookedAt manner.now.strict (manner.now.verbose || manner.now.strict) (HasDone W.contents job manner.now.json base.now allowances.now
-        (I.remaining input) (writer_contents W.contents output.old)) output.new result }
-{
-    let (kind, most) = lines_of(job);
-    let mut watch = Watch::new(rt, input, kind, most, manner.verbose, manner.strict);
-    let done = carry_out_job(rt, &mut watch, output, job, manner, allowances, base);
-    looked_at(manner.strict, faults_seen(&watch, manner), done)
-}
-
-/// Does a job that isn't to audit, from a reader to a writer, and returns the exit status.
-fn carry_out_job<
-    I: Read,
-    W: Write + Drop,
-    R: Clock + Eprint + Alloc<A = Global> + Threads + Wait + Sync,
->(
-    rt: &R,
-    input: &mut I,
-    output: &mut BufWriter<W>,
-    job: Job,
-    manner: &Manner<'_>,
-    allowances: &[Allowance],
-    base: &Server,
-) -> Result<u8, ScriptFault>
-    requires done { CanBeDone job }
-    requires input { ReadsInput job }
+    requires done { CanBeDone line.now.job }
+    requires count { length inputs.items ≤ most_names line.now.job }
     // Proved (scripts, jobs-as-asked)
-    ensures { HasDone W.contents job manner.now.json base.now allowances.now (I.remaining input.old)
-        (writer_contents W.contents output.old) output.new result }
+    ensures { (texts : List (List ℕ)) → map (λ input. I.remaining input.inner) inputs.entry.items ≡ map Some texts
+        → IsFlushed W.contents (HasEnded line.now base.now allowances.now
+        (map (λ input. unwrap_or (option_map (λ name. name.now) input.name) []) inputs.entry.items) texts
+        (writer_contents W.contents output.old)) output.new result }
 {
-    let json = manner.json;
-    match job {
-        Job::Run => jobs::run(rt, input, output),
-        Job::Race {
-            capacity,
-            schedule,
-            renews,
-            runs: None,
-        } => jobs::race(rt, input, output, capacity, schedule, renews, json),
-        Job::Race {
-            capacity,
-            schedule,
-            renews,
-            runs: Some(runs),
-        } => jobs::races(rt, input, output, capacity, schedule, renews, runs, json),
-        Job::Coordinate {
-            stores,
-            capacity,
-            fixed,
-        } => {
-            if fixed {
-                return jobs::coordinate_fixed(rt, input, output, manner.verbose, stores, capacity);
-            }
-            // Such stores are never full, so `--capacity` has no effect.
-            jobs::coordinate(rt, input, output, manner.verbose, stores)
-        }
-        Job::Serve => jobs::serve(rt, input, output),
-        Job::Show => jobs::show(rt, input, output),
-        Job::Judge {
-            limit,
-            explain,
-            json,
-            strict_calls,
-            shrink,
-        } => {
-            let asked = asked(limit, explain, json, strict_calls, shrink);
-            jobs::judge(rt, input, output, base, allowances, asked, manner)
-        }
-        Job::Explore { limit } => jobs::explore(rt, input, output, limit, json),
-        // Its stores are unbounded, so `--capacity` has no effect.
-        Job::Stops { stores, .. } => jobs::stops(rt, input, output, stores, json),
-        // `carry_out` does audits, which have several readers.
-        Job::Audit { .. } => unreachable!(),
-    }
+    let done = end_all(rt, inputs, output, line, allowances, base);
+    jobs::flushed(output, done)
 }

@@ -13,7 +13,7 @@ xa_script JOB --help shows what a job reads and prints.
 A first hour: docs/TUTORIAL.md. All jobs: docs/COMMANDS.md. Exit statuses: docs/COMMANDS.md#exit-status.";
 
 /// What `run` reads and prints, as its help shows it.
-pub const LINES: &str =
+const LINES: &str =
     "The script is read to its end, and then its lines are answered in order. A line is the number of a
 session, from 1 to 16, and a statement of that session:
   1 XA START 'abc','def',7
@@ -35,7 +35,7 @@ Write a text as 'abc', X'616263' or 0x616263. Blank lines have no answer.
 More: docs/COMMANDS.md#run. Errors and their remedies: docs/STATEMENTS.md#errors.";
 
 /// What `serve` reads and prints, as its help shows it.
-pub const SERVED: &str =
+const SERVED: &str =
     "A line is the number of a session, from 1 to 16, and a statement of that session, as for run:
   1 PUT 'k','v'
 Each line is answered before more is read:
@@ -45,7 +45,7 @@ answer is ERROR 1037, it has changed nothing, and the server goes on. Close the 
 More: docs/COMMANDS.md#serve.";
 
 /// What a race reads and prints, as its help shows it.
-pub const RACED: &str =
+const RACED: &str =
     "A line is the number of a session, from 1 to 16, and a statement of that session, as for run:
   1 XA START 'a'
   2 XA START 'a'
@@ -72,7 +72,7 @@ says only SEEN 1. If lines have syntax faults, the status is 6 with --runs.
 More: docs/COMMANDS.md#race.";
 
 /// What `show` reads and prints, as its help shows it.
-pub const SHOWN: &str =
+const SHOWN: &str =
     "A line is the number of a session, from 1 to 16, and a statement of that session, as for serve:
   1 PUT 'k','v'
 Lines that begin with two blanks follow its answer. They show each branch, with the rows that it has locked,
@@ -85,8 +85,7 @@ A line that begins with # is a comment, and is printed again after two blanks.
 More: docs/COMMANDS.md#show.";
 
 /// The calls that `coordinate` reads, as its help shows them.
-pub const CALLS: &str =
-    "Each line is a call; n is a transaction, from 1 on, and k a store, from 0 on:
+const CALLS: &str = "Each line is a call; n is a transaction, from 1 on, and k a store, from 0 on:
   BEGIN                    begins the next transaction
   WORK n k STATEMENT       gives a GET, PUT or DEL of the transaction to the store
   PREPARE n                asks the transaction's stores for their votes
@@ -109,8 +108,7 @@ Blank lines, and lines that begin with #, have no answer. --capacity counts only
 More: docs/COMMANDS.md#coordinate.";
 
 /// What `stops` reads and prints, as its help shows it.
-pub const STOPPED: &str =
-    "Each line is a call, as for coordinate, but not FAIL, STOP, RECOVER or SHOW:
+const STOPPED: &str = "Each line is a call, as for coordinate, but not FAIL, STOP, RECOVER or SHOW:
   BEGIN
   WORK 1 0 PUT 'k','v'
   PREPARE 1
@@ -129,7 +127,7 @@ Stores are never full here; --capacity has no effect.
 More: docs/COMMANDS.md#stops.";
 
 /// What `explore` reads and prints, as its help shows it.
-pub const EXPLORED: &str =
+const EXPLORED: &str =
     "A line is the number of a session, from 1 to 16, and a statement of that session, as for run. A line BESIDE
 and a line AFTER divide the script. The lines before BESIDE are carried out first, and those after AFTER last.
 The lines between come in every order of sessions, each session's in its own order. Without BESIDE these are
@@ -153,7 +151,7 @@ Blank lines, and lines that begin with #, say nothing.
 More: docs/COMMANDS.md#explore.";
 
 /// What `judge` reads and prints, as its help shows it.
-pub const RECORDS: &str =
+const RECORDS: &str =
     "A record is what clients of a server saw, in the order in which they saw it. In its lines n is the number of a
 session, from 1 to 16:
   n > STATEMENT            the session calls for the statement, as a script writes it
@@ -208,7 +206,7 @@ least that isn't 0. With --tap a record is ok if it is LEGAL, and its verdict is
 More: docs/COMMANDS.md#judge and docs/HISTORIES.md.";
 
 /// What `audit` reads and prints, as its help shows it.
-pub const AUDITED: &str =
+const AUDITED: &str =
     "Each file is the history of one store: a script, as run reads it, that a store of its own carries out. Blank
 lines, and lines that begin with #, say nothing. The first file is store 1, the next one store 2:
   1 XA START 'transfer','debit'
@@ -233,3 +231,18 @@ If all are ATOMIC, the status is 0, else 9. If some line isn't read, only such l
 is 6:
   STORE 2 LINE 7 ERROR 1064 (42000): syntax fault at byte 3
 More: docs/COMMANDS.md#audit and docs/HISTORIES.md#audits.";
+
+/// Returns what the help of this job shows after the options.
+pub fn help_of(job: &str) -> &'static str {
+    match job.as_bytes() {
+        b"run" => LINES,
+        b"race" => RACED,
+        b"coordinate" => CALLS,
+        b"stops" => STOPPED,
+        b"serve" => SERVED,
+        b"show" => SHOWN,
+        b"judge" => RECORDS,
+        b"explore" => EXPLORED,
+        _ => AUDITED,
+    }
+}

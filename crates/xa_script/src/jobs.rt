@@ -1,37 +1,36 @@
 //! The jobs, from a reader to a writer. Each returns the exit status, or the fault that ended it.
 //!
 //! No `speaks` changes what a job writes: it is for the standard error alone.
-ghost use Rattle.std.specs.Prelude.{◌≡◌, ◌≤◌, ◌⊎◌, [], ℕ, List, Some, Err, IfOk, IfErr, IfSome, OnOk, length, map};
-ghost use Rattle.std.specs.{Prelude.{option_map, unwrap_or}, Io.KnownBytes.{Appends, Keeps}};
-ghost use Rattle.std.specs.Io.Buffered.{writer_buffer, writer_contents, writer_inner};
+ghost use Rattle.std.specs.Prelude.{◌≡◌, ◌⊎◌, [], ℕ, Ok, Err, IfOk, IfErr, OnOk};
+ghost use Rattle.std.specs.Io.{KnownBytes.Keeps, Buffered.{writer_buffer, writer_contents, writer_inner}};
 ghost use Rattle.decision_log.specs.Opens.{IsCapacity};
-ghost use Rattle.xa_lines.specs.Transcript.{transcript, AfterFault};
-ghost use Rattle.xa_script.specs.{CommandLine.{IsLimit, IsStoreCount}, Jobs.{HasRun, HasRaced, HasCame, HasJudged}};
-ghost use Rattle.xa_script.specs.Jobs.{HasExplored, HasStopped, HasAudited, HasConversed, HasListed, IsFlushed};
+ghost use Rattle.xa_lines.specs.Writing.{AppendsObjects, AfterObjects};
+ghost use Rattle.xa_script.specs.CommandLine.{CanBeDone, IsLimit, IsStoreCount, ReadsInput};
+ghost use Rattle.xa_script.specs.Jobs.{HasConversed, HasDone, HasJudged, HasRun, HasWritten, lists};
 
 use crate::advised::Advised;
-use crate::auditing::audit_within;
-use crate::exploring::explore_as;
-use crate::judging_each::list_within;
+use crate::exploring::explore;
+use crate::judging::asked;
 use crate::judging_read::judge_read;
 use crate::line_form::LineForm;
 use crate::manner::Manner;
-use crate::racing::race_as;
-use crate::running::run_as;
+use crate::racing::race;
+use crate::running::run_by;
 use crate::spoken::Spoken;
-use crate::stopping::stop_as;
+use crate::stopping::stops;
 use crate::telling::Telling;
 use crate::texts::Texts;
-use crate::watch::Watch;
-use crate::{DONE, Schedule};
+use crate::{DONE, Job};
 use std::alloc::Global;
 use std::io;
 use std::io::{BufWriter, Printer, Read, Write};
 use std::rt::Clock;
 use std::sync::Wait;
 use std::thread::Threads;
-use xa_audit::Form;
-use xa_lines::{LineServer, ScriptFault, Transport, run_script, serve_statements, show_statements};
+use xa_lines::{
+    LineServer, ScriptFault, Transport, in_memory, run_script, serve_statements, show_statements,
+    write_objects,
+};
 use xa_manager::{
     BesideServer, CallServer, converse, converse_lasting, lasting_manager, manager_over,
     open_stores,
@@ -79,7 +78,7 @@ pub fn text_output<R: Print + Eprint + Alloc<A = Global>>(
 
 /// Flushes the output, and returns how the job ended. If the flush fails that is a write fault, however the
 /// job itself ended.
-fn flushed<W: Write + Drop>(
+pub fn flushed<W: Write + Drop>(
     output: &mut BufWriter<W>,
     done: Result<u8, ScriptFault>,
 ) -> Result<u8, ScriptFault>
@@ -93,175 +92,45 @@ fn flushed<W: Write + Drop>(
     done
 }
 
-/// Runs the script, and returns the exit status.
-fn run_within<I: Read, O: Write>(
-    alloc: Global,
-    input: &mut I,
-    output: &mut O,
-) -> Result<u8, ScriptFault>
-    ensures written { IfOk result (λ status. (status ≡ 0) × IfSome (I.remaining input.old)
-        (λ script. Appends (O.contents output.old) (O.contents output.new) (transcript script))) }
-    ensures fault { IfErr result (λ fault. AfterFault fault (I.remaining input.old) (O.contents output.old)
-        (O.contents output.new)) }
-{
-    run_script(alloc, input, output)?;
-    Ok(DONE)
-}
-
 /// Runs the script.
-pub fn run<I: Read, W: Write + Drop, R: Alloc<A = Global>>(
-    rt: &R,
-    input: &mut I,
-    output: &mut BufWriter<W>,
-) -> Result<u8, ScriptFault>
-    ensures { IsFlushed W.contents (HasRun (I.remaining input.old) (writer_contents W.contents output.old))
-        output.new result }
+fn run<I: Read, O: Write>(alloc: Global, input: &mut I, output: &mut O) -> Result<u8, ScriptFault>
+    ensures { HasRun (I.remaining input.old) (O.contents output.old) (O.contents output.new) result }
 {
-    let done = run_within(rt.alloc(), input, output);
-    flushed(output, done)
-}
-
-/// Races the script: over a store without an end whose ring has `capacity` rows if `renews`, else in one log with
-/// room for `capacity` entries. If `json`, each line is written as an object.
-pub fn race<I: Read, W: Write + Drop, R: Alloc<A = Global> + Threads + Wait + Sync>(
-    rt: &R,
-    input: &mut I,
-    output: &mut BufWriter<W>,
-    capacity: u64,
-    schedule: Schedule,
-    renews: bool,
-    json: bool,
-) -> Result<u8, ScriptFault>
-    requires { IsCapacity capacity }
-    ensures { IsFlushed W.contents (HasRaced json renews capacity (I.remaining input.old)
-        (writer_contents W.contents output.old)) output.new result }
-{
-    let done = race_as(rt, input, output, capacity, schedule, renews, json);
-    flushed(output, done)
-}
-
-/// Races the script `runs` times, each time over a store as `race` has it, and counts the outcomes. Only entries of the
-/// lines side by side need room. If `json`, each line is written as an object.
-pub fn races<I: Read, W: Write + Drop, R: Alloc<A = Global> + Threads + Wait + Sync>(
-    rt: &R,
-    input: &mut I,
-    output: &mut BufWriter<W>,
-    capacity: u64,
-    schedule: Schedule,
-    renews: bool,
-    runs: u64,
-    json: bool,
-) -> Result<u8, ScriptFault>
-    requires { IsCapacity capacity }
-    ensures { IsFlushed W.contents (HasCame json renews (I.remaining input.old)
-        (writer_contents W.contents output.old)) output.new result }
-{
-    let done = run_as(rt, input, output, capacity, schedule, renews, runs, json);
-    flushed(output, done)
+    match run_script(alloc, input, output) {
+        Ok(()) => Ok(DONE),
+        Err(fault) => Err(fault),
+    }
 }
 
 /// Judges the record, which begins with the state of `base`. Of `manner` it takes whether progress isn't reported
 /// (`quiet`), and whether lines are judged as they come, too (`follow`).
-pub fn judge<I: Read, W: Write + Drop, R: Clock + Eprint + Alloc<A = Global>>(
+fn judge<I: Read, O: Write, R: Clock + Eprint + Alloc<A = Global>>(
     rt: &R,
     input: &mut I,
-    output: &mut BufWriter<W>,
+    output: &mut O,
     base: &Server,
     allowances: &[Allowance],
     asked: Asked,
     manner: &Manner<'_>,
 ) -> Result<u8, ScriptFault>
     requires { IsLimit asked.limit }
-    ensures { IsFlushed W.contents (HasJudged base.now allowances.now asked (I.remaining input.old)
-        (writer_contents W.contents output.old)) output.new result }
+    ensures { HasJudged base.now allowances.now asked (I.remaining input.old) (O.contents output.old)
+        (O.contents output.new) result }
 {
     let mut telling = Telling::new(rt, manner.quiet);
     let telling = &mut telling;
     let follow = manner.follow;
-    let done = judge_read(
+    judge_read(
         rt, base, input, None, output, allowances, asked, follow, telling,
-    );
-    flushed(output, done)
-}
-
-/// Judges records, each of which begins with the state of `base`. If `tap`, what each came to is written in the Test
-/// Anything Protocol. Of `manner` it takes whether progress isn't reported (`quiet`), and whether a faulty line changes
-/// the status (`strict`).
-pub fn judge_each<I: Read + Drop, W: Write + Drop, R: Clock + Eprint + Alloc<A = Global>>(
-    rt: &R,
-    inputs: Vec<Watch<'_, I, R>>,
-    output: &mut BufWriter<W>,
-    base: &Server,
-    allowances: &[Allowance],
-    asked: Asked,
-    manner: &Manner<'_>,
-    tap: bool,
-) -> Result<u8, ScriptFault>
-    requires limit { IsLimit asked.limit }
-    requires count { length inputs.items ≤ 1000 }
-    ensures { (records : List (List ℕ))
-        → map (λ input. I.remaining input.inner) inputs.entry.items ≡ map Some records
-        → IsFlushed W.contents (HasListed base.now allowances.now asked manner.now.strict tap
-        (map (λ input. unwrap_or (option_map (λ name. name.now) input.name) []) inputs.entry.items) records
-        (writer_contents W.contents output.old)) output.new result }
-{
-    let done = list_within(rt, base, inputs, output, allowances, asked, manner, tap);
-    flushed(output, done)
-}
-
-/// Audits the histories.
-pub fn audit<I: Read + Drop, W: Write + Drop, R: Eprint + Alloc<A = Global>>(
-    rt: &R,
-    inputs: Vec<Watch<'_, I, R>>,
-    output: &mut BufWriter<W>,
-    form: Form,
-) -> Result<u8, ScriptFault>
-    requires { length inputs.items ≤ 64 }
-    ensures { (histories : List (List ℕ))
-        → map (λ input. I.remaining input.inner) inputs.entry.items ≡ map Some histories
-        → IsFlushed W.contents (HasAudited histories form (writer_contents W.contents output.old)) output.new result }
-{
-    let done = audit_within(rt, inputs, output, form);
-    flushed(output, done)
-}
-
-/// Stops the coordinator of the calls at each place. If `json`, each line is written as an object.
-pub fn stops<I: Read, W: Write + Drop, R: Alloc<A = Global> + Wait>(
-    rt: &R,
-    input: &mut I,
-    output: &mut BufWriter<W>,
-    stores: u64,
-    json: bool,
-) -> Result<u8, ScriptFault>
-    requires { IsStoreCount stores }
-    ensures { IsFlushed W.contents (HasStopped json (writer_contents W.contents output.old)) output.new result }
-{
-    let done = stop_as(rt, rt.alloc(), input, output, stores, json);
-    flushed(output, done)
-}
-
-/// Explores the script. If `json`, each line is written as an object.
-pub fn explore<I: Read, W: Write + Drop, R: Alloc<A = Global>>(
-    rt: &R,
-    input: &mut I,
-    output: &mut BufWriter<W>,
-    limit: u64,
-    json: bool,
-) -> Result<u8, ScriptFault>
-    requires { IsLimit limit }
-    ensures { IsFlushed W.contents (HasExplored json limit (I.remaining input.old)
-        (writer_contents W.contents output.old)) output.new result }
-{
-    let done = explore_as(rt.alloc(), input, output, limit, json);
-    flushed(output, done)
+    )
 }
 
 /// Returns a client over the reader and the writer. `output` has a buffer already, so the client's own has no room.
-fn client_over<'a, I: Read, W: Write + Drop>(
+fn client_over<'a, I: Read, O: Write>(
     alloc: Global,
     input: &'a mut I,
-    output: &'a mut BufWriter<W>,
-) -> Result<Transport<&'a mut I, &'a mut BufWriter<W>>, ScriptFault> {
+    output: &'a mut O,
+) -> Result<Transport<&'a mut I, &'a mut O>, ScriptFault> {
     match BufWriter::with_capacity(alloc, 0, output) {
         Ok(writer) => Ok(Transport::new(input, writer)),
         // A buffer without room takes no memory, so this doesn't happen.
@@ -271,9 +140,9 @@ fn client_over<'a, I: Read, W: Write + Drop>(
 
 /// Has a server answer each call, and explains each one that is out of turn. `NoMemory` also if memory was refused for
 /// that.
-fn serve_advised<S: LineServer + Drop, I: Read, W: Write + Drop, R: Eprint + Alloc<A = Global>>(
+fn serve_advised<S: LineServer + Drop, I: Read, O: Write, R: Eprint + Alloc<A = Global>>(
     rt: &R,
-    client: &mut Transport<&mut I, &mut BufWriter<W>>,
+    client: &mut Transport<&mut I, &mut O>,
     server: S,
 ) -> Result<u8, ScriptFault>
     requires { S.begins server }
@@ -287,10 +156,10 @@ fn serve_advised<S: LineServer + Drop, I: Read, W: Write + Drop, R: Eprint + All
 
 /// Carries out the calls over stores that are never full. If `speaks`, each call that is out of turn is
 /// explained.
-pub fn coordinate<I: Read, W: Write + Drop, R: Eprint + Alloc<A = Global> + Wait>(
+fn coordinate<I: Read, O: Write, R: Eprint + Alloc<A = Global> + Wait>(
     rt: &R,
     input: &mut I,
-    output: &mut BufWriter<W>,
+    output: &mut O,
     speaks: bool,
     stores: u64,
 ) -> Result<u8, ScriptFault>
@@ -309,10 +178,10 @@ pub fn coordinate<I: Read, W: Write + Drop, R: Eprint + Alloc<A = Global> + Wait
 
 /// Carries out the calls over stores whose histories have room for `capacity` entries. If `speaks`, each call that is
 /// out of turn is explained.
-pub fn coordinate_fixed<I: Read, W: Write + Drop, R: Eprint + Alloc<A = Global> + Wait>(
+fn coordinate_fixed<I: Read, O: Write, R: Eprint + Alloc<A = Global> + Wait>(
     rt: &R,
     input: &mut I,
-    output: &mut BufWriter<W>,
+    output: &mut O,
     speaks: bool,
     stores: u64,
     capacity: u64,
@@ -335,10 +204,10 @@ pub fn coordinate_fixed<I: Read, W: Write + Drop, R: Eprint + Alloc<A = Global> 
 }
 
 /// Answers each line before it reads more.
-pub fn serve<I: Read, W: Write + Drop, R: Alloc<A = Global>>(
+fn serve<I: Read, O: Write, R: Alloc<A = Global>>(
     rt: &R,
     input: &mut I,
-    output: &mut BufWriter<W>,
+    output: &mut O,
 ) -> Result<u8, ScriptFault>
     ensures { HasConversed result }
 {
@@ -348,14 +217,148 @@ pub fn serve<I: Read, W: Write + Drop, R: Alloc<A = Global>>(
 }
 
 /// Answers each line before it reads more, and shows the store after each answer.
-pub fn show<I: Read, W: Write + Drop, R: Alloc<A = Global>>(
+fn show<I: Read, O: Write, R: Alloc<A = Global>>(
     rt: &R,
     input: &mut I,
-    output: &mut BufWriter<W>,
+    output: &mut O,
 ) -> Result<u8, ScriptFault>
     ensures { HasConversed result }
 {
     let mut client = client_over(rt.alloc(), input, output)?;
     show_statements(rt.alloc(), &mut client)?;
     Ok(DONE)
+}
+
+/// Does a job that isn't to audit, from a reader to a writer, and returns the exit status. With `--json` a verdict is an
+/// object; the lines of other jobs aren't.
+fn write_lines<I: Read, O: Write, R: Clock + Eprint + Alloc<A = Global> + Threads + Wait + Sync>(
+    rt: &R,
+    input: &mut I,
+    output: &mut O,
+    job: Job,
+    manner: &Manner<'_>,
+    allowances: &[Allowance],
+    base: &Server,
+) -> Result<u8, ScriptFault>
+    requires done { CanBeDone job }
+    requires input { ReadsInput job }
+    // Proved (scripts, jobs-as-asked)
+    ensures { HasWritten job manner.now.json base.now allowances.now (I.remaining input.old) (O.contents output.old)
+        (O.contents output.new) result }
+{
+    match job {
+        Job::Run => run(rt.alloc(), input, output),
+        Job::Race {
+            capacity,
+            schedule,
+            renews,
+            runs: None,
+        } => race(rt, input, output, capacity, schedule, renews),
+        Job::Race {
+            capacity,
+            schedule,
+            renews,
+            runs: Some(runs),
+        } => run_by(rt, input, output, capacity, schedule, renews, runs),
+        Job::Coordinate {
+            stores,
+            capacity,
+            fixed,
+        } => {
+            if fixed {
+                return coordinate_fixed(rt, input, output, manner.verbose, stores, capacity);
+            }
+            // Such stores are never full, so `--capacity` has no effect.
+            coordinate(rt, input, output, manner.verbose, stores)
+        }
+        Job::Serve => serve(rt, input, output),
+        Job::Show => show(rt, input, output),
+        Job::Judge {
+            limit,
+            explain,
+            strict_calls,
+            shrink,
+        } => {
+            let asked = asked(limit, explain, manner.json, strict_calls, shrink);
+            judge(rt, input, output, base, allowances, asked, manner)
+        }
+        Job::Explore { limit } => explore(rt.alloc(), input, output, limit),
+        Job::Stops { stores } => stops(rt, rt.alloc(), input, output, stores),
+        // `carry_out` does audits, which have several readers.
+        Job::Audit => unreachable!(),
+    }
+}
+
+/// Does a job as `write_lines` does, writes as an object each line that it would write, and returns the exit status.
+fn write_as_objects<
+    I: Read,
+    O: Write,
+    R: Clock + Eprint + Alloc<A = Global> + Threads + Wait + Sync,
+>(
+    rt: &R,
+    input: &mut I,
+    output: &mut O,
+    job: Job,
+    manner: &Manner<'_>,
+    allowances: &[Allowance],
+    base: &Server,
+) -> Result<u8, ScriptFault>
+    requires done { CanBeDone job }
+    requires input { ReadsInput job }
+    // Proved (scripts, output-as-json): The objects of `explore` and `race` are those of the lines that they write
+    //   without `--json`, in the same order, and the status is the same. Those of `stops` are the lines of a text.
+    //   After `Write` a prefix of these was written, after another fault nothing.
+    ensures done { IfOk result (λ status. AppendsObjects (λ before after. HasWritten job manner.now.json base.now
+        allowances.now (I.remaining input.old) before after (Ok status)) (O.contents output.old)
+        (O.contents output.new)) }
+    // Proved (scripts, output-as-json)
+    ensures fault { IfErr result (λ fault. AfterObjects (λ before after. (status : ℕ) × HasWritten job manner.now.json
+        base.now allowances.now (I.remaining input.old) before after (Ok status)) fault (O.contents output.old)
+        (O.contents output.new)) }
+{
+    // All lines are made in memory first, so nothing is written if that fails.
+    let mut text = Vec::new(rt.alloc());
+    let done = write_lines(rt, input, &mut text, job, manner, allowances, base);
+    let status = in_memory(done)?;
+    write_objects(rt.alloc(), output, text.as_slice())?;
+    Ok(status)
+}
+
+/// Returns whether `--json` makes an object of each line that a job writes. A verdict and an audit have an object of
+/// their own.
+fn is_listing(job: Job) -> bool
+    ensures { result ≡ lists job }
+{
+    match job {
+        Job::Race { .. } | Job::Explore { .. } | Job::Stops { .. } => true,
+        Job::Run | Job::Coordinate { .. } | Job::Serve | Job::Show => false,
+        Job::Judge { .. } | Job::Audit => false,
+    }
+}
+
+/// Does a job that isn't to audit, from a reader to a writer, as `--json` says, and returns the exit status.
+pub fn write_as_asked<
+    I: Read,
+    O: Write,
+    R: Clock + Eprint + Alloc<A = Global> + Threads + Wait + Sync,
+>(
+    rt: &R,
+    input: &mut I,
+    output: &mut O,
+    job: Job,
+    manner: &Manner<'_>,
+    allowances: &[Allowance],
+    base: &Server,
+) -> Result<u8, ScriptFault>
+    requires done { CanBeDone job }
+    requires input { ReadsInput job }
+    // Proved (scripts, jobs-as-asked)
+    ensures { HasDone job manner.now.json base.now allowances.now (I.remaining input.old) (O.contents output.old)
+        (O.contents output.new) result }
+{
+    if manner.json && is_listing(job) {
+        write_as_objects(rt, input, output, job, manner, allowances, base)
+    } else {
+        write_lines(rt, input, output, job, manner, allowances, base)
+    }
 }

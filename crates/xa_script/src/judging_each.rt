@@ -160,7 +160,6 @@ pub fn list_within<I: Read + Drop, W: Write, R: Clock + Eprint + Alloc<A = Globa
     allowances: &[Allowance],
     asked: Asked,
     manner: &Manner<'_>,
-    tap: bool,
 ) -> Result<u8, ScriptFault>
     requires limit { IsLimit asked.limit }
     requires count { length inputs.items ≤ 1000 }
@@ -169,16 +168,24 @@ pub fn list_within<I: Read + Drop, W: Write, R: Clock + Eprint + Alloc<A = Globa
     //   With `--strict`, and only then, 0 may be 8 instead.
     ensures listed { IfOk result (λ status. (records : List (List ℕ))
         → map (λ input. I.remaining input.inner) inputs.entry.items ≡ map Some records
-        → ListsAll base.now allowances.now asked manner.now.strict tap
+        → ListsAll base.now allowances.now asked manner.now.strict manner.now.tap
         (map (λ input. unwrap_or (option_map (λ name. name.now) input.name) []) inputs.entry.items) records status
         (W.contents writer.old) (W.contents writer.new)) }
     ensures fault { IfErr result (λ fault. (records : List (List ℕ))
         → map (λ input. I.remaining input.inner) inputs.entry.items ≡ map Some records
-        → AfterListing base.now allowances.now asked tap
+        → AfterListing base.now allowances.now asked manner.now.tap
         (map (λ input. unwrap_or (option_map (λ name. name.now) input.name) []) inputs.entry.items) records fault
         (W.contents writer.old) (W.contents writer.new)) }
 {
-    let listed = list_each(rt, base, inputs, allowances, asked, manner.quiet, tap)?;
+    let listed = list_each(
+        rt,
+        base,
+        inputs,
+        allowances,
+        asked,
+        manner.quiet,
+        manner.tap,
+    )?;
     write_whole(writer, listed.text.as_slice())?;
     looked_at(manner.strict, Some(listed.faulty), Ok(listed.status))
 }

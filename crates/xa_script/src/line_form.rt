@@ -21,8 +21,6 @@ pub enum LineForm {
     Shown,
     /// A verdict, and what comes below it, such as an order, answers or a store.
     Verdict,
-    /// JSON objects.
-    Object,
     /// Test points, and a verdict in the comments below each.
     Noted,
 }
@@ -159,20 +157,19 @@ fn rows_of_verdict(line: &[u8]) -> u64
 }
 
 impl LineForm {
-    /// Returns whether a line is written as it is: each object, each line of TAP that isn't of a verdict, a comment
-    /// among shown stores, and a client's own text in a verdict.
+    /// Returns whether a line is written as it is: each line of TAP that isn't of a verdict, a comment among shown
+    /// stores, and a client's own text in a verdict.
     ///
     /// The line is without its line feed. Takes no memory. Doesn't wait.
     pub fn keeps(self, line: &[u8]) -> bool
-        // Proved (scripts, text-kept-lines): `--text` leaves just these lines as they are: every object, every line of
-        //   TAP that isn't of a verdict, every comment among shown stores, and a client's own text in a verdict.
+        // Proved (scripts, text-kept-lines): `--text` leaves just these lines as they are: every line of TAP that isn't
+        //   of a verdict, every comment among shown stores, and a client's own text in a verdict.
         ensures { result ≡ keeps_line self line.now }
     {
         match self {
             LineForm::Answers => false,
             LineForm::Shown => is_comment(line),
             LineForm::Verdict => is_said(line),
-            LineForm::Object => true,
             // The lines behind `# ` are of a verdict. Any other is a test point, or comes before the first.
             LineForm::Noted => match line.strip_prefix(b"# ") {
                 Some(line) => is_said(line),
@@ -192,8 +189,8 @@ impl LineForm {
         match self {
             LineForm::Answers | LineForm::Shown => rows_of(reply_in(line)),
             LineForm::Verdict => rows_of_verdict(line),
-            // A row is an object or part of one, or in TAP a line behind `# `, and `keeps` leaves each as it is.
-            LineForm::Object | LineForm::Noted => 0,
+            // In TAP a row is a line behind `# `, and `keeps` leaves each as it is.
+            LineForm::Noted => 0,
         }
     }
 }

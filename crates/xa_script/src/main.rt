@@ -4,10 +4,10 @@
 //! `xa_audit` audits.
 //!
 //! Functions that use the process or its streams promise nothing of these, since no contract can name them. Tests
-//! of the built program show what they do. Down from `carry_out_to` (`src/from_reader.rt`), which does a job from a
-//! reader to a writer, those that make the job's output or its status have contracts. `src/carrying_out.rt` opens what
-//! a job reads. Read `src/from_reader.rt` next, then `src/jobs.rt`, `src/command_line.rt`, `src/command.rt`,
-//! `src/subcommands.rt` and `src/help.rt`.
+//! of the built program show what they do. Down from `carry_out_on` (`src/from_reader.rt`), which does what a command
+//! line asks for from readers to a writer, those that make the output or the status have contracts.
+//! `src/carrying_out.rt` opens what a job reads. Read `src/from_reader.rt` next, then `src/jobs.rt`, `src/options.rt`,
+//! `src/command.rt`, `src/command_line.rt` and `src/help.rt`.
 #![tactic(auto)]
 
 ghost use Rattle.std.specs.Prelude.{◌≡◌};
@@ -27,7 +27,6 @@ mod found;
 mod from_reader;
 mod help;
 mod hint;
-mod histories;
 mod jobs;
 mod judging;
 mod judging_each;
@@ -41,7 +40,6 @@ mod listing;
 mod manner;
 mod options;
 mod racing;
-mod records;
 mod running;
 mod schedule;
 mod spoken;
@@ -64,10 +62,8 @@ use clap::Error;
 use clap::error::ErrorKind;
 pub use command::Job;
 pub use command_line::{CommandLine, read_line};
-pub use histories::Histories;
 pub use laws::texts_are_read_back;
 pub use manner::Manner;
-pub use records::Records;
 pub use schedule::Schedule;
 use std::alloc::Global;
 use std::env::Env;

@@ -5,7 +5,7 @@ ghost use Rattle.xa_script.specs.Manner.{IsManner};
 use crate::found::{flag_in, text_in};
 use clap::ArgMatches;
 
-/// How a job is done: the options of every job that reads one input, `--json`, and four of `judge`. `audit` has
+/// How a job is done: the options of every job that reads one input, `--json`, and five of `judge`. `audit` has
 /// `--verbose`, `--text`, `--json` and `--quiet` of these.
 #[derive(Clone, Copy, Debug, PartialEq, Eq)]
 pub struct Manner<'a> {
@@ -27,6 +27,8 @@ pub struct Manner<'a> {
     pub json: bool,
     /// Whether a record is judged while it comes.
     pub follow: bool,
+    /// Whether verdicts are listed in the Test Anything Protocol.
+    pub tap: bool,
 }
 
 /// Returns the manner that the options which were found give.
@@ -45,5 +47,6 @@ pub fn manner_in<'a>(found: &ArgMatches<'a>) -> Manner<'a>
         quiet: flag_in(found, "quiet"),
         json: flag_in(found, "json"),
         follow: flag_in(found, "follow"),
+        tap: flag_in(found, "tap"),
     }
 }

@@ -1,186 +1,241 @@
-//! The options and arguments of the subcommands, as `clap` sees them.
-ghost use Rattle.std.specs.Prelude.{◌≡◌, false};
-ghost use Rattle.clap.specs.Words.{rule_of};
-ghost use Rattle.xa_script.specs.CommandLine.{capacity_rule, together_rule, shuffle_rule, renew_rule, runs_rule};
-ghost use Rattle.xa_script.specs.CommandLine.{fixed_rule, stores_rule, limit_rule, number_rule, flag_rule};
-ghost use Rattle.xa_script.specs.CommandLine.{named_file_rule, verbose_rule, text_rule, history_rule, json_rule};
-ghost use Rattle.xa_script.specs.CommandLine.{record_rule};
+//! The jobs, and the options and arguments of each, in one table: as the command line names them, and as their help
+//! shows them.
 
-use clap::builder::ValueParser;
-use clap::{Arg, ArgAction, value_parser};
-use std::alloc::Global;
-
-/// What `--shuffle` does.
-const SHUFFLED: &str =
-    "As --together, and sessions step aside before their lines for numbers of turns drawn from \
-this seed; the numbers are repeatable, but the race's outcome isn't";
-
-/// Returns an option whose value this parser reads, with a default.
-fn number_option<'a>(
-    alloc: Global,
-    name: &'a str,
-    help: &'a str,
-    parser: ValueParser<'a>,
-    default: &'a str,
-) -> Arg<'a>
-    ensures rule { rule_of result ≡ number_rule name.entry.now parser.entry default.entry.now }
-    ensures global { result.global ≡ false }
-{
-    Arg::new(alloc, name)
-        .long(name)
-        .value_name("N")
-        .help(help)
-        .value_parser(parser)
-        .default_value(default)
+/// An option or an argument of a job: its name, what it takes, and last what its help says of it.
+#[derive(Clone, Copy)]
+pub enum Offer {
+    /// An option without a value.
+    Flag(&'static str, &'static str),
+    /// An option whose value names a file.
+    File(&'static str, &'static str),
+    /// An option whose value, which help calls by this name, is a number from the one to the other.
+    Number(&'static str, &'static str, u64, u64, &'static str),
+    /// Such an option with a default.
+    Default(&'static str, u64, u64, &'static str, &'static str),
+    /// An argument of one file or more, which help calls by this name; true if there must be one.
+    Names(&'static str, &'static str, bool, &'static str),
 }
 
-/// Returns an option without a value.
-pub fn flag_option<'a>(alloc: Global, name: &'a str, help: &'a str) -> Arg<'a>
-    ensures rule { rule_of result ≡ flag_rule name.entry.now }
-    ensures global { result.global ≡ false }
-{
-    Arg::new(alloc, name)
-        .long(name)
-        .help(help)
-        .action(ArgAction::SetTrue)
+/// A job, as the command line names it.
+#[derive(Clone, Copy)]
+pub struct Task {
+    /// The name of its subcommand.
+    pub name: &'static str,
+    /// What it does, as its help says first.
+    pub about: &'static str,
+    /// The options that are its own.
+    pub own: &'static [Offer],
+    /// The options after these, which other jobs have too.
+    pub shared: &'static [Offer],
 }
 
-/// Returns the option `--capacity`: how many entries a history has room for.
-pub fn capacity_option<'a>(alloc: Global) -> Arg<'a>
-    ensures rule { rule_of result ≡ capacity_rule }
-    ensures global { result.global ≡ false }
-{
-    let help = "How many entries a history has room for, from 1 to 1024";
-    let parser = value_parser!(u64).range(1..=1024);
-    number_option(alloc, "capacity", help, parser, "1024")
-}
+const CAPACITY: Offer = Offer::Default(
+    "capacity",
+    1,
+    1024,
+    "1024",
+    "How many entries a history has room for, from 1 to 1024",
+);
 
-/// Returns the option `--together`: the sessions of a race wait for each other before their first lines.
-pub fn together_option<'a>(alloc: Global) -> Arg<'a>
-    ensures rule { rule_of result ≡ together_rule }
-    ensures global { result.global ≡ false }
-{
-    let help = "Holds each session at its first line until all sessions have come to theirs";
-    flag_option(alloc, "together", help)
-}
+const STORES: Offer = Offer::Default("stores", 1, 16, "3", "How many stores there are");
 
-/// Returns the option `--shuffle`: the sessions of a race also step aside before each line.
-pub fn shuffle_option<'a>(alloc: Global) -> Arg<'a>
-    ensures rule { rule_of result ≡ shuffle_rule }
-    ensures global { result.global ≡ false }
-{
-    Arg::new(alloc, "shuffle")
-        .long("shuffle")
-        .value_name("SEED")
-        .help(SHUFFLED)
-        .value_parser(value_parser!(u64))
-}
+const LIMIT: &str = "100000";
 
-/// Returns the option `--renew`: a race takes a store without an end.
-pub fn renew_option<'a>(alloc: Global) -> Arg<'a>
-    ensures rule { rule_of result ≡ renew_rule }
-    ensures global { result.global ≡ false }
-{
-    let help = "Goes on when the history has N entries: uses their memory again, for the next ones";
-    flag_option(alloc, "renew", help)
-}
+const LINES_AS_JSON: Offer = Offer::Flag("json", "Prints each line as one JSON object");
 
-/// Returns the option `--runs`: how often a script is raced.
-pub fn runs_option<'a>(alloc: Global) -> Arg<'a>
-    ensures rule { rule_of result ≡ runs_rule }
-    ensures global { result.global ≡ false }
-{
-    Arg::new(alloc, "runs")
-        .long("runs")
-        .value_name("N")
-        .help("Races the script N times, and counts how often each outcome of explore comes")
-        .value_parser(value_parser!(u64).range(1..=1_000_000))
-}
+const VERBOSE: Offer = Offer::Flag(
+    "verbose",
+    "For each fault, says on the standard error where it is and what to do",
+);
 
-/// Returns the option `--stores`: how many stores there are.
-pub fn stores_option<'a>(alloc: Global) -> Arg<'a>
-    ensures rule { rule_of result ≡ stores_rule }
-    ensures global { result.global ≡ false }
-{
-    let parser = value_parser!(u64).range(1..=16);
-    number_option(alloc, "stores", "How many stores there are", parser, "3")
-}
+const TEXT: Offer = Offer::Flag(
+    "text",
+    "Prints keys, values and identifiers as 'text' if all their bytes are printable ASCII",
+);
 
-/// Returns the option `--fixed`: the stores' histories have a limit.
-pub fn fixed_option<'a>(alloc: Global) -> Arg<'a>
-    ensures rule { rule_of result ≡ fixed_rule }
-    ensures global { result.global ≡ false }
-{
-    let help = "Limits each store's history to the N entries of --capacity, then answers log full";
-    flag_option(alloc, "fixed", help)
-}
+/// The options of every job that reads one input.
+const COMMON: [Offer; 4] = [
+    Offer::File("file", "Reads FILE instead of the standard input"),
+    VERBOSE,
+    Offer::Flag(
+        "strict",
+        "Ends with status 8 instead of 0 if a line has a syntax fault",
+    ),
+    TEXT,
+];
 
-/// Returns the option `--limit`: how many configurations, or ways, may be kept.
-pub fn limit_option<'a>(alloc: Global, help: &'a str) -> Arg<'a>
-    ensures rule { rule_of result ≡ limit_rule }
-    ensures global { result.global ≡ false }
-{
-    let parser = value_parser!(u64).range(1..=1_000_000);
-    number_option(alloc, "limit", help, parser, "100000")
-}
+/// The options of `race`.
+const RACE: [Offer; 6] = [
+    CAPACITY,
+    Offer::Flag(
+        "together",
+        "Holds each session at its first line until all sessions have come to theirs",
+    ),
+    Offer::Number(
+        "shuffle",
+        "SEED",
+        0,
+        u64::MAX,
+        "As --together, and sessions step aside before their lines for numbers of turns drawn from \
+this seed; the numbers are repeatable, but the race's outcome isn't",
+    ),
+    Offer::Flag(
+        "renew",
+        "Goes on when the history has N entries: uses their memory again, for the next ones",
+    ),
+    Offer::Number(
+        "runs",
+        "N",
+        1,
+        1_000_000,
+        "Races the script N times, and counts how often each outcome of explore comes",
+    ),
+    LINES_AS_JSON,
+];
 
-/// Returns an option whose value names a file.
-pub fn file_option<'a>(alloc: Global, name: &'a str, help: &'a str) -> Arg<'a>
-    ensures rule { rule_of result ≡ named_file_rule name.entry.now }
-    ensures global { result.global ≡ false }
-{
-    Arg::new(alloc, name)
-        .long(name)
-        .value_name("FILE")
-        .help(help)
-}
+/// The options of `coordinate`.
+const COORDINATE: [Offer; 3] = [
+    STORES,
+    CAPACITY,
+    Offer::Flag(
+        "fixed",
+        "Limits each store's history to the N entries of --capacity, then answers log full",
+    ),
+];
 
-/// Returns the option `--verbose`: faults are explained.
-pub fn verbose_option<'a>(alloc: Global) -> Arg<'a>
-    ensures rule { rule_of result ≡ verbose_rule }
-    ensures global { result.global ≡ false }
-{
-    let help = "For each fault, says on the standard error where it is and what to do";
-    flag_option(alloc, "verbose", help)
-}
+/// The options of `stops`.
+const STOPS: [Offer; 3] = [STORES, CAPACITY, LINES_AS_JSON];
 
-/// Returns the option `--text`: literals of printable bytes are written as texts.
-pub fn text_option<'a>(alloc: Global) -> Arg<'a>
-    ensures rule { rule_of result ≡ text_rule }
-    ensures global { result.global ≡ false }
-{
-    let help =
-        "Prints keys, values and identifiers as 'text' if all their bytes are printable ASCII";
-    flag_option(alloc, "text", help)
-}
+/// The options of `judge`.
+const JUDGE: [Offer; 11] = [
+    Offer::Names(
+        "name",
+        "RECORD",
+        false,
+        "The files that are judged, at most 1000, instead of the standard input",
+    ),
+    Offer::Default(
+        "limit",
+        1,
+        1_000_000,
+        LIMIT,
+        "How many configurations may be kept at a line before the verdict is UNDECIDED",
+    ),
+    Offer::Flag(
+        "explain",
+        "After ILLEGAL, prints what was seen, its call, an order of the lines before, and the store after it",
+    ),
+    Offer::Flag("json", "Prints the verdict as one JSON object, in one line"),
+    Offer::Flag(
+        "quiet",
+        "Doesn't report on the standard error how far the judging is",
+    ),
+    Offer::File(
+        "allow",
+        "Accepts the error numbers that FILE allows in place of others",
+    ),
+    Offer::File(
+        "from",
+        "Begins with the store that FILE lists, as show prints one, instead of an empty store",
+    ),
+    Offer::Flag(
+        "tap",
+        "Lists the verdicts in the Test Anything Protocol, for prove and the like",
+    ),
+    Offer::Flag(
+        "strict-calls",
+        "Takes each call whose text isn't a statement as a faulty line",
+    ),
+    Offer::Flag(
+        "shrink",
+        "After ILLEGAL, prints a smaller record that no order explains either, in place of an order",
+    ),
+    Offer::Flag(
+        "follow",
+        "Judges a record while it comes, and says on the standard error once no order explains it",
+    ),
+];
 
-/// Returns the option `--json`: each line is written as an object.
-pub fn json_option<'a>(alloc: Global) -> Arg<'a>
-    ensures rule { rule_of result ≡ json_rule }
-    ensures global { result.global ≡ false }
-{
-    flag_option(alloc, "json", "Prints each line as one JSON object")
-}
+/// The options of `explore`.
+const EXPLORE: [Offer; 2] = [
+    Offer::Default(
+        "limit",
+        1,
+        1_000_000,
+        LIMIT,
+        "How many ways may be kept at once before the outcome is UNDECIDED",
+    ),
+    LINES_AS_JSON,
+];
 
-/// Returns the argument `HISTORY..`: the files that are audited, at least one.
-pub fn history_argument<'a>(alloc: Global) -> Arg<'a>
-    ensures rule { rule_of result ≡ history_rule }
-    ensures global { result.global ≡ false }
-{
-    Arg::new(alloc, "history")
-        .value_name("HISTORY")
-        .help("The files that are audited, from 1 to 64: each is the history of one store")
-        .num_args(1..)
-        .required(true)
-}
+/// The options of `audit`, which has no others.
+const AUDIT: [Offer; 5] = [
+    Offer::Names(
+        "name",
+        "HISTORY",
+        true,
+        "The files that are audited, from 1 to 64: each is the history of one store",
+    ),
+    Offer::Flag("json", "Prints the audit as one JSON object, in one line"),
+    Offer::Flag("quiet", "Prints the last line alone"),
+    VERBOSE,
+    TEXT,
+];
 
-/// Returns the argument `RECORD..`: the files that are judged, if they are named.
-pub fn record_argument<'a>(alloc: Global) -> Arg<'a>
-    ensures rule { rule_of result ≡ record_rule }
-    ensures global { result.global ≡ false }
-{
-    Arg::new(alloc, "record")
-        .value_name("RECORD")
-        .help("The files that are judged, at most 1000, instead of the standard input")
-        .num_args(1..)
-}
+/// All jobs.
+pub const TASKS: [Task; 9] = [
+    Task {
+        name: "run",
+        about: "Runs a script, and answers each of its lines",
+        own: &[],
+        shared: &COMMON,
+    },
+    Task {
+        name: "race",
+        about: "Races a script: each session runs on a thread of its own",
+        own: &RACE,
+        shared: &COMMON,
+    },
+    Task {
+        name: "coordinate",
+        about: "Runs a coordinator of two-phase commit over several stores, call by call",
+        own: &COORDINATE,
+        shared: &COMMON,
+    },
+    Task {
+        name: "stops",
+        about: "Stops a coordinator at each place, and shows what a recovery makes of it",
+        own: &STOPS,
+        shared: &COMMON,
+    },
+    Task {
+        name: "serve",
+        about: "Answers each line before it reads more",
+        own: &[],
+        shared: &COMMON,
+    },
+    Task {
+        name: "show",
+        about: "Answers each line as serve does, and prints the store after each answer",
+        own: &[],
+        shared: &COMMON,
+    },
+    Task {
+        name: "judge",
+        about: "Judges a record: whether some order of its statements explains what clients saw",
+        own: &JUDGE,
+        shared: &COMMON,
+    },
+    Task {
+        name: "explore",
+        about: "Runs a script in every order of its sessions, and lists each outcome once",
+        own: &EXPLORE,
+        shared: &COMMON,
+    },
+    Task {
+        name: "audit",
+        about: "Audits the histories of several stores: which global transactions stayed atomic",
+        own: &AUDIT,
+        shared: &[],
+    },
+];

@@ -1,9 +1,6 @@
 //! Races a script again and again, and returns the exit status for how that ended.
-ghost use Rattle.std.specs.Prelude.{ℕ, IfOk, IfErr};
 ghost use Rattle.decision_log.specs.Opens.{IsCapacity};
-ghost use Rattle.xa_races.specs.Came.{AfterRunsFault};
-ghost use Rattle.xa_script.specs.{Status.AppendsCame, Jobs.HasCame};
-ghost use Rattle.xa_lines.specs.Writing.{AppendsObjects, AfterObjects};
+ghost use Rattle.xa_script.specs.{Jobs.HasCame};
 
 use crate::Schedule;
 use crate::exploring::status_of_end;
@@ -11,7 +8,7 @@ use std::alloc::{Alloc, Global};
 use std::io::{Read, Write};
 use std::sync::Wait;
 use std::thread::Threads;
-use xa_lines::{ScriptFault, in_memory, write_objects};
+use xa_lines::ScriptFault;
 use xa_races::{ReshuffledGate, runs_script};
 use xa_store::{Gate, OpenGate, TogetherGate};
 
@@ -27,13 +24,12 @@ fn run_behind<I: Read, O: Write, G: Gate + Sync, R: Alloc<A = Global> + Threads 
     runs: u64,
 ) -> Result<u8, ScriptFault>
     requires { IsCapacity capacity }
-    ensures came { IfOk result (λ status. AppendsCame status (I.remaining input.old) (O.contents output.old)
-        (O.contents output.new)) }
-    ensures fault { IfErr result (λ fault. AfterRunsFault renews fault (I.remaining input.old)
-        (O.contents output.old) (O.contents output.new)) }
+    ensures { HasCame renews (I.remaining input.old) (O.contents output.old) (O.contents output.new) result }
 {
-    let ended = runs_script(rt, rt.alloc(), input, output, capacity, renews, runs, gate)?;
-    Ok(status_of_end(ended))
+    match runs_script(rt, rt.alloc(), input, output, capacity, renews, runs, gate) {
+        Ok(ended) => Ok(status_of_end(ended)),
+        Err(fault) => Err(fault),
+    }
 }
 
 /// Races a script `runs` times at the gate of a schedule, writes which outcomes came, or its faulty lines,
@@ -55,10 +51,7 @@ pub fn run_by<I: Read, O: Write, R: Alloc<A = Global> + Threads + Wait + Sync>(
 ) -> Result<u8, ScriptFault>
     requires { IsCapacity capacity }
     // Proved (scripts, status-of-an-end)
-    ensures came { IfOk result (λ status. AppendsCame status (I.remaining input.old) (O.contents output.old)
-        (O.contents output.new)) }
-    ensures fault { IfErr result (λ fault. AfterRunsFault renews fault (I.remaining input.old)
-        (O.contents output.old) (O.contents output.new)) }
+    ensures { HasCame renews (I.remaining input.old) (O.contents output.old) (O.contents output.new) result }
 {
     match schedule {
         Schedule::Freely => run_behind(rt, input, output, capacity, &OpenGate, renews, runs),
@@ -70,63 +63,5 @@ pub fn run_by<I: Read, O: Write, R: Alloc<A = Global> + Threads + Wait + Sync>(
             let gate = ReshuffledGate::new(seed);
             run_behind(rt, input, output, capacity, &gate, renews, runs)
         }
-    }
-}
-
-/// Races a script `runs` times, writes as an object each line that `run_by` would write, and returns the exit
-/// status.
-///
-/// The parameters are those of `run_by`.
-/// Errors: as `runs_script`. After `Write` a prefix of the objects was written, after any other error nothing.
-/// May return `NoMemory`. Waits.
-/// Own rule: docs/COMMANDS.md#output-as-json.
-pub fn run_objects<I: Read, O: Write, R: Alloc<A = Global> + Threads + Wait + Sync>(
-    rt: &R,
-    input: &mut I,
-    output: &mut O,
-    capacity: u64,
-    schedule: Schedule,
-    renews: bool,
-    runs: u64,
-) -> Result<u8, ScriptFault>
-    requires { IsCapacity capacity }
-    // Proved (scripts, output-as-json)
-    ensures came { IfOk result
-        (λ status. AppendsObjects (AppendsCame status (I.remaining input.old)) (O.contents output.old)
-        (O.contents output.new)) }
-    // Proved (scripts, output-as-json)
-    ensures fault { IfErr result (λ fault.
-        AfterObjects (λ before after. (status : ℕ) × AppendsCame status (I.remaining input.old) before after) fault
-        (O.contents output.old) (O.contents output.new)) }
-{
-    // All lines are made in memory first, so nothing is written if that fails.
-    let mut text = Vec::new(rt.alloc());
-    let done = run_by(rt, input, &mut text, capacity, schedule, renews, runs);
-    let status = in_memory(done)?;
-    write_objects(rt.alloc(), output, text.as_slice())?;
-    Ok(status)
-}
-
-/// Races a script `runs` times, writes lines, or if `json` their objects, and returns the exit status.
-///
-/// The other parameters are those of `run_by`.
-/// Errors: as `run_by`. May return `NoMemory`. Waits.
-pub fn run_as<I: Read, O: Write, R: Alloc<A = Global> + Threads + Wait + Sync>(
-    rt: &R,
-    input: &mut I,
-    output: &mut O,
-    capacity: u64,
-    schedule: Schedule,
-    renews: bool,
-    runs: u64,
-    json: bool,
-) -> Result<u8, ScriptFault>
-    requires { IsCapacity capacity }
-    ensures { HasCame json renews (I.remaining input.old) (O.contents output.old) (O.contents output.new) result }
-{
-    if json {
-        run_objects(rt, input, output, capacity, schedule, renews, runs)
-    } else {
-        run_by(rt, input, output, capacity, schedule, renews, runs)
     }
 }

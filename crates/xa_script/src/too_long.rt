@@ -19,7 +19,7 @@ fn advice(job: Job) -> &'static str {
             "the record has more than 16,777,216 bytes; record in pieces, by --record-size of \
                 nigbaru-server, and judge each with --from"
         }
-        Job::Audit { .. } => "the history has more than 16,777,216 bytes; make it shorter",
+        Job::Audit => "the history has more than 16,777,216 bytes; make it shorter",
         Job::Coordinate { .. } | Job::Serve | Job::Show => "the input is too long; make it shorter",
     }
 }
@@ -34,7 +34,7 @@ fn tells(job: Job, verbose: bool) -> bool
     match job {
         Job::Run | Job::Race { .. } => verbose,
         Job::Coordinate { .. } | Job::Serve | Job::Show | Job::Judge { .. } => true,
-        Job::Explore { .. } | Job::Stops { .. } | Job::Audit { .. } => true,
+        Job::Explore { .. } | Job::Stops { .. } | Job::Audit => true,
     }
 }
 

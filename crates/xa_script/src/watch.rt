@@ -44,19 +44,21 @@ pub struct Watch<'r, I: Read + Drop, R> {
 
 impl<'r, I: Read + Drop, R: Eprint + Alloc<A = Global>> Watch<'r, I, R> {
     /// Returns a reader of the same bytes that looks at their lines, if `speaks` or `counts`: it notes whether some
-    /// line is faulty, and if `speaks`, reports what has to come in each that is. A line is faulty if it isn't one of
-    /// this kind, or has more than `most` bytes.
+    /// line is faulty, and if `speaks`, reports what has to come in each that is, behind the input's `name` if it has
+    /// one. A line is faulty if it isn't one of this kind, or has more than `most` bytes.
     ///
     /// Takes no memory. Doesn't wait.
     pub fn new(
         rt: &'r R,
         inner: I,
+        name: Option<&'r str>,
         kind: LineKind,
         most: usize,
         speaks: bool,
         counts: bool,
     ) -> Watch<'r, I, R>
         ensures reader { result.inner ≡ inner }
+        ensures name { result.name ≡ name }
         ensures fresh { result.faulty ≡ false }
         ensures kind { result.kind ≡ kind }
         ensures most { result.most ≡ most }
@@ -65,7 +67,7 @@ impl<'r, I: Read + Drop, R: Eprint + Alloc<A = Global>> Watch<'r, I, R> {
         Watch {
             inner,
             rt,
-            name: None,
+            name,
             kind,
             most,
             looks: speaks || counts,
@@ -76,26 +78,6 @@ impl<'r, I: Read + Drop, R: Eprint + Alloc<A = Global>> Watch<'r, I, R> {
             faulty: false,
             refused: false,
         }
-    }
-
-    /// Returns a reader of one input of a list, under its name, that looks at its lines as `new` says of `speaks` and
-    /// `counts`. No line of it is too long.
-    ///
-    /// Takes no memory. Doesn't wait.
-    pub fn of_file(
-        rt: &'r R,
-        inner: I,
-        name: &'r str,
-        kind: LineKind,
-        speaks: bool,
-        counts: bool,
-    ) -> Watch<'r, I, R>
-        ensures reader { result.inner ≡ inner }
-        ensures name { option_map (λ name. name.now) result.name ≡ Some name.now }
-    {
-        let mut watch = Watch::new(rt, inner, kind, usize::MAX, speaks, counts);
-        watch.name = Some(name);
-        watch
     }
 
     /// Returns the file's name, if it has one, and else an empty one.

@@ -7,6 +7,6 @@ loop-name-preserved g c =
       arith,
       ap length c.in_ok-push.ensures.items,
       length-append c.loop-name.inputs.items
-          (c.of_file.result ∷ []),
+          (c.watched.result ∷ []),
       c.loop-name.invariant,
     )
