@@ -58,7 +58,7 @@ impl<'r, I: Read + Drop, R: Eprint + Alloc<A = Global>> Watch<'r, I, R> {
         counts: bool,
     ) -> Watch<'r, I, R>
         ensures reader { result.inner ≡ inner }
-        ensures name { result.name ≡ name }
+        ensures name { result.name ≡ name.entry }
         ensures fresh { result.faulty ≡ false }
         ensures kind { result.kind ≡ kind }
         ensures most { result.most ≡ most }
