@@ -44,7 +44,7 @@ returns-in-Some-pop g c = λ texts are.
     let new = g.O.Write.contents c.end_one.new.output in
     ended_by (audits line.job) (listing_asked line) false None line c.args.base.now c.args.allowances.now _ texts old new
     c.end_one.result (sym c.is_audit.ensures.audits ∙ c.if-is_audit.false)
-    (sym c.listing_in.ensures.asked ∙ c.in-None.is)
+    (sym c.listing_in.ensures.asked ∙ c.in_default.is)
     (one_ended (λ input. g.I.Read.remaining input.inner) c.pop.new.self.items c.args.inputs.items c.in-Some-pop.input line
     c.args.base.now c.args.allowances.now _ texts old new c.end_one.result (search rules) are c.end_one.ensures)
 
@@ -52,6 +52,6 @@ pub returns : goal.returns
 returns g c = λ texts are.
     let line = c.args.line.now in
     ended_by (audits line.job) (listing_asked line) false None line c.args.base.now c.args.allowances.now _ texts _ _ _
-    (sym c.is_audit.ensures.audits ∙ c.if-is_audit.false) (sym c.listing_in.ensures.asked ∙ c.in-None.is)
+    (sym c.is_audit.ensures.audits ∙ c.if-is_audit.false) (sym c.listing_in.ensures.asked ∙ c.in_default.is)
     (none_ended (λ input. g.I.Read.remaining input.inner) c.args.inputs.items line c.args.base.now
     c.args.allowances.now _ texts _ _ _ (search rules) are)
