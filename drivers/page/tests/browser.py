@@ -1,7 +1,7 @@
 """Chromium without a window, driven by its keys, as a person without a mouse would.
 
-Behind each key the page is waited for until it is at rest: whatever it asks its server is answered, and drawn. So what is
-looked at next doesn't depend on how fast the machine is. Keys that are to come while it works are given at once, as
+Behind each key the page is waited for until it is at rest: whatever it asks its server is answered, and drawn. So what
+is looked at next doesn't depend on how fast the machine is. Keys that are to come while it works are given at once, as
 `press(one, other)`.
 """
 import atexit
@@ -54,16 +54,16 @@ COUNTING = """
     window.fetch = counted(window.fetch);
     for (const read of ['json', 'text']) Response.prototype[read] = counted(Response.prototype[read]);
 """
-# Waits until nothing is asked, and what was drawn is laid out: a change of the size or of the address is told to the page
-# in a turn of its own, and may have it ask once more. (A page that isn't drawn has no frames, so these aren't waited for
+# Waits until nothing is asked: a change of the address is told to the page in a turn of its own, and may have it ask
+# once more. Another size is told with the next frame. (A page that isn't drawn has no frames, so these aren't waited for
 # in vain.)
 REST = """
-    const done = arguments[0];
+    const [isSized, done] = arguments;
     const frame = () => new Promise((go) => { requestAnimationFrame(go); setTimeout(go, 200); });
     const turn = () => new Promise((go) => setTimeout(go));
     (async () => {
+        if (isSized) for (const _ of [1, 2]) await frame();
         for (let quiet = 0; quiet < 2; ) {
-            await frame();
             await turn();
             quiet = window.asking ? 0 : quiet + 1;
         }
@@ -121,13 +121,13 @@ class Browser:
         self.driver.get("about:blank")
         self.driver.get(address)
         self.until(lambda: self.text("#program"), "the page says the program's version")
-        self.rest()
+        self.rest(is_sized=True)
 
-    def rest(self):
+    def rest(self, is_sized=False):
         """Waits until the page is at rest. (While a page gives way to another one, it can't be asked.)"""
         def is_at_rest():
             try:
-                self.driver.execute_async_script(REST)
+                self.driver.execute_async_script(REST, is_sized)
             except TimeoutException:
                 raise
             except WebDriverException:
@@ -189,12 +189,18 @@ class Browser:
     # a keyboard and a pointer
 
     def press(self, *keys):
-        ActionChains(self.driver).send_keys(*keys).perform()
+        self._keys(*keys)
         self.rest()
 
     def chord(self, held, key):
-        ActionChains(self.driver).key_down(held).send_keys(key).key_up(held).perform()
+        self._chord(held, key)
         self.rest()
+
+    def _keys(self, *keys):
+        ActionChains(self.driver).send_keys(*keys).perform()
+
+    def _chord(self, held, key):
+        ActionChains(self.driver).key_down(held).send_keys(key).key_up(held).perform()
 
     def click(self, css):
         """Clicks by a pointer. What was drawn anew before the pointer came to it is looked for again."""
@@ -212,7 +218,7 @@ class Browser:
         """Gives the page another size, as a screen of its own."""
         self.driver.execute_cdp_cmd("Emulation.setDeviceMetricsOverride",
                                     {"width": width, "height": height, "deviceScaleFactor": 1, "mobile": False})
-        self.rest()
+        self.rest(is_sized=True)
 
     def unsized(self):
         self.driver.execute_cdp_cmd("Emulation.clearDeviceMetricsOverride", {})
@@ -226,9 +232,9 @@ class Browser:
             if steps == 0:
                 return
             if steps is not None and steps > 0:
-                self.press(Keys.TAB * steps)
+                self._keys(Keys.TAB * steps)
             elif steps is not None:
-                self.chord(Keys.SHIFT, Keys.TAB * -steps)
+                self._chord(Keys.SHIFT, Keys.TAB * -steps)
         raise AssertionError(f"the tabulator doesn't come to {css}: {steps} steps are left")
 
     def type(self, css, text):
@@ -237,7 +243,7 @@ class Browser:
 
     def replace(self, css, text):
         self.focus(css)
-        self.chord(Keys.CONTROL, "a")
+        self._chord(Keys.CONTROL, "a")
         self.press(Keys.DELETE, text)
 
     def push(self, css):
