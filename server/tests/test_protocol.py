@@ -327,7 +327,8 @@ class Patience(Case):
 
 class CommandLine(Case):
     def said(self, *words):
-        ran = subprocess.run([SERVER, *words], stderr=subprocess.PIPE, stdout=subprocess.PIPE, text=True, timeout=PATIENCE)
+        ran = subprocess.run([SERVER, *words], stderr=subprocess.PIPE, stdout=subprocess.PIPE, text=True,
+                             timeout=PATIENCE)
         return ran.returncode, ran.stderr + ran.stdout
 
     def test_what_is_refused(self):

@@ -55,8 +55,8 @@ COUNTING = """
     for (const read of ['json', 'text']) Response.prototype[read] = counted(Response.prototype[read]);
 """
 # Waits until nothing is asked: a change of the address is told to the page in a turn of its own, and may have it ask
-# once more. Another size is told with the next frame. (A page that isn't drawn has no frames, so these aren't waited for
-# in vain.)
+# once more. Another size is told with the next frame. (A page that isn't drawn has no frames, so these aren't waited
+# for in vain.)
 REST = """
     const [isSized, done] = arguments;
     const frame = () => new Promise((go) => { requestAnimationFrame(go); setTimeout(go, 200); });

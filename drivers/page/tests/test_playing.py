@@ -70,7 +70,7 @@ class Playing(View):
             list.dispatchEvent(new Event('change'));""", name)
 
     def go_on(self):
-        """Has the step come that a story waits with which plays. How long it would have waited; None where none does."""
+        """Has the step come that a story waits with which plays. How long it would have waited; None if none does."""
         waited = self.browser.run(GO_ON)
         self.browser.rest()
         return waited
