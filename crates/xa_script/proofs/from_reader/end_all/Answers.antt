@@ -40,18 +40,22 @@ returns-in-Some g c = λ texts are.
 pub returns-in-Some-pop : goal.returns-in-Some-pop
 returns-in-Some-pop g c = λ texts are.
     let line = c.args.line.now in
+    let names = map (λ input. unwrap_or (option_map (λ name. name.now) input.name) []) c.args.inputs.items in
     let old = g.O.Write.contents c.args.output.now in
     let new = g.O.Write.contents c.end_one.new.output in
-    ended_by (audits line.job) (listing_asked line) false None line c.args.base.now c.args.allowances.now _ texts old new
-    c.end_one.result (sym c.is_audit.ensures.audits ∙ c.if-is_audit.false)
+    ended_by (audits line.job) (listing_asked line) false None line c.args.base.now c.args.allowances.now names texts
+    old new c.end_one.result (sym c.is_audit.ensures.audits ∙ c.if-is_audit.false)
     (sym c.listing_in.ensures.asked ∙ c.in_default.is)
-    (one_ended (λ input. g.I.Read.remaining input.inner) c.pop.new.self.items c.args.inputs.items c.in-Some-pop.input line
-    c.args.base.now c.args.allowances.now _ texts old new c.end_one.result (search rules) are c.end_one.ensures)
+    (one_ended (λ input. g.I.Read.remaining input.inner) c.pop.new.self.items c.args.inputs.items c.in-Some-pop.input
+    line c.args.base.now c.args.allowances.now names texts old new c.end_one.result (search rules) are
+    c.end_one.ensures)
 
 pub returns : goal.returns
 returns g c = λ texts are.
     let line = c.args.line.now in
-    ended_by (audits line.job) (listing_asked line) false None line c.args.base.now c.args.allowances.now _ texts _ _ _
-    (sym c.is_audit.ensures.audits ∙ c.if-is_audit.false) (sym c.listing_in.ensures.asked ∙ c.in_default.is)
+    let names = map (λ input. unwrap_or (option_map (λ name. name.now) input.name) []) c.args.inputs.items in
+    ended_by (audits line.job) (listing_asked line) false None line c.args.base.now c.args.allowances.now names texts
+    _ _ _ (sym c.is_audit.ensures.audits ∙ c.if-is_audit.false)
+    (sym c.listing_in.ensures.asked ∙ c.in_default.is)
     (none_ended (λ input. g.I.Read.remaining input.inner) c.args.inputs.items line c.args.base.now
-    c.args.allowances.now _ texts _ _ _ (search rules) are)
+    c.args.allowances.now names texts _ _ _ (search rules) are)
