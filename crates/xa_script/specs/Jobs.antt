@@ -123,8 +123,8 @@ HasListed base allowances asked strict tap names records old new done =
     (λ fault. AfterListing base allowances asked tap names records fault old new)
 
 -- a job ended as `Done` says, and then `end_of` made its result by `faulty`: whether one of its lines was faulty, or
--- None if memory was refused for finding that out. No line was faulty if lines weren't looked at; if they were, it isn't
--- tied to the lines here, and may be any of the three
+-- None if memory was refused for finding that out. No line was faulty if lines weren't looked at; if they were, it
+-- isn't tied to the lines here, and may be any of the three
 pub record IsLookedAt (strict looks : Bool) (Done : End → Type 0) (result : End) : Type 0 where
   pub done : End
   pub faulty : Option Bool

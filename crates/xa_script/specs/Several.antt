@@ -1,5 +1,6 @@
 -- What is written for several records that are judged in one call, and how that ends.
-use Rattle.std.specs.Prelude.{◌≡◌, ◌+◌, ◌++◌, ◌∷◌, [], if◌then◌else◌, ℕ, Bool, Option, Some, None, List, length, map, IfSome}
+use Rattle.std.specs.Prelude.{◌≡◌, ◌+◌, ◌++◌, ◌∷◌, [], if◌then◌else◌, ℕ, Bool, Option, Some, None, List}
+use Rattle.std.specs.Prelude.{length, map, IfSome}
 use Rattle.std.specs.Io.KnownBytes.{Keeps, Appends}
 use Rattle.xa_lines.specs.{Transcript.AppendsPrefix, declared.script_fault.ScriptFault.{ScriptFault, TheVariants.Write}}
 use Rattle.xa_server.specs.State.{State}

@@ -1,5 +1,6 @@
 //! Reading the command line.
-ghost use Rattle.std.specs.{Prelude.{◌≡◌, ◌≤◌, [], None, IfOk, IfSome, codes, length, map, unwrap_or}, Option.IsSomeAnd};
+ghost use Rattle.std.specs.Prelude.{◌≡◌, ◌≤◌, [], None, IfOk, IfSome, codes, length, map, unwrap_or};
+ghost use Rattle.std.specs.Option.{IsSomeAnd};
 ghost use Rattle.clap.specs.Words.{all_of, app_of, found_of, rows_of, subcommand_rows_of};
 ghost use Rattle.xa_script.specs.CommandLine.{script_app, CanBeDone, IsJob};
 ghost use Rattle.xa_script.specs.Manner.{HasExcess, IsLine, IsManner, ReadsLine, Says, most_names as most_names_of};

@@ -1,5 +1,6 @@
 //! Does what a command line asks for, from readers whose lines are looked at as they are read, to a writer.
-ghost use Rattle.std.specs.Prelude.{◌≡◌, ◌≤◌, ◌||◌, [], ℕ, List, Some, IfSome, false, true, length, map, option_map, unwrap_or};
+ghost use Rattle.std.specs.Prelude.{◌≡◌, ◌≤◌, ◌||◌, [], ℕ, List, Some, IfSome, false, true, length, map, option_map};
+ghost use Rattle.std.specs.Prelude.{unwrap_or};
 ghost use Rattle.std.specs.Io.Buffered.{writer_contents};
 ghost use Rattle.xa_script.specs.CommandLine.{CanBeDone, IsLimit, ReadsInput, audits};
 ghost use Rattle.xa_script.specs.{Jobs.{HasEnded, HasReadOne, IsFlushed}, Several.{judging_asked, listing_asked}};
@@ -58,8 +59,8 @@ fn form_of(job: Job) -> LineForm
     }
 }
 
-/// Returns the form of the lines whose literals are written as texts; None without `--text`, and if objects are written,
-/// which stay as they are. If verdicts are `listed`, only TAP has lines below each, which may have literals.
+/// Returns the form of the lines whose literals are written as texts; None without `--text`, and if objects are
+/// written, which stay as they are. If verdicts are `listed`, only TAP has lines below each, which may have literals.
 pub fn text_form(line: &CommandLine<'_>, listed: bool) -> Option<LineForm>
     // Proved (scripts, text-form): `--text` is heard beside any other option but `--json`, and takes the lines for what
     //   the job writes: verdicts, shown stores or answers; or for TAP, if verdicts are listed so.

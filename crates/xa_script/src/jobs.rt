@@ -229,8 +229,8 @@ fn show<I: Read, O: Write, R: Alloc<A = Global>>(
     Ok(DONE)
 }
 
-/// Does a job that isn't to audit, from a reader to a writer, and returns the exit status. With `--json` a verdict is an
-/// object; the lines of other jobs aren't.
+/// Does a job that isn't to audit, from a reader to a writer, and returns the exit status. With `--json` a verdict is
+/// an object; the lines of other jobs aren't.
 fn write_lines<I: Read, O: Write, R: Clock + Eprint + Alloc<A = Global> + Threads + Wait + Sync>(
     rt: &R,
     input: &mut I,

@@ -1,7 +1,8 @@
 //! The command and its subcommands, as `clap` sees them.
 ghost use Rattle.std.specs.Prelude.{◌≡◌, IfOk, false};
 ghost use Rattle.clap.specs.Words.{app_of, new_app, rule_of, with_subcommand};
-ghost use Rattle.xa_script.specs.CommandLine.{IsLocal, app_for, bare_app, rule_for, script_app, with_offers, with_tasks};
+ghost use Rattle.xa_script.specs.CommandLine.{IsLocal, app_for, bare_app, rule_for, script_app, with_offers};
+ghost use Rattle.xa_script.specs.CommandLine.{with_tasks};
 
 use crate::help::{START, VERSION, help_of};
 use crate::options::{Offer, TASKS, Task};
