@@ -40,9 +40,9 @@ pub fn race_is_explained()
 /// before, and calls may be open at the end. Takes no memory. Doesn't wait.
 /// Own rule: docs/PROOF.md#from-one-call-to-linearizability.
 pub fn records_are_explained()
-    // Proved (records, records-are-explained): What callers see of a run of the log machine of sessions 1 to 16 whose
-    //   calls end as the session theorem says is explained, once it is written down as a record in the order in which
-    //   it happened.
+    // Proved (records, records-are-explained): Take a run of the log machine of sessions 1 to 16 whose calls end as the
+    //   session theorem says. What callers see of it is explained, if it is written down as a record in the order in
+    //   which it happened.
     ensures { (base : State) (moments : List Moment) (old new : Stage) (events : List Event)
         → IsState old.machine
         → ((session : ℕ) → old.calls session ≡ None)

@@ -31,7 +31,7 @@ pub extern "C" fn nigbaru_raw_start(
     //   to 4 the answer is the server's reply to it after the first `place` entries of the store's one history, which
     //   have all that the session had seen. A statement that is logged is the next entry, once.
     // Proved (c, values-fail): At any other status nothing of the statement was added, and the status' cause holds, as
-    //   for a text. `OUT_OF_RANGE` is returned exactly if a session is held and the arguments name no statement: a
+    //   for a text. `OUT_OF_RANGE` is returned exactly if a session is held and the arguments name no statement. Then a
     //   formatID is negative, a gtrid's or a bqual's length isn't in `[0, 64]`, a key doesn't have 1 to 64 bytes, or a
     //   value has more than 64. It changes nothing, and a handle without a session stays as it is.
     // Proved (c, values-answer): The answer's fields are those of the reply, and 0 where the reply has none.

@@ -47,9 +47,9 @@ pub fn mixed_is_one_that_took_and_one_that_failed()
 /// Takes no memory. Doesn't wait.
 /// Own rule: docs/HISTORIES.md#audits.
 pub fn mixed_is_a_commit_beside_dropped_writes()
-    // Proved (audit, mixed-histories): In an audit of histories the verdict on a global transaction is MIXED if,
-    //   and only if, some history has an accepted `XA COMMIT` of a branch of it, and some history has a branch of
-    //   it of which no `XA COMMIT` was accepted, and whose last life wrote and was rolled back.
+    // Proved (audit, mixed-histories): In an audit of histories the verdict on a global transaction is MIXED exactly if
+    //   two things hold. Some history has an accepted `XA COMMIT` of a branch of it. And some history has a branch of
+    //   it without an accepted `XA COMMIT`, whose last life wrote and was rolled back.
     ensures { (histories : List (List ℕ)) (globals : List Global)
         → IsAccount histories globals → (global : Global) → Contains globals global
         → (verdict_of global.1 ≡ Mixed) ↔ (HasCommitted histories global.0 × HasDropped histories global.0) }

@@ -153,10 +153,9 @@ impl<S: Speak> Coordinator<S> {
         ensures ends { EndsAs S.view self.old.branches prepared.transaction
             (finish_of_vote (is_decided decisions.now prepared.transaction.number) prepared.vote_kind) result
             self.old.stores.items self.new.stores.items }
-        // Proved (coordinator, agrees): Each call adds only entries that agree with the decisions, also if it
-        //   ends in a fault: a commit or rollback is of a branch of this coordinator's naming, a commit
-        //   without ONE PHASE of a decided number, a rollback of one that isn't decided. Of `abandon` this
-        //   holds if its number isn't decided.
+        // Proved (coordinator, agrees): Each call adds only entries that agree with the decisions, also if it ends in a
+        //   fault. A commit or rollback is of a branch of this coordinator's naming: a commit without ONE PHASE of a
+        //   decided number, a rollback of one that isn't decided. Of `abandon` this holds if its number isn't decided.
         ensures agrees { EachStore S.view (Agrees decisions.now self.old.name.items) self.old.stores.items
             self.new.stores.items }
     {

@@ -186,9 +186,9 @@ impl<S: Speak> Coordinator<S> {
         // Proved (coordinator, work): A row statement is answered only if the session's branch is the
         //   transaction's and ACTIVE, with the server's reply at a place not before what had been seen. The
         //   store takes part then, and the coordinator has the branch open and ACTIVE.
-        // Proved (coordinator, work-fault): After a fault of work other than `Lost`, either the branch was open or
-        //   was started, and the store takes part; or `XA START` wasn't carried out, and was sent since the
-        //   coordinator hadn't the branch open and ACTIVE.
+        // Proved (coordinator, work-fault): After a fault of work other than `Lost`, either the branch was open or was
+        //   started, and the store takes part; or `XA START` wasn't carried out. It was sent since the coordinator
+        //   hadn't the branch open and ACTIVE.
         // Proved (coordinator, work-fault-cause): A fault of work other than `Lost` carries a fault whose cause holds
         //   of the store's session, or the server's refusal of `XA START` at a place not before what had been seen.
         // Proved (coordinator, takes-from-limits): A call of a coordinator takes exactly one from the limit of a

@@ -29,8 +29,9 @@ impl EndlessSession {
         ensures seen { HasOnlySeen (known_of self.old.member.pass) (known_of self.new.member.pass) }
         // Proved (endless, history): A session hands out each entry of the history once and in order, or counts it as
         //   lost. It counts some as lost only if the history has, from the first of them on, at least as many entries
-        //   as the ring has rows; and more than one only so that the last three quarters of the ring's rows are still
-        //   handed out. It says that there is no more only after a look, if it has handed out all that it has seen.
+        //   as the ring has slots. It counts more than one only so that the last three quarters of the ring's slots are
+        //   still handed out. It says that there is no more only after a look, if it has handed out all that it has
+        //   seen.
         ensures hands { Hands self.old.store.value.log result self.old.member self.new.member }
     {
         let log = &self.store.log;

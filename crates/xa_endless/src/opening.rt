@@ -76,9 +76,9 @@ impl EndlessStore {
     /// Doesn't wait.
     /// Own rule: docs/RATTLE.md#a-store-without-an-end.
     pub fn open(alloc: Global, rows: u64, sessions: u64) -> Result<Arc<EndlessStore>, RingFault>
-        // Proved (endless, open): A store opens with as many rows and sessions as were asked for, and with a
-        //   checkpoint for each session, but at most four, and none for a single one; or with the first fault, in the
-        //   order of test, whose cause holds. Of `NoMemory` only that is known that the tests before it were passed.
+        // Proved (endless, open): A store opens with as many slots and sessions as were asked for, or with the first
+        //   fault, in the order of test, whose cause holds. It has a checkpoint for each session, but at most four, and
+        //   none for a single session. Of `NoMemory` only that is known that the tests before it were passed.
         ensures ok { IfOk result (λ store. Opens rows sessions store.value) }
         // Proved (endless, open)
         ensures err { IfErr result (Refuses rows sessions 0) }

@@ -8,9 +8,9 @@ use xa_xid::Statement;
 
 // Proved (coordinator, endless-session): A session of an endless store keeps the promises of `Speak` over the store's
 //   one history. Its answers have all that those of its own `attempt` and `execute` have. It never returns `Full` or
-//   `Busy`. It returns `NoMemory` only for the list of an `XA RECOVER`, for a replica that hasn't replayed all that
-//   it has seen and whose next entry may take memory or that needs a copy of a checkpoint, or after more than 2^59
-//   entries. `attempt` returns it also if entries that the replica needs may be overwritten, and only if it hasn't
+//   `Busy`. It returns `NoMemory` only for the list of an `XA RECOVER`, for a replica that hasn't replayed all that it
+//   has seen, or after more than 2^59 entries. The replica's next entry may take memory then, or it needs a copy of a
+//   checkpoint. `attempt` returns it also if entries that the replica needs may be overwritten, and only if it hasn't
 //   tried; `execute` only after more looks than tries. Neither hands out an entry of the history.
 impl Speak for EndlessSession {
     ghost use Rattle.xa_endless.specs.Sessions.{view_of, keeps-law, SpeaksOnce, SpeaksOn};

@@ -134,11 +134,11 @@ pub fn see_event(
     event: &Event,
     limit: usize,
 ) -> Result<Advance, NoMemory>
-    // Proved (records, one-event): Every order that goes on past an event from the configurations before it
-    //   also goes on from those that are kept after it, and no others are kept than acts lead to that take
-    //   effect as late as they can. If none is kept, no order goes on; then the listed answers are all that the
-    //   session of a return could get. Otherwise acts had to take effect before this event, and led to more
-    //   than `limit` different configurations.
+    // Proved (records, one-event): Every order that goes on past an event from the configurations before it also goes
+    //   on from those that are kept after it. To each that is kept there are acts that lead, and they take effect as
+    //   late as they can. If none is kept, no order goes on; then the listed answers are all that the session of a
+    //   return could get. Otherwise acts had to take effect before this event, and led to more than `limit` different
+    //   configurations.
     ensures { IfOk result (IsAdvance known.items event.now limit) }
 {
     match event {

@@ -35,9 +35,9 @@ pub fn judge_in_breadth<P: Progress>(
 ) -> Result<Verdict, NoMemory>
     requires { before + length events.now < 2 ^ 64 }
     ensures verdict { IfOk result (IsVerdict base.now events.now limit) }
-    // Proved (records, progress-kept): While all configurations are kept, the number that `progress` is told is
-    //   that of a list: what was seen before the event leads to each of the list, by acts as late as they can
-    //   be, and every order that goes on goes on from one of them.
+    // Proved (records, progress-kept): While all configurations are kept, the number that `progress` is told is the
+    //   length of a list. What was seen before the event leads to each of the list, by acts as late as they can be, and
+    //   every order that goes on goes on from one of them.
     ensures told { IfOk result (λ verdict. AreReports P.judged_gives (IsSizeOfKept base.now events.now) before
         (before + length events.now) progress.old (seen_for events.now verdict) progress.new) }
 {

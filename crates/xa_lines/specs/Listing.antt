@@ -47,5 +47,4 @@ row_line state key = codes "  ROW " ++ part_text key ++ value_text (committed_va
 
 -- every branch, and these rows
 unfoldable pub listing : State → List (List ℕ) → List ℕ
--- every branch, and these rows
 listing state keys = flat_map (branch_lines state) (branches_of state) ++ flat_map (row_line state) keys

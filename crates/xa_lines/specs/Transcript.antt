@@ -34,7 +34,6 @@ answer_of state (Given session text) = answer_to state session (read_of text)
 
 -- the state after a line
 unfoldable pub state_after_line : State → Line → State
--- the state after a line
 state_after_line state Blank = state
 state_after_line state Bad = state
 state_after_line state (Given session text) = state_then state session (read_of text)

@@ -15,10 +15,10 @@ ghost use Rattle.xa_words.specs.Entry.{Entry};
 /// coordinator's branches is prepared.
 /// Own rule: docs/COORDINATOR.md#stops.
 pub fn recovery_keeps_to_decisions()
-    // Proved (coordinator, recovery-keeps-to-decisions): In any run of a manager's calls over unbounded stores that
-    //   begins with nothing, and in which only the last call is `RECOVER` and is answered with a report, all that
-    //   the coordinator added goes with the final decisions, wherever a coordinator was stopped by `FAIL` and
-    //   `STOP`, and whatever other clients do. None of its branches is prepared.
+    // Proved (coordinator, recovery-keeps-to-decisions): Let a run of a manager's calls over unbounded stores begin
+    //   with nothing, and let only its last call be `RECOVER`, answered with a report. Then all that the coordinator
+    //   added goes with the final decisions, wherever a coordinator was stopped by `FAIL` and `STOP`, and whatever
+    //   other clients do. None of its branches is prepared.
     // Proved (coordinator, goes-with-decisions): `XA COMMIT` goes with the decisions if it is of a decided
     //   transaction, or with ONE PHASE of an undecided one that has a branch in no other store. `XA ROLLBACK`
     //   does if it is of an undecided one.
@@ -36,12 +36,12 @@ pub fn recovery_keeps_to_decisions()
 /// or roll back a branch of the coordinator's naming.
 /// Own rule: docs/COORDINATOR.md#stops.
 pub fn transactions_stand_whole_or_not_at_all()
-    // Proved (coordinator, whole-or-not-at-all): After a run of a manager's calls that begins with nothing and ends
-    //   in its only, and completed, `RECOVER`, a decided transaction was committed in each store in which the
-    //   coordinator began a branch of it, with all writes of that branch at once, wherever a coordinator was stopped
-    //   by `FAIL` and `STOP`. An undecided one was committed, by whomever, only with ONE PHASE, and then the
-    //   coordinator began a branch of it in no other store. Premise: no `AT` commits or rolls back a branch of the
-    //   coordinator's naming.
+    // Proved (coordinator, whole-or-not-at-all): Let a run of a manager's calls begin with nothing and end in its only
+    //   `RECOVER`, which completes. Then a decided transaction was committed in each store in which the coordinator
+    //   began a branch of it, with all writes of that branch at once. This holds wherever a coordinator was stopped by
+    //   `FAIL` and `STOP`. An undecided one was committed, by whomever, only with ONE PHASE, and then the coordinator
+    //   began a branch of it in no other store. Premise: no `AT` commits or rolls back a branch of the coordinator's
+    //   naming.
     ensures { (stores : ℕ) (told : List Call) (responses : List Response) (report : Report) (last : Managing)
         → All IsPlain told
         → All LeavesBranches told

@@ -32,8 +32,8 @@ pub struct Explored {
 /// Own rule: docs/COMMANDS.md#explore.
 pub fn explore_text(alloc: Global, text: &[u8], limit: usize) -> Result<Explored, NoMemory>
     // Proved (orders, text): A script with faulty lines ends as faulty, and exactly its faulty lines are written.
-    //   Otherwise the text lists the outcomes of its parts, each once with its least order; or it is `UNDECIDED`, and
-    //   then orders of one length lead to more ways than the limit, no two of which have come to the same.
+    //   Otherwise the text lists the outcomes of its parts, each once with its least order, or it is `UNDECIDED`. If it
+    //   is, orders of one length lead to more ways than the limit, no two of which have come to the same.
     ensures { IfOk result (λ explored. IsExploredText text.now limit explored.ended explored.text.items) }
 {
     let script = read_script(alloc, text)?;

@@ -45,10 +45,10 @@ pub fn race_script<I: PieceReader, O: PieceWriter, G: Gate + Sync, R: Threads + 
     //   for, and explains every answer.
     ensures written { OnOk result (IfSome (I.remaining reader.old)
         (λ script. AppendsRace (Some capacity) script (O.contents writer.old) (O.contents writer.new))) }
-    // Proved (races, script-held-as-asked): After Ok, if no line is faulty, a race of the script was held in a log
-    //   with the room, or over a ring with the slots, that was asked for, and the gate can let in each statement.
-    //   After `GateShut` the gate can shut a statement of one of the script's runs; after `Full` such a statement has
-    //   no room in the log.
+    // Proved (races, script-held-as-asked): After Ok, if no line is faulty, a race of the script was held in a log with
+    //   the room that was asked for, or over a ring with the slots. Its gate can let in each statement. After
+    //   `GateShut` the gate can shut a statement of one of the script's runs; after `Full` such a statement has no room
+    //   in the log.
     ensures held { OnOk result (IfSome (I.remaining reader.old) (λ script.
         AppendsHeld (IsHeldInLog (G.may_answer gate.now) capacity) script (O.contents writer.old)
         (O.contents writer.new))) }

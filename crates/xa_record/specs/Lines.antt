@@ -47,7 +47,6 @@ is_silent line = is_empty_line (unblank line) || is_comment_line line
 
 -- a text without the blanks at its end
 unfoldable pub trimmed : List ℕ → List ℕ
--- a text without the blanks at its end
 trimmed text = reverse (unblank (reverse text))
 
 -- what is said, if no text follows; else the line is bad

@@ -30,7 +30,6 @@ order_lines calls (numbered ∷ more) (Move.Event ∷ moves) = order_lines (with
 
 -- lines, each with a line feed
 unfoldable pub joined : List (List ℕ) → List ℕ
--- lines, each with a line feed
 joined [] = []
 joined (line ∷ lines) = line ++ codes "\n" ++ joined lines
 

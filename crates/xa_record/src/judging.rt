@@ -148,12 +148,12 @@ pub fn judge_text<P: Progress>(
     // Proved (records, illegal-explained): If an ILLEGAL verdict is explained, its order is that of moves
     //   that lead through what was seen before its place. The store is listed to which they lead: every
     //   branch, and each row that a call before the place names, once, ascending.
-    // Proved (records, illegal-unexplained): An ILLEGAL verdict that is to be explained lacks its order and
-    //   store only if more configurations than allowed come before a place of what was seen before it, or if a
-    //   smaller record is asked for: then it has neither.
+    // Proved (records, illegal-unexplained): An ILLEGAL verdict that is to be explained lacks its order and store only
+    //   if a smaller record is asked for, or more configurations than allowed come before a place of what was seen
+    //   before it. Then it has neither.
     // Proved (records, illegal-smaller)
-    // Proved (records, order-replayed): The order that is written for a legal record, run as a script by the
-    //   server with which it begins, gives for each effect, in order, the answer that its session has there,
+    // Proved (records, order-replayed): The order that is written for a legal record can be run as a script, by the
+    //   server with which it begins. It then gives for each effect, in order, the answer that its session has there,
     //   along the moves by which the record is explained. `run` reads orders of up to 1,048,576 bytes.
     ensures { IfOk result
         (λ judged. IsJudged base.now text.now allowances.now asked judged.outcome judged.text.items) }

@@ -75,9 +75,9 @@ fn goes_on_behind(text: &[u8]) -> bool
 /// Takes no memory. Doesn't wait.
 /// Own rule: docs/HISTORIES.md#records.
 pub fn foreign_in(text: &[u8]) -> Option<Foreign>
-    // Proved (scripts, foreign-records): A text is found to be in another form than a record's exactly if it begins
-    //   with a byte order mark, begins as UTF-16 does, has carriage returns and no line feed, or has a digit or `#`
-    //   directly behind a carriage return.
+    // Proved (scripts, foreign-records): A text is found to be in another form than a record's in exactly these cases.
+    //   It begins with a byte order mark or as UTF-16 does, it has carriage returns and no line feed, or it has a digit
+    //   or `#` directly after a carriage return.
     ensures { result ≡ foreign_of text.now }
 {
     // How a text begins says more than its carriage returns, which may be parts of other units in UTF-16.

@@ -136,8 +136,8 @@ pub fn push_piece(
     verdict: &Verdict,
 ) -> Result<(), NoMemory>
     // Proved (scripts, text-of-several): What is written for one of several records is its name with the first line of
-    //   its verdict; with `--tap` a test point, and below it the verdict's lines as comments, or only the first of them
-    //   if the record is LEGAL.
+    //   its verdict. With `--tap` it is a test point, and below it the verdict's lines as comments, or only the first
+    //   of them if the record is LEGAL.
     ensures { OnOk result
         (out.new.items ≡ out.old.items ++ piece tap number name.now (verdict.now.status, verdict.now.text.items)) }
 {

@@ -277,9 +277,9 @@ impl<W: Write + Drop> Write for Texts<W> {
         ensures bound { WritesAtMost result buf.now }
         ensures bytes { ⊤ }
         // Proved (scripts, text-writer): With `--text` the writer keeps the bytes that it takes in order. Each whole
-        //   line has its literals of printable bytes written as texts, if it isn't a row or one of the lines that
-        //   stay as they are, and the line has at most 512 bytes before and after that. A line that a flush cuts off
-        //   passes unchanged, and so does one with more bytes, each up to its line feed.
+        //   line has its literals of printable bytes written as texts, if the line has at most 512 bytes before and
+        //   after that. A row is left as it is, and so is each of the lines that stay as they are. A line that a flush
+        //   cuts off passes unchanged, and so does one with more bytes, each up to its line feed.
         ensures taken { IfOk result (λ count. Takes W.contents self.old (take count buf.now) self.new) }
         // Proved (scripts, text-writer)
         ensures form { self.new.form ≡ self.old.form }

@@ -63,5 +63,4 @@ table state association Disconnect = Accepted
 
 -- the reply to a session's statement
 unfoldable pub reply_to : State → ℕ → Statement → Reply
--- the reply to a session's statement
 reply_to state session statement = table state (association_of state session) statement

@@ -95,7 +95,6 @@ unless_refused (Reply.Refused error) old new = old
 
 -- the state after a session's statement
 unfoldable pub after : State → ℕ → Statement → State
--- the state after a session's statement
 after state session statement = unless_refused (reply_to state session statement) state
     (effect state session (association_of state session) statement)
 

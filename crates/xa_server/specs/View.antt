@@ -43,7 +43,6 @@ branch_seen rows xid branch =
 
 -- the state that the records stand for
 unfoldable pub state_of : BranchMap → RowMap → State
--- the state that the records stand for
 state_of branches rows =
     record { branches = mapped (branch_seen rows) branches; rows = gather (λ row. row.committed) rows }
 

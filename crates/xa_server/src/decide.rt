@@ -250,10 +250,10 @@ impl Server {
         ensures enters { IfOk result (λ answer. answer.1 ≡ enters self.now session statement.now) }
         // Proved (server, reply-beforehand)
         ensures memory { OnErr result (is_recover statement.now ≡ true) }
-        // Proved (server, lock-law): Every server keeps the lock law: a row that one branch holds
-        //   exclusively is held by no other, a session owns at most one branch, exactly the PREPARED
-        //   branches have no owner, and a branch writes only rows that it holds exclusively. A statement or
-        //   a history keeps it, if the state before keeps it.
+        // Proved (server, lock-law): Every server keeps the lock law. A row that one branch holds exclusively is held
+        //   by no other, and a branch writes only rows that it holds exclusively. A session owns at most one branch,
+        //   and exactly the PREPARED branches have no owner. A statement or a history keeps it, if the state before
+        //   keeps it.
         ensures lock_law { LockLaw self.now }
     {
         let association = self.association(session);

@@ -40,10 +40,9 @@ impl<'a, L: DecisionLog> Session<'a, L> {
         //   isn't prepared at the answer's prefix, the reply is XAER_NOTA.
         // Proved (sessions, recover-at-a-prefix): `XA RECOVER` lists exactly the branches that are prepared
         //   at the answer's prefix.
-        // Proved (sessions, causes-of-faults): `Overtaken` is returned only if a try was made and lost to a
-        //   longer history, `Full` only if the statement would be logged and as much is seen as the log can
-        //   have, and `Busy` only in a log with turns. At `Overtaken` more is seen than was replayed, at
-        //   `Busy` just as much.
+        // Proved (sessions, causes-of-faults): `Overtaken` is returned only if a try was made and lost to a longer
+        //   history, and `Busy` only in a log with turns. `Full` is returned only if the statement would be logged and
+        //   as much is seen as the log can have. At `Overtaken` more is seen than was replayed, at `Busy` just as much.
         // Proved (sessions, causes-of-no-memory): `NoMemory` is returned only for the list of `XA RECOVER`,
         //   or if not all that is seen is replayed after the call. So if nothing is left to replay, no
         //   other statement returns it. If the replica can't replay what is seen, `NoMemory` is returned

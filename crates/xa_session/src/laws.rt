@@ -12,9 +12,9 @@ ghost use Rattle.xa_session.specs.Linear.{Call as Calls, Return as Returns, Fail
 /// Any number of sessions call; calls may be open at the end. Takes no memory. Doesn't wait.
 /// Own rule: docs/PROOF.md#from-one-call-to-linearizability.
 pub fn calls_are_linearizable()
-    // Proved (sessions, linearizable): Every run of the log machine in which sessions append only their calls' own
-    //   entries, once each, and whose calls end as the session theorem says, is linearizable: each call takes effect at
-    //   one instant between its call and its return.
+    // Proved (sessions, linearizable): A run of the log machine is linearizable if its sessions append only their
+    //   calls' own entries, once each, and its calls end as the session theorem says. Each call takes effect at one
+    //   instant between its call and its return.
     ensures { (base : State) (moments : List Moment) (old new : Stage)
         → IsState old.machine
         → ((session : ℕ) → old.calls session ≡ None)
