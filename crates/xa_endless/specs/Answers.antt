@@ -24,7 +24,7 @@ Fails (Overtaken front) old new = IsOvertaken front old new
 Fails NoMemory old new = IsUnanswered old new
 Fails Behind old new = IsUnanswered old new
 
--- from the replica's next entry on, the history has at least as many entries as the ring has rows, so the ring may have
+-- from the replica's next entry on, the history has at least as many entries as the ring has slots, so the ring may have
 -- overwritten that entry
 abbrev pub IsLost : ℕ → Replica → RingPass → Type 0
 IsLost rows replica pass = replica.replayed + rows ≤ least_of pass

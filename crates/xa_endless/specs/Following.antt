@@ -4,7 +4,7 @@ use Rattle.chain_log.specs.{declared.ring.RingLog.RingLog, RingPass.known_of}
 use Rattle.xa_endless.specs.declared.{following.Next.Next as NextOf, member.Member.Member}
 
 -- so many entries are counted as lost, at least one: the ring may have overwritten the first of them; and unless it is
--- only that one, the entries that are seen and still to be handed out are as many as the ring's rows less a quarter
+-- only that one, the entries that are seen and still to be handed out are as many as the ring's slots less a quarter
 -- (rounded down)
 pub record Loses (log : RingLog) (count : ℕ) (old new : Member) : Type 0 where
   pub some : 0 < count

@@ -96,11 +96,11 @@ impl EndlessSession {
         //   statement was logged and replaying it may take memory. After a fault nothing of the statement was
         //   appended.
         // Proved (endless, causes): `Behind` is returned only if the history has at least as many entries as the ring
-        //   has rows, from the next one on that the session would replay. `Overtaken` only if a try was lost to a
+        //   has slots, from the next one on that the session would replay. `Overtaken` only if a try was lost to a
         //   longer history, after the session had replayed all that it had seen before, and to entries that it hasn't
         //   replayed. `NoMemory` only for a list, for a replica that hasn't replayed all that is seen, or after more
         //   than 2^59 entries. Such a replica's next entry is one that may take memory, or the replica needs a copy
-        //   of a checkpoint: as many entries as the ring has rows are left to replay.
+        //   of a checkpoint: as many entries as the ring has slots are left to replay.
         ensures finds { Finds self.old.store.value.log statement.now result self.new.member.replica
             self.old.member.pass self.new.member.pass }
         // Proved (endless, one-try): An attempt looks, and makes at most one exchange of the word that sessions

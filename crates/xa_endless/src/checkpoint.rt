@@ -30,7 +30,7 @@ pub(crate) struct Checkpoint {
 impl Checkpoint {
     /// How many entries the replica has replayed, if the session can go on from there, else None. The session can if
     /// the checkpoint's replica has replayed more than the session's own, and the next entry isn't lost: of the entries
-    /// that the session has seen, fewer come after the replayed ones than the ring has rows.
+    /// that the session has seen, fewer come after the replayed ones than the ring has slots.
     pub(crate) fn offers(&self, log: &RingLog, member: &Member) -> Option<u64>
         requires mine { spare_log_of self.now.spare ≡ identity_of log.now }
         requires belongs { log_of member.now.pass ≡ identity_of log.now }

@@ -12,7 +12,7 @@ pub enum Next {
     /// The next entry.
     Entry(Entry),
     /// So many entries are counted as lost. The first of them may be overwritten. If there are others, the last three
-    /// quarters of the ring's rows come after them.
+    /// quarters of the ring's slots come after them.
     Lost(u64),
     /// All that the history has was handed out, or counted as lost.
     End,
@@ -47,7 +47,7 @@ impl EndlessSession {
         // The ring may have overwritten the entry, so it is counted as lost. A look tells how long the history is now.
         let count = log.look(&mut self.member.pass);
         // Entries of the oldest quarter of the ring may be overwritten before they are handed out, so they are given
-        // up, too. At least the entry at `told` is given up, also in a ring of fewer than 4 rows, which has no such
+        // up, too. At least the entry at `told` is given up, also in a ring of fewer than 4 slots, which has no such
         // quarter.
         let kept = log.rows() - log.rows() / 4;
         let lost = (count - told).saturating_sub(kept).max(1);

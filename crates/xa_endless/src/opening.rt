@@ -67,7 +67,7 @@ fn place_checkpoints(
 }
 
 impl EndlessStore {
-    /// Opens a store with no branch and no row, for 1 to 16 sessions. Its ring has `rows` rows, in `[1, 65536]`.
+    /// Opens a store with no branch and no row, for 1 to 16 sessions. Its ring has `rows` slots, in `[1, 65536]`.
     ///
     /// A session may sleep while fewer entries than `rows` are added, and then replays them. After as many or more it
     /// goes on from a copy of a checkpoint, a replica that no session owns. A row of the ring takes 184 bytes for each

@@ -10,13 +10,13 @@ use std::sync::Arc;
 /// A session has one for a few steps only, so a checkpoint is in its place soon.
 const MOST_LOOKS: usize = 256;
 
-/// After how many entries the next checkpoint is left, unless an eighth of the ring's rows is less (`pace`). The rows
+/// After how many entries the next checkpoint is left, unless an eighth of the ring's slots is less (`pace`). The rows
 /// written since then are what a copy takes time and memory for.
 const PACE: u64 = 1_024;
 
 impl EndlessStore {
     /// How many entries a session replays before it shares the rows of a newer checkpoint, or leaves one: `PACE`, or an
-    /// eighth of the ring's rows if that is less, so that most of the ring is left for a session that goes on from
+    /// eighth of the ring's slots if that is less, so that most of the ring is left for a session that goes on from
     /// there. At least 1.
     fn pace(&self) -> u64 {
         (self.log.rows() / 8).max(1).min(PACE)

@@ -19,7 +19,7 @@ pub enum Job {
         capacity: u64,
         /// How the sessions come to their lines.
         schedule: Schedule,
-        /// Whether the race is over a store without an end, whose ring has `capacity` rows.
+        /// Whether the race is over a store without an end, whose ring has `capacity` slots.
         renews: bool,
         /// How often the script is raced to count its outcomes, in `[1, 1_000_000]`, if it is.
         runs: Option<u64>,

@@ -12,7 +12,7 @@ use xa_lines::{ScriptFault, read_all, uncommented};
 use xa_races::{race_script, race_script_in_rounds};
 use xa_store::{Gate, OpenGate, ShuffledGate, TogetherGate};
 
-/// Races a script at a gate: over a store without an end whose ring has `capacity` rows if `renews`, else in one log
+/// Races a script at a gate: over a store without an end whose ring has `capacity` slots if `renews`, else in one log
 /// with room for `capacity` entries.
 fn race_behind<I: Read, O: Write, G: Gate + Sync, R: Alloc<A = Global> + Threads + Wait + Sync>(
     rt: &R,
@@ -35,7 +35,7 @@ fn race_behind<I: Read, O: Write, G: Gate + Sync, R: Alloc<A = Global> + Threads
 
 /// Races a script at the gate of a schedule, over a store without an end if `renews`.
 ///
-/// `capacity`, in `[1, 1024]`: how many entries the log has room for, or if `renews` how many rows the ring has.
+/// `capacity`, in `[1, 1024]`: how many entries the log has room for, or if `renews` how many slots the ring has.
 /// Errors: as `race_script` and `race_script_in_rounds`. Waits.
 fn race_by<I: Read, O: Write, R: Alloc<A = Global> + Threads + Wait + Sync>(
     rt: &R,
@@ -65,7 +65,7 @@ fn race_by<I: Read, O: Write, R: Alloc<A = Global> + Threads + Wait + Sync>(
 /// Races a script at the gate of a schedule, over a store without an end if `renews`, and returns the exit status. If
 /// its first line that isn't blank is a comment, comments count as blank lines.
 ///
-/// `capacity`, in `[1, 1024]`: how many entries the log has room for, or if `renews` how many rows the ring has.
+/// `capacity`, in `[1, 1024]`: how many entries the log has room for, or if `renews` how many slots the ring has.
 /// Errors: as `race_script` and `race_script_in_rounds`. Waits.
 /// Own rule: docs/COMMANDS.md#race.
 pub fn race<I: Read, O: Write, R: Alloc<A = Global> + Threads + Wait + Sync>(

@@ -13,7 +13,7 @@ use xa_races::{ReshuffledGate, runs_script};
 use xa_store::{Gate, OpenGate, TogetherGate};
 
 /// Races a script `runs` times at a gate, and returns the exit status. If `renews`, the log of each race has no end,
-/// and its ring has `capacity` rows; else the log has room for `capacity` entries of the lines side by side.
+/// and its ring has `capacity` slots; else the log has room for `capacity` entries of the lines side by side.
 fn run_behind<I: Read, O: Write, G: Gate + Sync, R: Alloc<A = Global> + Threads + Wait + Sync>(
     rt: &R,
     input: &mut I,
