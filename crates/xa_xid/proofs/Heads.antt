@@ -1,7 +1,8 @@
 -- Texts of two heads stand as the heads do; of one head, where either ends within it, as their lengths do.
-use Rattle.std.proofs.Common.{◌≡◌, ℕ, zero, suc, ◌+◌, ◌*◌, ◌<◌, ◌≤◌, List, [], ◌∷◌, length, get_or, refl, ap, sym, ◌∙◌}
-use Rattle.std.{proofs.{Common.{◌⊎◌, inl, inr, arith}, Math.Nat.{mul-le-mul_right, suc-mul}}, specs.Cmp.nat_cmp_is}
-use Rattle.std.specs.{Cmp.Lexicographic.slice_cmp, Ordering.{nat_cmp, ordering_then}, declared.cmp.Ordering.Ordering}
+use Rattle.std.proofs.Common.{◌≡◌, ℕ, zero, suc, ◌+◌, ◌*◌, ◌<◌, ◌≤◌, List, [], ◌∷◌, length, drop, get_or, refl, ap, sym}
+use Rattle.std.proofs.{Common.{min, ◌∙◌, ◌⊎◌, inl, inr, arith}, Math.Nat.{mul-le-mul_right, suc-mul}}
+use Rattle.std.specs.{Cmp.{nat_cmp_is, Lexicographic.slice_cmp}, Ordering.{nat_cmp, ordering_then}}
+use Rattle.std.specs.declared.cmp.Ordering.{Ordering}
 use Rattle.std.specs.declared.cmp.Ordering.TheVariants.{Less, Equal, Greater}
 use mathlib.Core.Logic.{dite}
 use Rattle.xa_xid.specs.Head.{head_of}
@@ -114,6 +115,38 @@ level (suc n) (x ∷ xs) (y ∷ ys) l r h ends =
     shorter (inl a) = inl (omega (arith, a))
     shorter (inr a) = inr (omega (arith, a))
 
+-- if the first n bytes of two texts spell the same number and neither text is shorter, the texts compare as the rests
+-- behind these bytes do
+beyond : (n : ℕ) (left right : List ℕ) → Small left → Small right → spelled n left ≡ spelled n right
+    → n ≤ length left → n ≤ length right
+    → slice_cmp nat_cmp left right ≡ slice_cmp nat_cmp (drop n left) (drop n right)
+beyond zero left right l r h a b = refl
+beyond (suc n) [] right l r h a b = absurd (omega (arith, a))
+beyond (suc n) (x ∷ xs) [] l r h a b = absurd (omega (arith, b))
+beyond (suc n) (x ∷ xs) (y ∷ ys) l r h a b =
+    split x y (slice_cmp nat_cmp (x ∷ xs) (y ∷ ys) ≡ slice_cmp nat_cmp (drop n xs) (drop n ys))
+    (λ less. absurd (omega (arith, h, apart n x y (spelled n xs) (spelled n ys) less (fits n xs (tail_small x xs l)))))
+    (λ more. absurd (omega (arith, h, apart n y x (spelled n ys) (spelled n xs) more (fits n ys (tail_small y ys r)))))
+    (λ same. same_first x y xs ys same
+    ∙ beyond n xs ys (tail_small x xs l) (tail_small y ys r) (omega (arith, h, ap (λ z. z * weight n) same))
+    (omega (arith, a)) (omega (arith, b)))
+
+-- two texts compare as their rests from the place i on do
+abbrev pub AtRests : List ℕ → List ℕ → ℕ → Type 0
+AtRests left right i = slice_cmp nat_cmp (drop i left) (drop i right) ≡ slice_cmp nat_cmp left right
+
+-- where one text ends and the other hasn't differed, the lengths decide
+pub rest_level : (i : ℕ) (xs ys : List ℕ) → i ≡ min (length xs) (length ys)
+    → slice_cmp nat_cmp (drop i xs) (drop i ys) ≡ nat_cmp (length xs) (length ys)
+rest_level zero [] [] h = nat_cmp_is 0 0 Equal refl
+rest_level zero [] (y ∷ ys) h = nat_cmp_is 0 (suc (length ys)) Less (omega arith)
+rest_level zero (x ∷ xs) [] h = nat_cmp_is (suc (length xs)) 0 Greater (omega arith)
+rest_level zero (x ∷ xs) (y ∷ ys) h = absurd (omega (arith, h))
+rest_level (suc i) [] ys h = absurd (omega (arith, h))
+rest_level (suc i) (x ∷ xs) [] h = absurd (omega (arith, h))
+rest_level (suc i) (x ∷ xs) (y ∷ ys) h =
+    raised (slice_cmp nat_cmp (drop i xs) (drop i ys)) (length xs) (length ys) (rest_level i xs ys (omega (arith, h)))
+
 -- a head is the number of its eight bytes
 head_is : (text : List ℕ) → head_of text ≡ spelled 8 text
 unfolding head_of
@@ -142,3 +175,9 @@ pub head_level : (left right : List ℕ) → Small left → Small right → head
     → (length left ≤ 8) ⊎ (length right ≤ 8)
     → slice_cmp nat_cmp left right ≡ nat_cmp (length left) (length right)
 head_level left right l r h = level 8 left right l r (sym (head_is left) ∙ h ∙ head_is right)
+
+-- if two texts have the same head and neither has fewer than 8 bytes, they compare as their rests behind these do
+pub head_beyond : (left right : List ℕ) → Small left → Small right → head_of left ≡ head_of right
+    → 8 ≤ length left → 8 ≤ length right
+    → slice_cmp nat_cmp left right ≡ slice_cmp nat_cmp (drop 8 left) (drop 8 right)
+head_beyond left right l r h a b = beyond 8 left right l r (sym (head_is left) ∙ h ∙ head_is right) a b

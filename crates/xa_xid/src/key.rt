@@ -75,7 +75,17 @@ fn order_behind(left: &[u8], right: &[u8]) -> Ordering
     if right.len() <= 8 {
         return left.len().cmp(&right.len());
     }
-    left.cmp(right)
+    // Both have eight bytes, and these are equal. What is left to compare is mostly short, so it is compared byte by
+    // byte.
+    for place in 8..left.len().min(right.len()) {
+        if left[place] < right[place] {
+            return Ordering::Less;
+        }
+        if right[place] < left[place] {
+            return Ordering::Greater;
+        }
+    }
+    left.len().cmp(&right.len())
 }
 
 /// Compares two texts by their bytes. Their heads, as `head_of` returns them, are given, and decide if they differ.
