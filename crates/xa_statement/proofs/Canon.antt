@@ -143,7 +143,7 @@ no_quote byte (second ∷ text) low high =
     ) refl
 
 -- a run of word bytes that begins with a digit is a value: a literal, a number, or both
-digit_token : (byte : ℕ) (body rest : List ℕ) → 48 ≤ byte → byte ≤ 57 → Passes (belongs word_byte) (byte ∷ body)
+pub digit_token : (byte : ℕ) (body rest : List ℕ) → 48 ≤ byte → byte ≤ 57 → Passes (belongs word_byte) (byte ∷ body)
     → StartsNo (belongs word_byte) rest
     → token_at (byte ∷ body ++ rest)
     ≡ (Value (part_of (literal_ahead (byte ∷ body ++ rest))) (part_of (number_ahead (byte ∷ body ++ rest))), rest)

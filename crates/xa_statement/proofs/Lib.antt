@@ -1,6 +1,7 @@
 pub mod Canon
 pub mod Faults
 pub mod Fronts
+pub mod Openings
 pub mod Pieces
 pub mod Run
 pub mod Viable

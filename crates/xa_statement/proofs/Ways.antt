@@ -64,7 +64,7 @@ takes_comma text found rest is first =
     takes Comma text (44 ∷ rest) rest (sym first ∙ is) (omega arith) (comma_first rest)
 
 -- false isn't true
-false_is_true : false ≡ true → ⊥
+pub false_is_true : false ≡ true → ⊥
 false_is_true e = cc
 
 -- a text that tests as empty is empty

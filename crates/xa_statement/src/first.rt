@@ -3,23 +3,64 @@
 //!
 //! Each returns `None` if another token, a faulty one or none comes first. Their contracts say only what `Some` means.
 //! The functions for other files skip the blanks before the token.
-ghost use Rattle.std.specs.Prelude.{◌≡◌, ◌<◌, ℕ, Option, Some, [], ◌∷◌, None, Ok, length, IfSome, IsTrue};
+ghost use Rattle.std.specs.Prelude.{◌≡◌, ◌<◌, ℕ, Option, Some, [], ◌∷◌, ◌++◌, None, Ok, length, IfSome, IsTrue};
 ghost use Rattle.xa_xid.specs.{Bytes.{front, behind}, Literal.{literal_ahead, text_literal_of}, Quoted.read_in_quotes};
 ghost use Rattle.xa_xid.specs.declared.quoted.Mode.TheVariants.{Plain};
 ghost use Rattle.xa_statement.specs.declared.token.Token.TheVariants.{Word, Comma, Value};
 ghost use Rattle.xa_statement.specs.Token.{token_at, run_at, part_of};
 ghost use Rattle.xa_statement.specs.Ways.{TakesToken, TakesLiteral, TakesNumber, Ends, plain_in, heads, Closes};
 
-use crate::token::{Keyword, Token, begins_quoted, number_part, token_of, word_of_run};
-use xa_xid::{ByteClass, Bytes, skip_blanks};
+use crate::token::{Keyword, begins_quoted, word_of_run};
+use xa_xid::{ByteClass, Bytes, literal_of, number_of, skip_blanks};
 
 /// Takes a word of the grammar, after any blanks; returns it with the text after it. `None` if another token or none
 /// comes first.
 pub(crate) fn first_word(text: &[u8]) -> Option<(Keyword, &[u8])>
     ensures { IfSome result (λ found. TakesToken (Word found.0) text.now found.1.now) }
 {
-    let (word, rest) = word_in_front(skip_blanks(text))?;
-    Some((word, rest))
+    // Most texts have their words as canonical texts do.
+    match usual_word(text) {
+        Some((word, rest)) => Some((word, rest)),
+        None => {
+            let (word, rest) = word_in_front(skip_blanks(text))?;
+            Some((word, rest))
+        }
+    }
+}
+
+/// Takes a word in capitals and the blank after it; returns it with the text after the blank. `None` if the text
+/// doesn't begin so, or with a word of a clause.
+fn usual_word(text: &[u8]) -> Option<(Keyword, &[u8])>
+    ensures { IfSome result (λ found. TakesToken (Word found.0) text.now found.1.now) }
+{
+    if let Some(rest) = behind_bytes(b"XA ", text) {
+        return Some((Keyword::Xa, rest));
+    }
+    if let Some(rest) = behind_bytes(b"START ", text) {
+        return Some((Keyword::Start, rest));
+    }
+    if let Some(rest) = behind_bytes(b"END ", text) {
+        return Some((Keyword::End, rest));
+    }
+    if let Some(rest) = behind_bytes(b"PREPARE ", text) {
+        return Some((Keyword::Prepare, rest));
+    }
+    if let Some(rest) = behind_bytes(b"COMMIT ", text) {
+        return Some((Keyword::Commit, rest));
+    }
+    if let Some(rest) = behind_bytes(b"ROLLBACK ", text) {
+        return Some((Keyword::Rollback, rest));
+    }
+    if let Some(rest) = behind_bytes(b"GET ", text) {
+        return Some((Keyword::Get, rest));
+    }
+    if let Some(rest) = behind_bytes(b"PUT ", text) {
+        return Some((Keyword::Put, rest));
+    }
+    if let Some(rest) = behind_bytes(b"DEL ", text) {
+        return Some((Keyword::Del, rest));
+    }
+    None
 }
 
 /// Returns the word of the grammar that a text begins with, and the text after it; None if another token or none comes
@@ -65,48 +106,9 @@ fn word_run(text: &[u8]) -> Option<(Keyword, &[u8])>
 pub(crate) fn first_number(text: &[u8]) -> Option<(u64, &[u8])>
     ensures { IfSome result (λ found. TakesNumber text.now found.0 found.1.now) }
 {
-    let (number, rest) = number_in_front(skip_blanks(text))?;
-    Some((number, rest))
-}
-
-/// Returns the number that a text begins with, and the text after it; None if another token or none comes first, or if
-/// the number is above 2^64-1. Blanks aren't skipped.
-#[tactic(auto, unfolding(crate::specs::Token::token_at))]
-fn number_in_front(text: &[u8]) -> Option<(u64, &[u8])>
-    ensures some { IfSome result (λ found. 0 < length text.now) }
-    ensures token { IfSome result (λ found. token_at text.now
-        ≡ (Value (part_of (literal_ahead text.now)) (Some found.0), found.1.now)) }
-{
-    if text.is_empty() {
-        return None;
-    }
-    // The cases of `token_of`: only a run of word bytes can be a number.
-    match text[0] {
-        b',' => None,
-        b';' => None,
-        _ => {
-            if begins_quoted(text) {
-                None
-            } else if ByteClass::Word.has(text[0]) {
-                number_run(text)
-            } else {
-                None
-            }
-        }
-    }
-}
-
-/// Returns the number that the run of word bytes at the front is, and the text after it; `None` if the run is a word of
-/// the grammar, no number, or one above 2^64-1.
-fn number_run(text: &[u8]) -> Option<(u64, &[u8])>
-    ensures { IfSome result
-        (λ found. run_at text.now ≡ (Value (part_of (literal_ahead text.now)) (Some found.0), found.1.now)) }
-{
-    let (run, rest) = ByteClass::Word.split(text);
-    // `number_part` reads the same run.
-    match (word_of_run(run), number_part(text)) {
-        (None, Some(number)) => Some((number, rest)),
-        _ => None,
+    match number_of(skip_blanks(text)) {
+        Ok((number, rest)) => Some((number, rest)),
+        Err(_) => None,
     }
 }
 
@@ -118,6 +120,17 @@ fn behind_byte(byte: u8, text: &[u8]) -> Option<&[u8]>
         [first, rest @ ..] if *first == byte => Some(rest),
         _ => None,
     }
+}
+
+/// Returns the text after the bytes, if the text begins with them, and else None.
+fn behind_bytes<'a>(bytes: &[u8], text: &'a [u8]) -> Option<&'a [u8]>
+    ensures { IfSome result (λ rest. text.now ≡ bytes.now ++ rest.now) }
+{
+    let mut rest = text;
+    for byte in bytes {
+        rest = behind_byte(*byte, rest)?;
+    }
+    Some(rest)
 }
 
 /// Returns the text after a comma, if the first token after any blanks is one; else `None`.
@@ -164,16 +177,12 @@ fn take_any<'a>(bytes: &mut Bytes, text: &'a [u8]) -> Option<&'a [u8]>
     ensures token { IfSome result (λ rest. (number : Option ℕ)
         × (token_at text.now ≡ (Value (Some bytes.new) number, rest.now))) }
 {
-    if text.is_empty() {
-        return None;
-    }
-    let (token, rest) = token_of(text);
-    match token {
-        Token::Value(Some(found), _) => {
+    match literal_of(text) {
+        Ok((found, rest)) => {
             *bytes = found;
             Some(rest)
         }
-        _ => None,
+        Err(_) => None,
     }
 }
 

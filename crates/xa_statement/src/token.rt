@@ -123,7 +123,7 @@ fn literal_part(text: &[u8]) -> Option<Bytes>
 }
 
 /// Returns the number that the text begins with; None if it begins with none, or with one above 2^64-1.
-pub(crate) fn number_part(text: &[u8]) -> Option<u64>
+fn number_part(text: &[u8]) -> Option<u64>
     ensures { result ≡ part_of (number_ahead text.now) }
 {
     match number_of(text) {
