@@ -21,10 +21,11 @@ unfolding behind belongs
 blank_skipped rest = sym (tokens-unblank (32 ∷ rest)) ∙ tokens-unblank rest
 
 -- a word and the blank behind it are taken from the front of a text
-pub word_taken : (word : Keyword) (text found rest : List ℕ) → text ≡ found → unblank found ≡ found → 0 < length found
-    → token_at found ≡ (Word word, 32 ∷ rest) → TakesToken (Word word) text rest
-word_taken word text found rest is bare some cut = λ state next steps.
-    takes (Word word) text found (32 ∷ rest) (sym (ap unblank is ∙ bare)) some cut state next steps
+pub word_taken : (word : Keyword) (text written rest : List ℕ) → text ≡ written ++ rest
+    → unblank (written ++ rest) ≡ written ++ rest → 0 < length (written ++ rest)
+    → token_at (written ++ rest) ≡ (Word word, 32 ∷ rest) → TakesToken (Word word) text rest
+word_taken word text written rest is bare some cut = λ state next steps.
+    takes (Word word) text (written ++ rest) (32 ∷ rest) (sym (ap unblank is ∙ bare)) some cut state next steps
     ∙ ap (read_from next) (blank_skipped rest)
 
 -- a number at the front of a text is one token, which has that number
