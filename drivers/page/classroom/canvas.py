@@ -15,6 +15,7 @@ ANSWER = 14         # for which a way is made wider
 TEXT = 40           # of a label at most, in all its lines
 MARGIN = 0.6        # at the right of labels
 HEAD = 3.1
+WHOLE = "whole"     # the act that shows all of a label that is cut
 NAMES_OF = {MANAGER: ("Transaction manager", "Manager", "TM"), COORDINATOR: ("Coordinator", "Coord.", "C"),
             CLIENT: ("Other client", "Client", "Cl.")}
 
@@ -22,6 +23,24 @@ NAMES_OF = {MANAGER: ("Transaction manager", "Manager", "TM"), COORDINATOR: ("Co
 def head_width(name):
     """How wide a lifeline's name is, with the least that stands beside it in its frame."""
     return Run("term", name).width() + 0.2
+
+
+def words(runs):
+    """What runs say, as a text."""
+    return " ".join("".join(piece for piece, _ in run.parts) for run in runs)
+
+
+class Button:
+    """What can be done at a place of the drawing in the page: an act, its numbers, and what it says it does."""
+
+    def __init__(self, act, says, **numbers):
+        self.act, self.says, self.numbers = act, says, numbers
+
+    def around(self, *inside):
+        data = {f"data_{name}": value for name, value in self.numbers.items()}
+        return element("g", {"class_": f"button {self.act}", "role": "button", "tabindex": 0, "data_act": self.act,
+                             "aria_label": self.says, "aria_expanded": "false" if self.act == WHOLE else None, **data},
+                       element("title", {}, escape(self.says)), *inside)
 
 
 class Canvas:
@@ -114,21 +133,32 @@ class Canvas:
         self.y += height * size
 
     def label(self, runs, left, way):
-        """A message's label at the current height: never wider than its way, and cut where that takes many lines."""
-        size = self.size
+        """A message's label at the current height: never wider than its way, and cut where that takes many lines. In
+        the page a label that is cut is a button that shows all of it; the buttons in it stay beside that."""
+        size, top = self.size, self.y
         lines, _ = flow(runs, way)
-        for line in cut_lines(lines, max(2, math.ceil(TEXT / way)), way):
+        fitted = cut_lines(lines, max(2, math.ceil(TEXT / way)), way)
+        marks, buttons = [], []
+        for line in fitted:
             if not line:
                 continue
             last = line[-1]
-            self.marks.append(element("rect", {"class_": "behind", "x": left - 0.15 * size, "y": self.y + 0.08 * size,
-                                               "width": (last[0] + last[1].width()) * size + 0.3 * size,
-                                               "height": LINE * size - 0.1 * size, "rx": 0.2 * size}))
+            marks.append(element("rect", {"class_": "behind", "x": left - 0.15 * size, "y": self.y + 0.08 * size,
+                                          "width": (last[0] + last[1].width()) * size + 0.3 * size,
+                                          "height": LINE * size - 0.1 * size, "rx": 0.2 * size}))
             for at, run in line:
                 text = element("text", {"class_": f"{run.kind} label", "x": left + at * size, "y": self.y + size},
                                run.inside())
-                self.marks.append(run.button.around(text) if run.button and not self.is_file else text)
+                if run.button and not self.is_file:
+                    buttons.append(run.button.around(text))
+                else:
+                    marks.append(text)
             self.y += LINE * size
+        if len(fitted) < len(lines) and not self.is_file:
+            said = words(run for run in runs if not run.button)
+            room = element("rect", {"class_": "room", "x": left, "y": top, "width": way * size, "height": self.y - top})
+            marks = [Button(WHOLE, said, line=self.line).around(room, *marks)]
+        self.marks += [*marks, *buttons]
 
     def message(self, sender, receiver, runs, kind, is_lost=False, more=(), says=""):
         """A row with its arrow, and more rows between the two; one that is lost ends in a cross before the receiver."""
@@ -145,10 +175,9 @@ class Canvas:
         self.y += ARROW * size
         self.arrow(self.x(sender), self.x(receiver), kind, is_lost)
         made, self.marks = self.marks[before:], self.marks[:before]
-        whole = " ".join("".join(piece for piece, _ in run.parts) for line in rows for run in line)
         self.marks.append(element("g", {"class_": f"message {kind}", "data_from": self.number_of(sender),
                                         "data_to": self.number_of(receiver), "data_step": len(self.says)},
-                                  element("title", {}, escape(whole)), *made))
+                                  element("title", {}, escape(words(run for line in rows for run in line))), *made))
         self.y += BELOW * size
 
     def arrow(self, start, end, kind, is_lost):

@@ -6,7 +6,7 @@ from xml.sax.saxutils import escape
 
 from . import narration
 from .boxes import Box, put_box
-from .canvas import HEAD, LINE, MARGIN, Canvas
+from .canvas import HEAD, LINE, MARGIN, Button, Canvas
 from .exchanges import CAPTIONS, CRASH, EVENT, NAMES, REMARK, STRANGER, branch_name, transaction_of
 from .flow import Run, flow
 from .lanes import CLIENT, COORDINATOR, FIRST_STORE, MANAGER, Lanes, taking_part
@@ -37,18 +37,6 @@ SIGN = 1.3          # from the sign that removes a line to the right
 BESIDE = 14         # the least width of a frame that leaves the other lifelines
 BAND = 0.95
 QUESTION = [Run("term", "?"), Run("note", "what is it answered?")]
-
-
-class Button:
-    """What can be done at a place of the drawing in the page: an act, its numbers, and what it says it does."""
-
-    def __init__(self, act, says, **numbers):
-        self.act, self.says, self.numbers = act, says, numbers
-
-    def around(self, *inside):
-        data = {f"data_{name}": value for name, value in self.numbers.items()}
-        return element("g", {"class_": f"button {self.act}", "role": "button", "tabindex": 0, "data_act": self.act,
-                             "aria_label": self.says, **data}, element("title", {}, escape(self.says)), *inside)
 
 
 class Sequence(Canvas):
@@ -147,7 +135,7 @@ class Sequence(Canvas):
 
     def exchange(self, it):
         top, before, size = self.y, len(self.marks), self.size
-        self.says, self.ends = [], []
+        self.says, self.ends, self.line = [], [], it.place + 1
         self.margin = SIGN + 0.35 if self.is_removable(it) else MARGIN
         self.waiting = " waiting" if it.answer is None and not self.is_asked(it) else ""
         if it.answer is None:

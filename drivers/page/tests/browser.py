@@ -13,6 +13,9 @@ from selenium import webdriver
 from selenium.common.exceptions import (NoSuchElementException, StaleElementReferenceException, TimeoutException,
                                         WebDriverException)
 from selenium.webdriver.common.action_chains import ActionChains
+from selenium.webdriver.common.actions.action_builder import ActionBuilder
+from selenium.webdriver.common.actions.interaction import POINTER_TOUCH
+from selenium.webdriver.common.actions.pointer_input import PointerInput
 from selenium.webdriver.common.by import By
 from selenium.webdriver.common.keys import Keys
 from selenium.webdriver.chrome.options import Options
@@ -212,6 +215,19 @@ class Browser:
             return True
 
         self.until(is_clicked, f"{css} stays where it is")
+        self.rest()
+
+    def tap(self, css):
+        """Taps by a finger, which lies over nothing that it doesn't touch, where it is on the screen, and waits until
+        the page has that as a click. (The driver would move what it knows as an element.)"""
+        x, y = self.run("""window.tapped = false;
+            addEventListener('click', () => { window.tapped = true; }, { capture: true, once: true });
+            const box = document.querySelector(arguments[0]).getBoundingClientRect();
+            return [box.x + box.width / 2, box.y + box.height / 2].map(Math.round);""", css)
+        finger = ActionBuilder(self.driver, mouse=PointerInput(POINTER_TOUCH, "finger"))
+        finger.pointer_action.move_to_location(x, y).pointer_down().pointer_up()
+        finger.perform()
+        self.until(lambda: self.run("return window.tapped"), f"a tap on {css}")
         self.rest()
 
     def sized(self, width, height):

@@ -3,7 +3,7 @@ import unittest
 
 from selenium.webdriver.common.keys import Keys
 from support import PAGE, says
-from views import View
+from views import View, in_address
 
 CALLS = (PAGE / "scenarios/01_all_yes.calls").read_text()
 BLOCKING = (PAGE / "scenarios/05_in_doubt_and_blocking.calls").read_text()
@@ -37,13 +37,23 @@ HOLD = """const [set, clear] = [setTimeout, clearTimeout], paces = [350, 1000, 2
         return -1; };
     window.clearTimeout = (timer) => { if (timer === -1) window.held = null; else clear(timer); };"""
 GO_ON = "const held = window.held; window.held = null; held?.[0](); return held?.[1] ?? null"
-# Keeps the calls from being answered until that is asked for.
+# Keeps questions of this name from being answered until that is asked for.
 LATE = """const ask = window.fetch;
     window.late = [];
     window.fetch = async (address, what) => {
-        if (address.endsWith('talk')) await new Promise((go) => window.late.push(go));
+        if (address.endsWith(arguments[0])) await new Promise((go) => window.late.push(go));
         return ask(address, what); };"""
 ANSWER = "for (const go of window.late.splice(0)) go(); return document.querySelector('#progress-said').textContent"
+# What is seen beside the drawing of rows, of what is in doubt, and how high each of these is.
+BESIDE = """return ['#store-rows', '#doubt'].map((css) => {
+    const room = document.querySelector(css);
+    return [[...room.children].filter((it) => it.checkVisibility({ visibilityProperty: true }))
+        .map((it) => it.matches('.hint') ? it.textContent : it.tagName), room.offsetHeight]; })"""
+MAKING = "The drawing is being made."
+# No drawing is made.
+REFUSED = """const ask = window.fetch;
+    window.fetch = (address, what) => address.endsWith('sequence')
+        ? Promise.resolve(new Response('it was refused', { status: 503 })) : ask(address, what);"""
 ROWS = """return [...document.querySelectorAll('#store-rows tbody')].map((store) => [...store.querySelectorAll('tr:not(.store)')]
     .map((row) => (row.matches('.changed') ? '*' : '') + [...row.children].map((it) => it.textContent).join(' ')).join())"""
 
@@ -118,6 +128,57 @@ class Playing(View):
             self.until(lambda rows=rows: self.browser.run(ROWS) == rows, f"{message}: {rows}")
             self.assertEqual(len(self.browser.all("#doubt .card")), doubt, message)
             self.assertEqual(self.browser.texts("#sequence-heads .in-doubt .role"), ["in doubt"] * doubt, message)
+
+    def turn_to(self, calls, at):
+        """Opens these calls in the page that is open."""
+        self.browser.run("location.hash = arguments[0]", f"#commit?calls={in_address(calls.encode())}&at={at}")
+        self.browser.rest()
+
+    def test_what_stores_hold_is_said_once_it_is_drawn(self):
+        """Until then, that the drawing is being made."""
+        making, none = [MAKING], ["No store was asked for a row yet."]
+        for calls, at, seen in (("BEGIN", 1, none), (CALLS, FINISH, ["TABLE"]), (CALLS, 0, none)):
+            self.open()
+            self.assertEqual(self.browser.run(BESIDE)[0][0], none, "no calls are open")
+            self.browser.run(LATE, "sequence")
+            self.turn_to(calls, at)
+            self.until(lambda: self.browser.run("return window.late.length"), "a drawing is asked for")
+            self.assertEqual(self.browser.run(BESIDE)[0][0], making)
+            self.assertEqual(self.browser.one("#store-rows").get_attribute("aria-busy"), "true")
+            self.browser.run(ANSWER)
+            self.until(lambda seen=seen: self.browser.run(BESIDE)[0][0] == seen, f"{at}: {seen}")
+            self.assertEqual(self.browser.one("#store-rows").get_attribute("aria-busy"), "false")
+
+    def test_a_step_that_isnt_drawn_yet_says_so_and_moves_nothing(self):
+        self.open(calls=CALLS, at=FINISH - 1)
+        self.at(FINISH - 1)
+        before = self.browser.run(BESIDE)
+        self.assertEqual([seen for seen, _ in before], [["TABLE"], ["P", "P"]], "two rows are locked, and in doubt")
+        self.browser.run(LATE, "sequence")
+        self.browser.press(Keys.PAGE_DOWN)
+        late = [[[MAKING], high] for _, high in before]
+        self.until(lambda: self.browser.run(BESIDE) == late, "nothing else is said, and nothing has moved")
+        self.browser.run(ANSWER)
+        self.at(FINISH, 1)
+        self.until(lambda: self.browser.run(BESIDE) == before, "as before: a message to a store changes nothing in it")
+
+    def test_another_size_leaves_what_is_known(self):
+        self.open(calls=CALLS, at=FINISH)
+        self.at(FINISH)
+        self.browser.run(LATE, "sequence")
+        self.addCleanup(self.browser.press, "0")
+        self.browser.press("+")
+        self.until(lambda: self.browser.run("return window.late.length"), "it is drawn anew")
+        self.assertEqual(self.browser.run(BESIDE)[0][0], ["TABLE"])
+        self.assertEqual(self.browser.one("#store-rows").get_attribute("aria-busy"), "false")
+        self.browser.run(ANSWER)
+
+    def test_a_drawing_that_couldnt_be_made_is_told(self):
+        self.open()
+        self.browser.run(REFUSED)
+        self.turn_to(CALLS, FINISH)
+        self.until(lambda: "it was refused" in self.browser.text("#notices"), "why")
+        self.assertEqual(self.browser.run(BESIDE)[0][0], ["The drawing couldn't be made."])
 
     def test_rows_are_seen_with_the_message_that_changed_them(self):
         """Though they stand beside the next one, which isn't seen yet."""
@@ -283,7 +344,7 @@ class Playing(View):
         """Also while what it was moved to before is still to be answered."""
         self.open(calls=CALLS, at=0)
         self.browser.focus("#progress")
-        self.browser.run(LATE)
+        self.browser.run(LATE, "talk")
         self.browser.press(Keys.ARROW_RIGHT)
         self.browser.press(Keys.ARROW_RIGHT)
         self.assertEqual(self.browser.run(ANSWER), "0 of 9", "nothing was answered")

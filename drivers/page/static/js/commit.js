@@ -360,9 +360,11 @@ export class Commit {
     const last = within === null ? at : line - 1;
     const behind = this.read[last - 1];
     const stores = within === null ? behind?.stores ?? [] : this.sequence.doubtAt(line, within);
-    doubtList(byId("doubt"), stores);
+    const lack = this.sequence.lack();
+    doubtList(byId("doubt"), within === null ? null : lack, stores);
     this.sequence.markHeads(line, within, stores.filter(({ prepared }) => prepared.length).map(({ store }) => store));
-    drawRows(byId("store-rows"), this.sequence.isWhole ? this.sequence.rows : null, line, within);
+    drawRows(byId("store-rows"), lack ?? (this.sequence.isWhole ? null : "They are being found out."),
+      this.sequence.rows, line, within);
     fill(byId("decisions"),
       NUMBERS.flatMap((name) => [el("dt", {}, name), el("dd", {}, behind?.[name].join(" ") || "none")]));
     printedInto(byId("calls-printed"), answers[last - 1]?.join("") ?? "");
@@ -461,6 +463,7 @@ export class Commit {
     this.drawing = this.sequence.show(this.question()).catch((fault) => {
       if (!(fault instanceof Failure)) throw fault;
       this.app.notify({ fault: fault.message });
+      this.showNow();
     });
   }
 

@@ -24,6 +24,15 @@ export function fill(element, ...inside) {
   element.replaceChildren(...inside.flat().filter((part) => part !== null && part !== undefined));
 }
 
+// Fills a room with what is known; `unknown` says why it isn't known yet, or is null. A hint of before goes at once,
+// since it may be wrong; what else stood there keeps its room.
+export function fillKnown(room, unknown, ...inside) {
+  room.setAttribute("aria-busy", String(unknown !== null));
+  if (unknown === null) return fill(room, ...inside);
+  for (const hint of room.querySelectorAll(":scope > .hint")) hint.remove();
+  room.append(el("p.hint.unknown", {}, unknown));
+}
+
 // Bytes as text that keeps to itself, with each byte that can't be seen in digits.
 export function shown(bytes, kind = "bdi.bytes") {
   return el(kind, {}, pieces(bytes).map((piece) =>

@@ -1,5 +1,5 @@
 // The branches that are in doubt, and the words that teach them.
-import { el, fill } from "./dom.js";
+import { el, fill, fillKnown } from "./dom.js";
 import { xidText } from "./cards.js";
 import { branchText, transactionOf } from "./transactions.js";
 
@@ -10,9 +10,10 @@ function branchName(xid) {
   return found ? el("span.xid", { title: xid }, branchText(found)) : xidText(xid);
 }
 
-export function doubtList(room, stores) {
+// `unknown` says why they aren't known yet, or is null.
+export function doubtList(room, unknown, stores) {
   const all = stores.flatMap(({ store, prepared }) => prepared.map((xid) => ({ store, xid })));
-  fill(room, all.length
+  fillKnown(room, unknown, all.length
     ? all.map(({ store, xid }) => el("p.card.prepared", { "data-xid": xid },
       transactionOf(xid)?.store === store ? null : `Store ${store}: `, branchName(xid)))
     : el("p.hint", {}, "No branch is in doubt."));

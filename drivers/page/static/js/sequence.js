@@ -4,6 +4,7 @@ import { ask } from "./api.js";
 import { byId, el, fill } from "./dom.js";
 import { isStill, travelTime } from "./player.js";
 import { isProjected } from "./projector.js";
+import { Whole } from "./whole.js";
 
 const LETTERS = 0.8; // of the page's letters
 const SMALL = 0.7; // of them in a narrow room
@@ -14,6 +15,7 @@ const PAGE = [1000, 1300]; // of a page's drawing, in its own units
 const HEADS = 43;
 const FIRST_STORE = 2; // its lifeline's number, as the drawing counts them
 const PLACE = ["act", "line", "store", "call"];
+const WHOLE = "whole"; // the act that shows all of a label that is cut
 
 // Its style stands in a style sheet of the page's own.
 function read(svg) {
@@ -40,10 +42,15 @@ function part(line, top, bottom) {
   return [copy];
 }
 
+// (a line may have several labels that are cut: each is known by its text)
 function selectorOf(button) {
-  return PLACE.filter((name) => name in button.dataset)
+  const text = button.dataset.act === WHOLE ? `[aria-label="${CSS.escape(button.getAttribute("aria-label"))}"]` : "";
+  return text + PLACE.filter((name) => name in button.dataset)
     .map((name) => `[data-${name}="${CSS.escape(button.dataset[name])}"]`).join("");
 }
+
+// What is drawn, however wide it is and whether an answer is asked for.
+const storyOf = ({ lines, at, stores }) => JSON.stringify([lines, at, stores]);
 
 export class Sequence {
   // `does` has what each act of a button does; `drawn` is called behind each drawing.
@@ -55,6 +62,8 @@ export class Sequence {
     this.shown = null;
     this.steps = this.rows = []; // of the drawing
     this.isWhole = true; // whether it has all statements
+    this.asked = this.made = null; // which story was asked for last, and which is drawn
+    this.whole = new Whole(room.parentElement);
     room.addEventListener("click", (event) => this.act(event.target.closest("[data-act]"), event));
     room.addEventListener("keydown", (event) => {
       if (event.key === "Enter" || event.key === " ") this.act(event.target.closest("[data-act]"), event);
@@ -69,12 +78,14 @@ export class Sequence {
     event.preventDefault();
     event.stopPropagation();
     const { act, line, store, call } = button.dataset;
-    this.does[act](Number(line) - 1, { store: Number(store), call: Number(call) });
+    if (act === WHOLE) this.whole.toggle(button);
+    else this.does[act](Number(line) - 1, { store: Number(store), call: Number(call) });
   }
 
   // What a button would do is said in words too, not only below the pointer.
   say(button) {
-    fill(byId("cut-says"), button && button.dataset.act !== "go" ? button.getAttribute("aria-label") : "");
+    const isSaid = button && !["go", WHOLE].includes(button.dataset.act);
+    fill(byId("cut-says"), isSaid ? button.getAttribute("aria-label") : "");
   }
 
   size() {
@@ -89,6 +100,7 @@ export class Sequence {
   // Draws what is asked; while one drawing is made another may be asked for, of which only the last is made.
   show(question) {
     this.wanted = { ...question, width: this.width(), size: this.size() };
+    this.asked = storyOf(question);
     this.running ??= this.drawAll().finally(() => { this.running = null; });
     return this.running;
   }
@@ -127,12 +139,19 @@ export class Sequence {
     }
     this.room.dataset.given = asked.at;
     this.room.dataset.whole = this.isWhole;
+    this.made = storyOf(asked);
     this.drawn();
   }
 
   // Whether it is drawn as far as these lines were given.
   isOf({ at }) {
     return this.room.firstElementChild !== null && this.room.dataset.given === String(at);
+  }
+
+  // Why there is no drawing of what was asked for last; null where there is.
+  lack() {
+    return this.asked === this.made ? null
+      : this.running ? "The drawing is being made." : "The drawing couldn't be made.";
   }
 
   // How many messages the call at a line has.
@@ -149,6 +168,7 @@ export class Sequence {
 
   // Leaves out what comes behind a message of a line; null shows all of it.
   showUntil(line, step) {
+    this.whole.close();
     this.room.querySelector(".curtain-room")?.remove();
     const drawing = this.room.firstElementChild;
     const ends = this.steps.find((it) => it.line === line)?.ends;
@@ -223,7 +243,8 @@ export class Sequence {
   }
 
   clear() {
-    this.wanted = this.shown = null;
+    this.wanted = this.shown = this.asked = this.made = null;
+    this.whole.close();
     this.steps = this.rows = [];
     this.isWhole = true;
     fill(this.room);

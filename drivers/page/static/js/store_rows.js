@@ -1,5 +1,5 @@
 // The rows of each store and who has locked them, as they are behind the message that is shown.
-import { el, fill } from "./dom.js";
+import { el, fillKnown } from "./dom.js";
 
 // Of each store what was listed last up to a message; `step` is null for all messages of the line.
 function latest(rows, line, step) {
@@ -25,13 +25,13 @@ function rowLine(row, isNew) {
     valueCell(isNew ? row : { ...row, was: null }), lockCell(row));
 }
 
-// `rows` is null while they aren't all known yet.
-export function drawRows(room, rows, line, step) {
-  const stores = latest(rows ?? [], line, step);
-  fill(room, stores.length ? el("table.store-rows", {},
+// `unknown` says why the rows aren't known yet, or is null.
+export function drawRows(room, unknown, rows, line, step) {
+  const stores = latest(rows, line, step);
+  fillKnown(room, unknown, stores.length ? el("table.store-rows", {},
     el("thead", {}, el("tr", {}, ["Row", "Value", "Lock"].map((name) => el("th", { scope: "col" }, name)))),
     stores.map(({ store, rows: all, isNew }) => el("tbody", { "data-store": store },
       el("tr.store", {}, el("th", { colspan: 3, scope: "rowgroup" }, `Store ${store}`)),
       all.map((row) => rowLine(row, isNew)))))
-    : el("p.hint", {}, rows ? "No store was asked for a row yet." : "They are being found out."));
+    : el("p.hint", {}, "No store was asked for a row yet."));
 }
