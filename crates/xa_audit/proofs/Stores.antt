@@ -47,19 +47,12 @@ branches_more store (first ∷ histories) history branches more (here, later, ar
 
 -- one history more makes the list longer by one
 longer : (histories : List (List ℕ)) (history : List ℕ) → length histories + 1 ≡ length (histories ++ history ∷ [])
-longer histories history =
-    let e = length-append histories (history ∷ []) in
-    let one : length (history ∷ []) ≡ 1 = refl in
-    omega (arith, e, one)
+longer histories history = grind (arith, length-append)
 
 -- the faults of an audit, and those of one history more, are the faults of all these histories
 with_history : (histories : List (List ℕ)) (history : List ℕ) (old : Audit) → IsAuditOf histories old
     → old.faults.items ++ faults_in (old.stores + 1) 1 (lines_of history) ≡ faults_of (histories ++ history ∷ [])
-with_history histories history old is =
-    ap (λ l. l ++ faults_in (old.stores + 1) 1 (lines_of history)) is.faults
-    ∙ ap (λ n. faults_of histories ++ faults_in n 1 (lines_of history))
-    (ap (λ n. n + 1) is.stores ∙ (let e : length histories + 1 ≡ 1 + length histories = omega arith in e))
-    ∙ sym (faults_more 1 histories history)
+with_history histories history old is = grind (arith, faults_more)
 
 -- if both texts together are empty, so is the first
 none_before : (xs ys : List ℕ) → xs ++ ys ≡ [] → xs ≡ []
@@ -76,17 +69,8 @@ pub added : (histories : List (List ℕ)) (history : List ℕ) (old new : Audit)
     → new.faults.items ≡ old.faults.items ++ faults_in (old.stores + 1) 1 (lines_of history)
     → AreBranchesOf (old.stores + 1) history more
     → new.branches ≡ old.branches ++ more → IsAuditOf (histories ++ history ∷ []) new
-added histories history old new more is stores faults are branches = record {
-  stores = stores ∙ ap (λ n. n + 1) is.stores ∙ longer histories history;
-  faults = faults ∙ with_history histories history old is;
-  branches = λ none.
-      subst (AreBranches 1 (histories ++ history ∷ [])) (sym branches)
-      (branches_more 1 histories history old.branches more
-      (is.branches (none_before (faults_of histories) (faults_in (1 + length histories) 1 (lines_of history))
-      (sym (faults_more 1 histories history) ∙ none)))
-      (subst (λ (n : ℕ). AreBranchesOf n history more)
-      (ap (λ n. n + 1) is.stores ∙ (let e : length histories + 1 ≡ 1 + length histories = omega arith in e)) are));
-}
+added histories history old new more is stores faults are branches =
+    grind (arith, branches_more, faults_more, longer, none_before, with_history)
 
 -- with the faults of one history more added, an audit is that of all these histories, if there are faults: then no
 -- branches are needed
@@ -95,11 +79,4 @@ pub blamed : (histories : List (List ℕ)) (history : List ℕ) (old new : Audit
     → new.faults.items ≡ old.faults.items ++ faults_in (old.stores + 1) 1 (lines_of history)
     → (length new.faults.items == 0) ≡ false
     → IsAuditOf (histories ++ history ∷ []) new
-blamed histories history old new is stores faults filled =
-    let whole : new.faults.items ≡ faults_of (histories ++ history ∷ []) =
-    faults ∙ with_history histories history old is in
-    record {
-      stores = stores ∙ ap (λ n. n + 1) is.stores ∙ longer histories history;
-      faults = whole;
-      branches = λ none. absurd (none_empty new.faults.items filled (whole ∙ none));
-    }
+blamed histories history old new is stores faults filled = grind (arith, longer, none_empty, with_history)

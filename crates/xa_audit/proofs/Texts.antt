@@ -1,7 +1,7 @@
 -- What is written for each element of a list: texts, elements of a JSON array, faults of lines; and four counts in a
 -- row.
-use Rattle.std.proofs.Common.{◌≡◌, ℕ, ◌+◌, ◌<◌, ◌≤◌, List, [], ◌∷◌, ◌++◌, length, drop, get_or, refl, ap, sym, ◌∙◌}
-use Rattle.std.proofs.{Common.{Bool, true, false, ◌==◌, arith, append_assoc, append-nil}, lemmas.Grind.common_steps}
+use Rattle.std.proofs.Common.{◌≡◌, ℕ, ◌+◌, ◌<◌, ◌≤◌, List, [], ◌∷◌, ◌++◌, length, drop, get_or, ap, sym, ◌∙◌, Bool}
+use Rattle.std.proofs.{Common.{true, false, ◌==◌, arith, append_assoc, append-nil}, lemmas.Grind.common_steps}
 use Rattle.std.proofs.lemmas.List.{drop_more, drop_all}
 use Rattle.xa_lines.specs.Script.{lines_of}
 use Rattle.xa_audit.specs.Histories.{said_on, fault_said, faults_in}
@@ -12,9 +12,7 @@ pub each_next : {A : Type 0} (text : A → List ℕ) (left rest : List A) (x : A
     → new ≡ old ++ text x
     → whole ≡ old ++ each_text text left → whole ≡ new ++ each_text text rest
 unfolding each_text
-each_next text left rest x whole old new cut put before =
-    before ∙ ap (λ l. old ++ each_text text l) cut ∙ sym (append_assoc old (text x) (each_text text rest))
-    ∙ ap (λ l. l ++ each_text text rest) (sym put)
+each_next text left rest x whole old new cut put before = grind (arith, append_assoc)
 
 -- the loop over elements by index: the text of one more is written, and those behind it are left
 pub each_step : {A : Type 0} (text : A → List ℕ) (xs : List A) (i : ℕ) (x d : A) (whole old new : List ℕ)
@@ -28,8 +26,7 @@ each_step text xs i x d whole old new below at put before =
 pub each_done : {A : Type 0} (text : A → List ℕ) (left : List A) (whole old : List ℕ) → left ≡ []
     → whole ≡ old ++ each_text text left → old ≡ whole
 unfolding each_text
-each_done text left whole old none before =
-    sym (append-nil old) ∙ ap (λ l. old ++ each_text text l) (sym none) ∙ sym before
+each_done text left whole old is before = grind (arith, append-nil)
 
 -- the loop over elements by index ends: past the last one all are written
 pub each_end : {A : Type 0} (text : A → List ℕ) (xs : List A) (i : ℕ) (whole old : List ℕ) → length xs ≤ i
@@ -44,13 +41,11 @@ lead false xs = comma_before xs
 
 -- a comma stands before an element that isn't the first
 lead_some : {A : Type 0} (first : Bool) (x : A) (xs : List A) → lead first (x ∷ xs) ≡ comma_unless first
-lead_some true x xs = refl
-lead_some false x xs = refl
+lead_some first x xs = grind (arith)
 
 -- no comma stands where no element is
 lead_none : {A : Type 0} (first : Bool) (xs : List A) → xs ≡ [] → lead first xs ≡ []
-lead_none true xs none = refl
-lead_none false xs none = ap comma_before none
+lead_none first xs is = grind (arith)
 
 -- the loop over elements of an array: after a comma, if one is needed, and the next element, those behind it are left
 pub json_next : {A : Type 0} (json : A → List ℕ) (first : Bool) (left rest : List A) (x : A)
@@ -58,15 +53,7 @@ pub json_next : {A : Type 0} (json : A → List ℕ) (first : Bool) (left rest :
     → one ≡ old ++ comma_unless first → new ≡ one ++ json x
     → whole ≡ (old ++ lead first left) ++ each_json json left → whole ≡ (new ++ lead false rest) ++ each_json json rest
 unfolding each_json
-json_next json first left rest x whole old one new cut led put before =
-    before ∙ ap (λ l. (old ++ lead first l) ++ each_json json l) cut
-    ∙ ap (λ l. (old ++ l) ++ each_json json (x ∷ rest)) (lead_some first x rest)
-    ∙ ap (λ l. l ++ each_json json (x ∷ rest)) (sym led)
-    ∙ regroup one (json x) (comma_before rest) (each_json json rest)
-    ∙ ap (λ l. (l ++ comma_before rest) ++ each_json json rest) (sym put)
-  where
-    regroup : (a b c d : List ℕ) → a ++ ((b ++ c) ++ d) ≡ ((a ++ b) ++ c) ++ d
-    regroup a b c d = simp append_assoc
+json_next json first left rest x whole old one new cut led put before = grind (arith, append_assoc, lead_some)
 
 -- the loop over elements of an array, by index: after a comma, if one is needed, and the next element, those behind it
 -- are left
@@ -83,10 +70,7 @@ json_step json first xs i x d whole old one new below at led put before =
 pub json_done : {A : Type 0} (json : A → List ℕ) (first : Bool) (left : List A) (whole old : List ℕ) → left ≡ []
     → whole ≡ (old ++ lead first left) ++ each_json json left → old ≡ whole
 unfolding each_json
-json_done json first left whole old none before =
-    sym (append-nil old) ∙ ap (λ l. old ++ l) (sym (lead_none first left none))
-    ∙ sym (append-nil (old ++ lead first left))
-    ∙ ap (λ l. (old ++ lead first left) ++ each_json json l) (sym none) ∙ sym before
+json_done json first left whole old is before = grind (arith, append-nil, lead_none)
 
 -- the loop over elements of an array ends, by index: none is left, and all are written
 pub json_end : {A : Type 0} (json : A → List ℕ) (first : Bool) (xs : List A) (i : ℕ) (whole old : List ℕ)
@@ -97,35 +81,24 @@ json_end json first xs i whole old past before = json_done json first (drop i xs
 -- an empty text has no lines
 pub no_lines : (text : List ℕ) → (length text == 0) ≡ true → lines_of text ≡ []
 unfolding lines_of
-no_lines [] empty = refl
-no_lines (byte ∷ text) empty = absurd (let none : length (byte ∷ text) ≡ 0 = grind (arith, common_steps) in omega arith)
+no_lines text empty = grind (arith, common_steps)
 
 -- the loop over lines: the fault of one more is written, if it has one, and those of the lines behind it are left
 pub faults_cut : (store number : ℕ) (text line rest old new whole : List ℕ) → lines_of text ≡ line ∷ lines_of rest
     → new ≡ old ++ fault_said store number (said_on line) → whole ≡ old ++ faults_in store number (lines_of text)
     → whole ≡ new ++ faults_in store (number + 1) (lines_of rest)
 unfolding faults_in
-faults_cut store number text line rest old new whole cut put before =
-    before ∙ ap (λ l. old ++ faults_in store number l) cut
-    ∙ sym (append_assoc old (fault_said store number (said_on line)) (faults_in store (number + 1) (lines_of rest)))
-    ∙ ap (λ l. l ++ faults_in store (number + 1) (lines_of rest)) (sym put)
+faults_cut store number text line rest old new whole cut put before = grind (arith, append_assoc)
 
 -- no line is left: no fault is written
 pub faults_end : (store number : ℕ) (text old whole : List ℕ) → (length text == 0) ≡ true
     → whole ≡ old ++ faults_in store number (lines_of text) → old ≡ whole
 unfolding faults_in
-faults_end store number text old whole empty before =
-    sym (append-nil old) ∙ ap (λ l. old ++ faults_in store number l) (sym (no_lines text empty)) ∙ sym before
+faults_end store number text old whole empty before = grind (arith, append-nil, no_lines)
 
 -- the step by step writing of four words, each with its number, gives all of them
 pub four_counts : (old one two three four a b c d : List ℕ) (words others more last : List ℕ)
     → one ≡ old ++ (words ++ a) → two ≡ one ++ (others ++ b)
     → three ≡ two ++ (more ++ c) → four ≡ three ++ (last ++ d)
     → four ≡ old ++ (((((((words ++ a) ++ others) ++ b) ++ more) ++ c) ++ last) ++ d)
-four_counts old one two three four a b c d words others more last e f g h =
-    h ∙ ap (λ l. l ++ (last ++ d)) (g ∙ ap (λ l. l ++ (more ++ c)) (f ∙ ap (λ l. l ++ (others ++ b)) e)) ∙ regroup
-  where
-    regroup :
-        (((old ++ (words ++ a)) ++ (others ++ b)) ++ (more ++ c)) ++ (last ++ d)
-        ≡ old ++ (((((((words ++ a) ++ others) ++ b) ++ more) ++ c) ++ last) ++ d)
-    regroup = simp append_assoc
+four_counts old one two three four a b c d words others more last e f g h = grind (arith, append_assoc)

@@ -1,7 +1,6 @@
 -- When the verdict on a global transaction is MIXED.
-use Rattle.std.{proofs.Common.{◌≡◌, ◌↔◌, List, refl, sym, Bool, true, false}, specs.Prelude.{◌&&◌, if◌then◌else◌}}
+use Rattle.std.{proofs.Common.{◌≡◌, ◌↔◌, List, refl, Bool, true, false}, specs.Prelude.{◌&&◌, if◌then◌else◌}}
 use Rattle.std.specs.List.{list_any}
-use mathlib.Core.Bool.{true≢false}
 use Rattle.xa_audit.specs.declared.{branch.Branch.Branch, verdict.Verdict.TheVariants.{Atomic, Mixed, InDoubt, Open}}
 use Rattle.xa_audit.specs.Globals.{took, failed, ends_as, is_in_doubt, is_open, verdict_of}
 
@@ -19,9 +18,7 @@ by_parts false b false false e = absurd (cc)
 -- if its two conditions hold, a verdict is MIXED
 parts_by : (a b c d : Bool) → a ≡ true → b ≡ true → (if a
     && b then Mixed else (if c then InDoubt else (if d then Open else Atomic))) ≡ Mixed
-parts_by true true c d p q = refl
-parts_by true false c d p q = absurd (true≢false (sym q))
-parts_by false b c d p q = absurd (true≢false (sym p))
+parts_by a b c d p q = cc
 
 -- MIXED stands if, and only if, one branch took effect and another failed
 pub mixed_iff : (branches : List Branch) → (verdict_of branches ≡ Mixed)
