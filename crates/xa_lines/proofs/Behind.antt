@@ -1,17 +1,13 @@
 -- What stands behind an answer is what is to stand there.
-use Rattle.std.proofs.Common.{◌≡◌, ◌≢◌, ◌⊎◌, ◌++◌, ◌∙◌, ℕ, Bool, ◌||◌, ◌&&◌, List, [], true, false, not, subst, Result}
-use Rattle.std.proofs.Common.{Ok, Err, refl, ap, sym, append-nil, inl, inr, codes, decimal}
+use Rattle.std.proofs.Common.{◌≡◌, ◌≢◌, ◌⊎◌, ◌++◌, ℕ, Bool, ◌||◌, ◌&&◌, List, [], true, false, not, Result, Ok, refl}
+use Rattle.std.proofs.Common.{ap, sym, append-nil, inl, codes, decimal, arith}
 use Rattle.std.specs.Prelude.{IfOk, OnOk, OnErr, MatchResult}
-use Rattle.xa_xid.specs.declared.statement.Statement.{Statement, TheVariants.{Start, End, Prepare, Commit, Rollback}}
-use Rattle.xa_xid.specs.declared.statement.Statement.TheVariants.{Recover, Unsupported, Get, Put, Del, Disconnect}
+use Rattle.xa_xid.specs.declared.statement.Statement.{Statement}
 use Rattle.xa_statement.specs.Reading.{read_of}
-use Rattle.xa_server.specs.State.{State, association_of, is_known, is_prepared, value_within}
-use Rattle.xa_server.specs.{Replies.{ok_if, refused_if, reply_to, table}, declared.association.Association.Association}
-use Rattle.xa_server.specs.{Step.{enters, is_list, is_recover, makes_record}, declared.xa_error.XaError.XaError}
-use Rattle.xa_server.specs.declared.{association.Association.TheVariants.{Free, Active, Idle}, reply.Reply.Reply}
-use Rattle.xa_server.specs.declared.xa_error.XaError.TheVariants.{Nota, Rmfail, Dupid, RowLocked}
-use Rattle.xa_server.specs.{declared.xa_error.BranchState.BranchState, Locks.{is_held_against, is_locked_against}}
-use Rattle.xa_lines.specs.Printed.{answer_text, converts, reply_text, syntax_text}
+use Rattle.xa_server.specs.{State.State, Replies.{ok_if, refused_if, reply_to, table}}
+use Rattle.xa_server.specs.declared.{association.Association.Association, xa_error.XaError.XaError, reply.Reply.Reply}
+use Rattle.xa_server.specs.Step.{enters, is_list, is_recover, makes_record}
+use Rattle.xa_lines.specs.Printed.{answer_text, reply_text, syntax_text}
 use Rattle.xa_lines.specs.{Script.{Line, Blank, Bad, Given, line_of, is_comment_line}, Received.{Whole, TooLong}}
 use Rattle.xa_lines.specs.Transcript.{answer_of, answer_to, state_after_line, state_then}
 use Rattle.xa_lines.specs.{Statements.{IsAnswerTo, IsStatementAnswer, MayBeRefused, refused_text}, Listing.listing}
@@ -23,19 +19,14 @@ pub given_answer : (old new : State) (session : ℕ) (statement : List ℕ) (rea
     → read_of statement ≡ read
     → IsStatementAnswer old session read text new → IsAnswerTo old (Given session statement) text new
 unfolding answer_of state_after_line
-given_answer old new session statement read text is (inl told) =
-    inl (told.0 ∙ ap (answer_to old session) (sym is), told.1 ∙ ap (state_then old session) (sym is))
-given_answer old new session statement read text is (inr refused) =
-    let P : Result Statement ℕ → Type 0 = λ r. MayBeRefused old session r in
-    inr ((refused.0, subst P (sym is) refused.2), refused.1)
+given_answer old new session statement read text is also = grind (arith)
 
 -- if the reply to a statement is told, and CONVERT XID makes no difference to it, that is the answer to the statement
 pub reply_answers : (state : State) (session : ℕ) (statement : Statement) (reply : Reply) (told : List ℕ)
     → reply ≡ reply_to state session statement
     → ((convert : Bool) → told ≡ answer_text (decimal session) (reply_text convert reply))
     → told ≡ answer_to state session (Ok statement)
-reply_answers state session statement reply told is words =
-    words (converts statement) ∙ ap (λ r. answer_text (decimal session) (reply_text (converts statement) r)) is
+reply_answers state session statement reply told is words = grind (arith, decimal)
 
 -- if memory may be refused for a statement, the text for a result answers it: after Ok its own answer, with the state
 -- after it; after Err that memory was refused, with the old state
@@ -45,8 +36,7 @@ pub text_answered : {A E : Type 0} (items : A → List ℕ) (result : Result A E
     → OnOk result (new ≡ state_then old session read) → OnErr result (new ≡ old)
     → MatchResult result (λ answer. text ≡ items answer) (λ _. text ≡ refused_text session)
     → IsStatementAnswer old session read text new
-text_answered items (Ok answer) old new session read text may told then same given = inl (given ∙ told, then)
-text_answered items (Err fault) old new session read text may told then same given = inr (given, same, may)
+text_answered items result old new session read text may told then same given = grind (arith)
 
 -- memory may be refused for an XA RECOVER
 pub list_refused : (state : State) (session : ℕ) (statement : Statement) → is_recover statement ≡ true
@@ -55,75 +45,31 @@ list_refused state session statement is = ap (λ b. b || (enters state session s
 
 -- a reply that is Ok or a refusal, by a test, is no list
 ok_if-list : (b : Bool) (error : XaError) → is_list (ok_if b error) ≡ false
-ok_if-list true error = refl
-ok_if-list false error = refl
+ok_if-list b error = grind (arith)
 
 -- a reply that may become a refusal is no list if it was none
 refused_if-list : (b : Bool) (error : XaError) (reply : Reply) → is_list reply ≡ false
     → is_list (refused_if b error reply) ≡ false
-refused_if-list true error reply none = refl
-refused_if-list false error reply none = none
+refused_if-list b error reply is = grind (arith)
 
 -- the reply by the table is a list for XA RECOVER, and for nothing else
 table-list : (state : State) (association : Association) (statement : Statement)
     → is_list (table state association statement) ≡ is_recover statement
 unfolding table
-table-list state Free (Start xid) = refused_if-list (is_known state xid) Dupid Reply.Ok refl
-table-list state (Active own) (Start xid) = refl
-table-list state (Idle own) (Start xid) = refl
-table-list state Free (End xid) = refl
-table-list state (Active own) (End xid) = ok_if-list _ _
-table-list state (Idle own) (End xid) = refl
-table-list state Free (Prepare xid) = refl
-table-list state (Active own) (Prepare xid) = refl
-table-list state (Idle own) (Prepare xid) = ok_if-list _ _
-table-list state Free (Commit xid false) = ok_if-list _ _
-table-list state (Active own) (Commit xid false) = refl
-table-list state (Idle own) (Commit xid false) = refl
-table-list state Free (Commit xid true) =
-    refused_if-list (not (is_prepared state xid)) Nota (Reply.Refused (Rmfail BranchState.Prepared)) refl
-table-list state (Active own) (Commit xid true) = refl
-table-list state (Idle own) (Commit xid true) = ok_if-list _ _
-table-list state Free (Rollback xid) = ok_if-list _ _
-table-list state (Active own) (Rollback xid) = refl
-table-list state (Idle own) (Rollback xid) = ok_if-list _ _
-table-list state Free (Recover convert) = refl
-table-list state (Active own) (Recover convert) = refl
-table-list state (Idle own) (Recover convert) = refl
-table-list state Free Unsupported = refl
-table-list state (Active own) Unsupported = refl
-table-list state (Idle own) Unsupported = refl
-table-list state Free (Get key) = refl
-table-list state (Active own) (Get key) =
-    refused_if-list (is_locked_against state (Active own) key) RowLocked (Reply.Value (value_within state own key)) refl
-table-list state (Idle own) (Get key) = refl
-table-list state Free (Put key value) = refused_if-list (is_held_against state Free key) RowLocked Reply.Ok refl
-table-list state (Active own) (Put key value) =
-    refused_if-list (is_held_against state (Active own) key) RowLocked Reply.Ok refl
-table-list state (Idle own) (Put key value) = refl
-table-list state Free (Del key) = refused_if-list (is_held_against state Free key) RowLocked Reply.Ok refl
-table-list state (Active own) (Del key) =
-    refused_if-list (is_held_against state (Active own) key) RowLocked Reply.Ok refl
-table-list state (Idle own) (Del key) = refl
-table-list state Free Disconnect = refl
-table-list state (Active own) Disconnect = refl
-table-list state (Idle own) Disconnect = refl
+table-list state association statement = grind (arith, not, ok_if-list, refused_if-list)
 
 -- memory may be refused for a statement whose reply is a list
 pub reply_answered : (state : State) (session : ℕ) (statement : Statement) (reply : Reply)
     → reply ≡ reply_to state session statement → is_list reply ≡ true
     → MayBeRefused state session (Ok statement)
 unfolding reply_to
-reply_answered state session statement reply is list =
-    list_refused state session statement (sym (table-list state (association_of state session) statement)
-    ∙ sym (ap is_list is) ∙ list)
+reply_answered state session statement reply is list = grind (arith, list_refused, table-list)
 
 -- an answer with the right listing behind it is the answer that `show` promises
 behind : (old : State) (line : Line) (answer text rest : List ℕ) (new : State)
     → IsAnswerTo old line answer new → rest ≡ listing_after old line new → StandsBehind rest answer text
     → IsAnswerShown old line text new
-behind old line answer text rest new is same shown =
-    record { answer = answer; is = is; shown = subst (λ more. StandsBehind more answer text) same shown }
+behind old line answer text rest new is same shown = grind (arith)
 
 -- what is shown for a session's line is right if its answer is, and behind that stands the listing of the rows that the
 -- line is about, or that memory was refused for it
@@ -133,9 +79,7 @@ pub given_shown : (old new : State) (session : ℕ) (statement : List ℕ) (read
     → IsAnswerTo old (Given session statement) answer new → StandsBehind (listing new keys) answer text
     → IsAnswerShown old (Given session statement) text new
 unfolding keys_asked listing_after
-given_shown old new session statement read answer text keys is keys_are answered shown =
-    behind old (Given session statement) answer text (listing new keys) new answered
-    (ap (listing new) (keys_are ∙ ap (keys_of_read old session) (sym is))) shown
+given_shown old new session statement read answer text keys is keys_are answered shown = grind (arith, behind)
 
 -- what is shown for a session's line that is about rows is right if its answer is, and behind that stands that memory
 -- was refused
@@ -145,15 +89,7 @@ pub given_unshown : (old new : State) (session : ℕ) (statement : List ℕ) (re
     → IsAnswerTo old (Given session statement) answer new → text ≡ answer ++ unshown_text
     → IsAnswerShown old (Given session statement) text new
 unfolding keys_asked listing_after
-given_unshown old new session statement read answer text is some answered refused = record {
-  answer = answer;
-  is = answered;
-  shown = inr (
-    refused,
-    key_listed new (keys_of_read old session (read_of statement))
-        (λ none. some (ap (keys_of_read old session) (sym is) ∙ none)),
-  );
-}
+given_unshown old new session statement read answer text is also answered refused = grind (arith, key_listed)
 
 -- a blank line is answered with nothing
 pub blank_shown : (state : State) (text : List ℕ) → text ≡ [] → IsAnswerShown state Blank text state
@@ -166,8 +102,7 @@ pub bad_shown : (state : State) (answer text : List ℕ) (keys : List (List ℕ)
     → answer ≡ answer_text (codes "-") (syntax_text 0)
     → StandsBehind (listing state keys) answer text → IsAnswerShown state Bad text state
 unfolding answer_of state_after_line listing_after
-bad_shown state answer text keys none is shown =
-    behind state Bad answer text (listing state keys) state (inl (is, refl)) (ap (listing state) none) shown
+bad_shown state answer text keys also is shown = grind (arith, behind)
 
 -- a comment is shown right if it is repeated, or that memory is refused for it is said, and nothing changes
 pub comment_shown : (old : State) (line text : List ℕ) (new : State) → true ≡ is_comment_line line

@@ -25,10 +25,7 @@ module _ {S : Type 0} (passes : S → List ℕ → S → Type 0) where
       → passes mid piece new
       → 0 < length piece → bytes ≡ before ++ piece → Carries passes (count + 1) old bytes new
   unfolding Carries
-  carries_more count old mid new before piece bytes done now some is =
-      let next : suc count ≡ count + 1 = omega arith in
-      let P : ℕ → Type 0 = λ n. Carries passes n old bytes new in
-      subst P next (mid, before, piece, done, now, some, is)
+  carries_more count old mid new before piece bytes done now also is = grind (arith)
 
   -- if calls pass bytes, and then others pass bytes, all of them pass the first bytes and then the others
   pub carries_joined : (first second : ℕ) (old mid new : S) (before after : List ℕ)
@@ -56,22 +53,11 @@ module _ {S : Type 0} (passes : S → List ℕ → S → Type 0) where
             ∙ sym (append_assoc before now.1 now.2),
       )
 
-  -- if fewer reads than are allowed gave a text, and one more gives nothing, that text is all that was read
-  -- (`HasReadAll`)
-  pub read_to_end : (reads count n : ℕ) (old last new : S) (text piece : List ℕ) → n ≡ 0 → count < reads
-      → Carries passes count old text last
-      → passes last (take n piece) new → HasReadAll passes reads old text new
-  read_to_end reads count n old last new text piece none within calls now =
-      let P : ℕ → Type 0 = λ k. passes last (take k piece) new in
-      record { count = count; last = last; within = within; calls = calls; end = subst P none now }
-
   -- if reads gave a text, and one more gives a piece of at least one byte, all of them give the text and that piece
   pub read_more : (count n : ℕ) (old mid new : S) (text piece : List ℕ) → 0 < n → n ≤ length piece
       → Carries passes count old text mid
       → passes mid (take n piece) new → Carries passes (count + 1) old (text ++ take n piece) new
-  read_more count n old mid new text piece some within calls now =
-      let longer : 0 < length (take n piece) = omega (arith, length-take n piece) in
-      carries_more count old mid new text (take n piece) (text ++ take n piece) calls now longer refl
+  read_more count n old mid new text piece is within calls now = grind (arith, carries_more, length-take)
 
   -- if the first bytes of a text were written, and a write takes at least one of the rest, the first bytes up to there
   -- are written
@@ -97,24 +83,18 @@ module _ {S : Type 0} (passes : S → List ℕ → S → Type 0) where
   -- if the first bytes of a text were written, the others are left
   pub written_front : (old new : S) (bytes : List ℕ) (written : ℕ) → HasWritten passes old (take written bytes) new
       → IsWrittenBut passes old bytes (drop written bytes) new
-  written_front old new bytes written calls =
-      record { written = take written bytes; calls = calls; parts = sym (take-append-drop written bytes) }
+  written_front old new bytes written calls = grind (arith, take-append-drop)
 
   -- what is left may be replaced by an equal text
   pub written_so : (old new : S) (whole left same : List ℕ) → left ≡ same → IsWrittenBut passes old whole left new
       → IsWrittenBut passes old whole same new
-  written_so old new whole left same e w = let P : List ℕ → Type 0 = λ xs. IsWrittenBut passes old whole xs new in
-      subst P e w
+  written_so old new whole left same e w = grind (arith)
 
   -- if the next answer was written whole, what is left is what comes behind it
   pub written_then : (old mid new : S) (whole answer more : List ℕ) → IsWrittenBut passes old whole (answer ++ more) mid
       → HasWritten passes mid answer new
       → IsWrittenBut passes old whole more new
-  written_then old mid new whole answer more w now = record {
-    written = w.written ++ answer;
-    calls = (w.calls.0 + now.0, carries_joined w.calls.0 now.0 old mid new w.written answer w.calls.1 now.1);
-    parts = w.parts ∙ sym (append_assoc w.written answer more);
-  }
+  written_then old mid new whole answer more w now = grind (arith, append_assoc, carries_joined)
 
   -- if writing the next answer stopped at a fault, so did writing the whole
   pub stopped_then : (refuses : S → S → Type 0) (old mid new : S) (whole answer more : List ℕ)
@@ -134,9 +114,7 @@ module _ {S : Type 0} (passes : S → List ℕ → S → Type 0) where
   -- if nothing is left, all was written
   pub written_all : (old new : S) (whole left : List ℕ) → IsWrittenBut passes old whole left new → left ≡ []
       → HasWritten passes old whole new
-  written_all old new whole left w none =
-      let e : w.written ≡ whole = sym (w.parts ∙ ap (λ xs. w.written ++ xs) none ∙ append-nil w.written) in
-      let P : List ℕ → Type 0 = λ xs. HasWritten passes old xs new in subst P e w.calls
+  written_all old new whole left w is = grind (arith, append-nil)
 
 -- after reads of no more bytes than are allowed, a fault NoMemory is one for which reading may stop
 pub stops_for_memory : {A S : Type 0} (gives : S → List ℕ → S → Type 0) (fails : S → S → Type 0) (reads most : ℕ)
@@ -144,10 +122,7 @@ pub stops_for_memory : {A S : Type 0} (gives : S → List ℕ → S → Type 0) 
     (fault : ScriptFault) (text : List ℕ) → result ≡ Err fault → fault ≡ NoMemory → length text ≤ most
     → HasRead gives reads old text new
     → IfErr result (λ told. StopsReading gives fails reads most told old new)
-stops_for_memory {A} gives fails reads most old new result fault text is memory short read =
-    let P : Result A ScriptFault → Type 0 = λ r. IfErr r (λ told. StopsReading gives fails reads most told old new) in
-    let Q : ScriptFault → Type 0 = λ told. StopsReading gives fails reads most told old new in
-    subst P (sym is) (subst Q (sym memory) (text, short, read))
+stops_for_memory {A} gives fails reads most old new result fault text is memory short read = grind (arith)
 
 -- after a read that failed, a fault Read is one for which reading may stop
 pub stops_for_fault : {A S : Type 0} (gives : S → List ℕ → S → Type 0) (fails : S → S → Type 0) (reads most : ℕ)
@@ -155,23 +130,18 @@ pub stops_for_fault : {A S : Type 0} (gives : S → List ℕ → S → Type 0) (
     (passed fault : ScriptFault) → result ≡ Err passed → passed ≡ fault → fault ≡ Read
     → FailsReading gives fails reads most old new
     → IfErr result (λ told. StopsReading gives fails reads most told old new)
-stops_for_fault {A} gives fails reads most old new result passed fault is same of_read failed =
-    let P : Result A ScriptFault → Type 0 = λ r. IfErr r (λ told. StopsReading gives fails reads most told old new) in
-    let Q : ScriptFault → Type 0 = λ told. StopsReading gives fails reads most told old new in
-    subst P (sym is) (subst Q (sym (same ∙ of_read)) (inl failed))
+stops_for_fault {A} gives fails reads most old new result passed fault is same of_read failed = grind (arith)
 
 -- if a result is an Err, it is enough that what is promised after an Err holds
 pub writing_stopped : {A E : Type 0} (P : A → Type 0) (Q : Type 0) (result : Result A E) (fault : E)
     → result ≡ Err fault → Q → MatchResult result P (λ _. Q)
-writing_stopped {A} {E} P Q result fault is stops =
-    let S : Result A E → Type 0 = λ r. MatchResult r P (λ _. Q) in subst S (sym is) stops
+writing_stopped {A} {E} P Q result fault is stops = grind (arith)
 
 -- what holds of a fault holds of it where it is passed on
 pub passed_fault : {A : Type 0} (P : ScriptFault → Type 0) (result : Result A ScriptFault) (passed fault : ScriptFault)
     → result ≡ Err passed → passed ≡ fault
     → P fault → IfErr result P
-passed_fault {A} P result passed fault is same holds =
-    let Q : Result A ScriptFault → Type 0 = λ r. IfErr r P in subst Q (sym is) (subst P (sym same) holds)
+passed_fault {A} P result passed fault is same holds = grind (arith)
 
 -- what holds of the fault Write holds of a fault that is Write
 write_is : (P : ScriptFault → Type 0) (fault : ScriptFault) → fault ≡ Write → P Write → P fault
@@ -183,9 +153,7 @@ module _ {W : Type 0} (takes : W → List ℕ → W → Type 0) (refuses : W →
       (whole : List ℕ) → result ≡ Err passed
       → passed ≡ fault → fault ≡ Write → StopsWriting takes refuses old whole new
       → IfErr result (λ told. StopsAnswering takes refuses told old whole new)
-  answers_stopped result passed fault old new whole is same of_write stops =
-      passed_fault (λ told. StopsAnswering takes refuses told old whole new) result passed fault is same
-      (write_is (λ told. StopsAnswering takes refuses told old whole new) fault of_write stops)
+  answers_stopped result passed fault old new whole is same of_write stops = grind (arith, passed_fault, write_is)
 
   module _ {R : Type 0} (gives : R → List ℕ → R → Type 0) (fails : R → R → Type 0) where
     -- a run of a script that was read stops as the writing of its answers does

@@ -1,8 +1,8 @@
 -- The lemmas of `Under`, for a client of which it is known what has passed (`Some`), or isn't (`None`): then nothing is
 -- to be shown. A client can't change from one to the other.
 use Rattle.std.proofs.Common.{◌≡◌, ℕ, ◌==◌, ◌≤◌, ◌+◌, ◌-◌, ◌^◌, true, false, Option, Some, None, Result, Ok, Err, List}
-use Rattle.std.proofs.Common.{[], ◌∷◌, length, take, sym, subst, ◌∙◌, inl, inr, arith}
-use Rattle.std.specs.Prelude.{OnOk, OnErr, IfErr, IfSome}
+use Rattle.std.proofs.{Common.{[], ◌∷◌, length, take, sym, subst, arith}, lemmas.Bool.Decides.nat_tests}
+use Rattle.std.{proofs.lemmas.Grind.common_steps, specs.Prelude.{OnOk, OnErr, IfErr, IfSome}}
 use Rattle.xa_lines.specs.Received.{Received, Whole, longer, is_nothing}
 use Rattle.xa_lines.specs.Exchange.{Exchange, IsFresh, CanBeTold, WritesText, Flushes, Receives}
 use Rattle.xa_lines.specs.Served.{AwaitsMore, IsServed, IsCutOff, AfterServing}
@@ -14,11 +14,7 @@ use Rattle.xa_lines.proofs.Under as under
 pub told_on : {A : Type 0} (E : Type 0) (x : A) (old new : Option Exchange) (text : List ℕ)
     → WritesText {E = E} old new (Ok x) text → IfSome old CanBeTold
     → IfSome new CanBeTold
-told_on E x None None text written can = tt
-told_on E x (Some old) None text written can = tt
-told_on E x None (Some new) text written can = absurd written
-told_on E x (Some old) (Some new) text written can = let P : Exchange → Type 0 = λ e. CanBeTold e in
-    subst P (sym written) can
+told_on E x old new text written can = grind (arith)
 
 module _ {S : Type 0} (Begins : S → Type 0) (Answers : S → Received → List ℕ → S → Type 0) where
   -- the server answered the line, and this is the result of giving the answer to the client
@@ -105,20 +101,6 @@ module _ {S : Type 0} (Begins : S → Type 0) (Answers : S → Received → List
   last_nothing None line server none reads u = tt
   last_nothing (Some e) line server none reads u = under.end_nothing Begins Answers reads e line server none u
 
-  -- more may be said in a conversation that is under way
-  pub open_told : (reads : ℕ) (o : Option Exchange) (waiting : List ℕ) (line : Received) (server : S)
-      → UnderWay Begins Answers Open reads o waiting line server
-      → IfSome o CanBeTold
-  open_told reads None waiting line server u = tt
-  open_told reads (Some e) waiting line server u = inl u.stage_is
-
-  -- more may be said in a conversation whose client has ended
-  pub ended_told : (reads : ℕ) (o : Option Exchange) (waiting : List ℕ) (line : Received) (server : S)
-      → UnderWay Begins Answers Ended reads o waiting line server
-      → IfSome o CanBeTold
-  ended_told reads None waiting line server u = tt
-  ended_told reads (Some e) waiting line server u = inr u.stage_is
-
   -- a conversation that is ready for more
   abbrev pub Ready : ℕ → Option Exchange → Received → S → Type 0
   Ready reads o line server = IfSome o (λ exchange. IsReady Begins Answers Open reads exchange line server)
@@ -132,50 +114,33 @@ module _ {S : Type 0} (Begins : S → Type 0) (Answers : S → Received → List
   -- in a conversation that is ready for more, all whole lines are answered, and the client was told so
   pub ready_ok : (reads : ℕ) (o : Option Exchange) (line : Received) (server : S) → Ready reads o line server
       → IfSome o (AwaitsMore Begins Answers)
-  ready_ok reads None line server r = tt
-  ready_ok reads (Some e) line server r = under.ready_answered Begins Answers reads e line server r
+  ready_ok reads o line server r = grind (arith, common_steps, nat_tests)
 
   -- a read failed in a conversation that was ready for more: it is left as a fault Read leaves it
   pub receive_err : {E : Type 0} (reads : ℕ) (old new : Option Exchange) (e : E) (piece : List ℕ) (line : Received)
       (server : S) → Receives old new (Err e) piece
       → Ready reads old line server → IfSome new (AfterServing Begins Answers ScriptFault.Read)
-  receive_err reads None None e piece line server h r = tt
-  receive_err reads None (Some new) e piece line server h r = absurd h
-  receive_err reads (Some old) None e piece line server h r = absurd h
-  receive_err reads (Some old) (Some new) e piece line server h r = let d =
-      under.deaf Begins Answers reads old new line server h r in (d.0, inl d.1)
+  receive_err reads old new e piece line server h r = grind (arith, common_steps, nat_tests)
 
   -- a read gave nothing: the client has ended, and no byte waits
   pub receive_end : (E : Type 0) (reads : ℕ) (old new : Option Exchange) (n : ℕ) (piece : List ℕ) (line : Received)
       (server : S) → (n == 0) ≡ true
       → Receives {E = E} old new (Ok n) piece → Ready reads old line server
       → UnderWay Begins Answers Ended reads new [] line server
-  receive_end E reads None None n piece line server none h r = tt
-  receive_end E reads None (Some new) n piece line server none h r = absurd h
-  receive_end E reads (Some old) None n piece line server none h r = absurd h
-  receive_end E reads (Some old) (Some new) n piece line server none h r =
-      under.received_end Begins Answers reads old new n piece line server none h r.1
+  receive_end E reads old new n piece line server is h r = grind (arith, common_steps, nat_tests)
 
   -- a read gave bytes: there is one read more, and these bytes wait
   pub receive_some : (E : Type 0) (reads : ℕ) (old new : Option Exchange) (n : ℕ) (piece : List ℕ) (line : Received)
       (server : S) → (n == 0) ≡ false
       → n ≤ length piece → Receives {E = E} old new (Ok n) piece → Ready reads old line server
       → UnderWay Begins Answers Open (reads + 1) new (take n piece) line server
-  receive_some E reads None None n piece line server some within h r = tt
-  receive_some E reads None (Some new) n piece line server some within h r = absurd h
-  receive_some E reads (Some old) None n piece line server some within h r = absurd h
-  receive_some E reads (Some old) (Some new) n piece line server some within h r =
-      under.received Begins Answers reads old new n piece line server some within h r.1
+  receive_some E reads old new n piece line server is within h r = grind (arith, common_steps, nat_tests)
 
   -- all was flushed when no byte waited: the conversation is ready for more
   pub flush_ok : {A : Type 0} (E : Type 0) (reads : ℕ) (old new : Option Exchange) (x : A) (line : Received)
       (server : S) → Flushes {E = E} old new (Ok x)
       → UnderWay Begins Answers Open reads old [] line server → Ready reads new line server
-  flush_ok E reads None None x line server f u = tt
-  flush_ok E reads None (Some new) x line server f u = absurd f
-  flush_ok E reads (Some old) None x line server f u = absurd f
-  flush_ok E reads (Some old) (Some new) x line server f u =
-      under.flushed Begins Answers Open reads old new line server f u
+  flush_ok E reads old new x line server f u = grind (arith)
 
   -- a flush failed when no byte waited: the conversation is cut off
   pub flush_err : (A : Type 0) {E : Type 0} (reads : ℕ) (old new : Option Exchange) (e : E) (line : Received)
@@ -191,11 +156,7 @@ module _ {S : Type 0} (Begins : S → Type 0) (Answers : S → Received → List
   pub served_ok : {A E : Type 0} (old new : Option Exchange) (result : Result A E) → Flushes old new result
       → IfSome old (IsAllAnswered Begins Answers)
       → OnOk result (IfSome new (IsServed Begins Answers))
-  served_ok None None (Ok x) f all = tt
-  served_ok None (Some new) (Ok x) f all = absurd f
-  served_ok (Some old) None (Ok x) f all = absurd f
-  served_ok (Some old) (Some new) (Ok x) f all = under.served Begins Answers old new f all
-  served_ok old new (Err e) f all = tt
+  served_ok old new result f all = grind (arith)
 
   -- all lines were answered, and the last flush failed: the conversation is left as that fault, Write, leaves it
   pub served_err : {A : Type 0} (old new : Option Exchange) (result : Result A ScriptFault)
@@ -213,22 +174,16 @@ module _ {S : Type 0} (Begins : S → Type 0) (Answers : S → Received → List
   -- a conversation that is cut off is as a fault Write leaves it
   pub write_fault : (o : Option Exchange) (fault : ScriptFault) → fault ≡ ScriptFault.Write → IsBegunAt o
       → IfSome o (AfterServing Begins Answers fault)
-  write_fault o fault is begun = let P : ScriptFault → Type 0 = λ f. IfSome o (AfterServing Begins Answers f) in
-      subst P (sym is) begun
+  write_fault o fault is begun = grind (arith)
 
   -- after 2^64-1 reads a conversation that is ready for more is as a fault Read leaves it
   pub spent : (reads : ℕ) (o : Option Exchange) (line : Received) (server : S) → 2 ^ 64 - 1 ≤ reads
       → Ready reads o line server
       → IfSome o (AfterServing Begins Answers ScriptFault.Read)
-  spent reads None line server all r = tt
-  spent reads (Some e) line server all r =
-      let a = under.ready_answered Begins Answers reads e line server r in let counted = r.1.counted in
-      (a.1, inr (omega arith))
+  spent reads o line server all r = grind (arith, common_steps, nat_tests)
 
   -- a conversation that is cut off is as a fault Write leaves it that is passed on
   pub passed_on : {A : Type 0} (o : Option Exchange) (answer : Result A ScriptFault) (passed fault : ScriptFault)
       → answer ≡ Err passed → passed ≡ fault
       → fault ≡ ScriptFault.Write → IsBegunAt o → IfErr answer (λ f. IfSome o (AfterServing Begins Answers f))
-  passed_on {A} o answer passed fault is same of_write begun =
-      let P : Result A ScriptFault → Type 0 = λ r. IfErr r (λ f. IfSome o (AfterServing Begins Answers f)) in
-      subst P (sym is) (write_fault o passed (same ∙ of_write) begun)
+  passed_on {A} o answer passed fault is same of_write begun = grind (arith, write_fault)

@@ -1,8 +1,8 @@
 -- Cutting what is received into lines.
 use Rattle.std.proofs.Common.{◌≡◌, ◌≤◌, ◌<◌, ℕ, ◌==◌, Bool, true, false, cond, List, [], ◌∷◌, ◌++◌, length, refl, sym}
 use Rattle.std.proofs.Common.{ap, ◌∙◌, append_assoc, append-nil, nat_le, arith, length-append}
-use Rattle.std.proofs.lemmas.{Bool.Decides.nat_tests, List.Elements.{All-nil, All-head, All-tail, All-push}}
-use Rattle.std.{proofs.lemmas.Grind.flat_map-append, specs.{Prelude.All, List.flat_map}}
+use Rattle.std.proofs.lemmas.{Bool.Decides.nat_tests, List.Elements.{All-nil, All-head, All-tail}}
+use Rattle.std.{proofs.lemmas.Grind.{flat_map-append, common_steps}, specs.{Prelude.All, List.flat_map}}
 use Rattle.xa_lines.specs.{Script.lines_of, Received.{Whole, TooLong, received_line, longer, is_nothing, HasNoFeed}}
 use Rattle.xa_lines.specs.Received.{with_feed, IsCutIntoLines}
 
@@ -49,32 +49,18 @@ cut_none = record { whole = refl; each = All-nil HasNoFeed; last = All-nil (λ b
 pub cut_more : (bytes : List ℕ) (lines : List (List ℕ)) (begun : List ℕ) (byte : ℕ) → (byte == 10) ≡ false
     → IsCutIntoLines bytes lines begun
     → IsCutIntoLines (bytes ++ byte ∷ []) lines (begun ++ byte ∷ [])
-cut_more bytes lines begun byte other cut = record {
-  whole = ap (λ xs. xs ++ byte ∷ []) cut.whole ∙ append_assoc (flat_map with_feed lines) begun (byte ∷ []);
-  each = cut.each;
-  last = All-push (λ b. (b == 10) ≡ false) begun byte cut.last other;
-}
+cut_more bytes lines begun byte other cut = grind (arith, common_steps, nat_tests, append_assoc, flat_map)
 
 -- a line feed ends the line that has begun
 pub cut_feed : (bytes : List ℕ) (lines : List (List ℕ)) (begun : List ℕ) → IsCutIntoLines bytes lines begun
     → IsCutIntoLines (bytes ++ 10 ∷ []) (lines ++ begun ∷ []) []
 cut_feed bytes lines begun cut =
-    let one : flat_map with_feed (begun ∷ []) ≡ begun ++ 10 ∷ [] = append-nil (with_feed begun) in
-    record {
-      whole = ap (λ xs. xs ++ 10 ∷ []) cut.whole ∙ append_assoc (flat_map with_feed lines) begun (10 ∷ [])
-          ∙ ap (λ xs. flat_map with_feed lines ++ xs) (sym one)
-          ∙ sym (flat_map-append with_feed lines (begun ∷ []))
-          ∙ sym (append-nil (flat_map with_feed (lines ++ begun ∷ [])));
-      each = All-push HasNoFeed lines begun cut.each cut.last;
-      last = All-nil (λ b. (b == 10) ≡ false);
-    }
+    grind (arith, common_steps, nat_tests, append-nil, append_assoc, flat_map, flat_map-append)
 
 -- the lines of bytes that were cut are those cut off, and then the lines of what was begun and the rest
 pub lines_of-cut : (bytes : List ℕ) (lines : List (List ℕ)) (begun rest : List ℕ) → IsCutIntoLines bytes lines begun
     → lines_of (bytes ++ rest) ≡ lines ++ lines_of (begun ++ rest)
-lines_of-cut bytes lines begun rest cut =
-    ap (λ xs. lines_of (xs ++ rest)) cut.whole ∙ ap lines_of (append_assoc (flat_map with_feed lines) begun rest)
-    ∙ lines_of-feeds lines (begun ++ rest) cut.each
+lines_of-cut bytes lines begun rest cut = grind (arith, append_assoc, flat_map, lines_of-feeds)
 
 -- the lines of bytes that were cut, a line feed and a rest are those cut off, the one that was begun, and the rest's
 pub lines_of-cut_feed : (bytes : List ℕ) (lines : List (List ℕ)) (begun rest : List ℕ)
@@ -94,10 +80,7 @@ received_line-nothing = refl
 longer_by : (b : Bool) (line : List ℕ) (byte : ℕ) → nat_le (length line) 65536 ≡ b
     → longer (cond b (Whole line) TooLong) byte ≡ received_line (line ++ byte ∷ [])
 unfolding received_line
-longer_by true line byte short = refl
-longer_by false line byte long =
-    let more : nat_le (length (line ++ byte ∷ [])) 65536 ≡ false = grind (arith, nat_tests, length-append) in
-    rw more refl
+longer_by b line byte short = grind (arith, length-append, nat_le, nat_tests)
 
 -- one byte more for what is kept of a line gives what is kept of the line with that byte: all of it, or that it is too
 -- long
@@ -108,8 +91,7 @@ received_line-longer line byte = longer_by (nat_le (length line) 65536) line byt
 
 -- a line with a byte isn't nothing, whole or too long
 something : (b : Bool) (byte : ℕ) (line : List ℕ) → is_nothing (cond b (Whole (byte ∷ line)) TooLong) ≡ false
-something true byte line = refl
-something false byte line = refl
+something b byte line = grind (arith)
 
 -- a received line with a byte isn't nothing
 received_line-some : (byte : ℕ) (line : List ℕ) → is_nothing (received_line (byte ∷ line)) ≡ false
@@ -133,16 +115,10 @@ pub put_short : (long : Bool) (line next : List ℕ) (byte : ℕ) → long ≡ f
     → next ≡ line ++ byte ∷ []
     → cond long TooLong (Whole next) ≡ longer (cond long TooLong (Whole line)) byte
 unfolding received_line
-put_short true line next byte short room is = cc
-put_short false line next byte short room is =
-    let kept : nat_le (length (line ++ byte ∷ [])) 65536 ≡ true = grind (arith, nat_tests, length-append) in
-    rw (is, kept) refl
+put_short long line next byte short room is = grind (arith, length-append, nat_le, nat_tests)
 
 -- the byte after the greatest length, 65,536, makes the line too long
 pub put_long : (long : Bool) (line : List ℕ) (byte : ℕ) → long ≡ false → 65536 ≤ length line
     → TooLong ≡ longer (cond long TooLong (Whole line)) byte
 unfolding received_line
-put_long true line byte short full = cc
-put_long false line byte short full =
-    let lost : nat_le (length (line ++ byte ∷ [])) 65536 ≡ false = grind (arith, nat_tests, length-append) in
-    rw lost refl
+put_long long line byte short full = grind (arith, length-append, nat_le, nat_tests)

@@ -1,5 +1,5 @@
 -- When a listing is empty.
-use Rattle.std.{proofs.Common.{◌≡◌, ◌≢◌, ◌++◌, ◌∷◌, ◌∙◌, ℕ, List, [], refl, ap}, specs.List.flat_map}
+use Rattle.std.{proofs.Common.{◌≡◌, ◌≢◌, ◌++◌, ◌∷◌, ℕ, List, [], refl}, specs.List.flat_map}
 use Rattle.xa_server.specs.{declared.overview.BranchEntry.BranchEntry, Overview.branches_of, State.State}
 use Rattle.xa_lines.specs.Listing.{branch_lines, row_line, listing}
 
@@ -7,9 +7,7 @@ use Rattle.xa_lines.specs.Listing.{branch_lines, row_line, listing}
 pub nothing_listed : (state : State) (keys : List (List ℕ)) → branches_of state ≡ [] → keys ≡ []
     → listing state keys ≡ []
 unfolding listing
-nothing_listed state keys none nil =
-    ap (λ branches. flat_map (branch_lines state) branches ++ flat_map (row_line state) keys) none
-    ∙ ap (flat_map (row_line state)) nil
+nothing_listed state keys is also = cc
 
 -- a listing with a branch isn't empty
 pub branch_listed : (state : State) (keys : List (List ℕ)) → branches_of state ≢ [] → listing state keys ≢ []

@@ -1,6 +1,7 @@
 -- Printing the rows of XA RECOVER one after another.
 use Rattle.std.proofs.Common.{◌≡◌, ℕ, ◌+◌, ◌<◌, Bool, List, [], ◌∷◌, ◌++◌, length, get_or, take, refl, sym, ◌∙◌, ap}
-use Rattle.std.proofs.{Common.{append_assoc, append-nil, codes}, lemmas.List.take_more}
+use Rattle.std.proofs.{Common.{append_assoc, append-nil, codes, arith}, lemmas.{List.take_more, Bool.Decides.nat_tests}}
+use Rattle.std.proofs.lemmas.Grind.{common_steps}
 use Rattle.xa_xid.specs.declared.xid.Xid.{Xid}
 use Rattle.xa_lines.specs.Printed.{row_text, rows_text}
 
@@ -18,11 +19,4 @@ pub rows_text-more : (convert : Bool) (xids : List Xid) (i : ℕ) (xid : Xid) (b
     → before ≡ begin ++ rows_text convert (take i xids)
     → now ≡ before ++ codes "\n" ++ row_text convert xid → now ≡ begin ++ rows_text convert (take (i + 1) xids)
 rows_text-more convert xids i xid begin before now within is was step =
-    let one : take (i + 1) xids ≡ take i xids ++ xid ∷ [] =
-    take_more xids i xid within ∙ ap (λ x. take i xids ++ x ∷ []) (sym is) in
-    let parts : rows_text convert (take (i + 1) xids) ≡ rows_text convert (take i xids)
-    ++ (codes "\n" ++ row_text convert xid) =
-    ap (rows_text convert) one ∙ rows_text-append convert (take i xids) (xid ∷ [])
-    ∙ ap (λ text. rows_text convert (take i xids) ++ text) (append-nil (codes "\n" ++ row_text convert xid)) in
-    rw (parts, step, was) (append_assoc (begin ++ rows_text convert (take i xids)) (codes "\n") (row_text convert xid)
-    ∙ append_assoc begin (rows_text convert (take i xids)) (codes "\n" ++ row_text convert xid))
+    grind (arith, common_steps, nat_tests, append-nil, append_assoc, rows_text-append, take_more)

@@ -1,10 +1,10 @@
 -- Cutting a script into lines, and reading a line.
 use Rattle.std.proofs.Common.{◌≡◌, ℕ, ◌+◌, ◌<◌, ◌==◌, Bool, true, false, not, cond, Some, None, List, [], ◌∷◌, length}
-use Rattle.std.proofs.{Common.{take, drop, refl, ap, sym, ◌∙◌, arith, suc}, lemmas.{List.drop-drop, Grind.common_steps}}
+use Rattle.std.proofs.{Common.{take, drop, ap, sym, ◌∙◌, arith}, lemmas.{List.drop-drop, Grind.common_steps}}
 use Rattle.std.specs.List.{prefix_len}
 use Rattle.xa_xid.specs.Bytes.{unblank}
-use Rattle.xa_lines.specs.Script.{Blank, Bad, Given, lines_of, with_first, line_of, line_given, filled_line, first_word}
-use Rattle.xa_lines.specs.Script.{after_word, session_named, is_empty_line}
+use Rattle.xa_lines.specs.Script.{Blank, Bad, Given, lines_of, with_first, line_of, filled_line, first_word, after_word}
+use Rattle.xa_lines.specs.Script.{session_named, is_empty_line}
 
 -- how many bytes stand before the first line feed
 abbrev pub first_length : List ℕ → ℕ
@@ -14,25 +14,20 @@ first_length text = prefix_len (λ byte. not (byte == 10)) text
 longer : (byte n : ℕ) (text : List ℕ)
     → (byte ∷ take n text) ∷ lines_of (drop (n + 1) text)
     ≡ take (1 + n) (byte ∷ text) ∷ lines_of (drop (1 + n + 1) (byte ∷ text))
-longer byte n text =
-    let one : 1 + n ≡ suc n = omega arith in
-    let two : 1 + n + 1 ≡ suc (n + 1) = omega arith in
-    rw (two, one) refl
+longer byte n text = grind (arith)
 
 -- the first line ends at the first line feed; `b` says whether this byte is one
 cut_at : (b : Bool) (byte n : ℕ) (text : List ℕ) → lines_of text ≡ take n text ∷ lines_of (drop (n + 1) text)
     → cond b ([] ∷ lines_of text) (with_first byte (lines_of text))
     ≡ take (cond (not b) (1 + n) 0) (byte ∷ text) ∷ lines_of (drop (cond (not b) (1 + n) 0 + 1) (byte ∷ text))
-cut_at true byte n text short = refl
-cut_at false byte n text short = rw short (longer byte n text)
+cut_at b byte n text short = grind (arith, longer)
 
 -- the first line ends at the text's last byte; `b` says whether that is a line feed
 last_cut : (b : Bool) (byte : ℕ)
     → cond b ([] ∷ []) ((byte ∷ []) ∷ []) ≡ take (cond (not b) 1 0) (byte ∷ []) ∷ lines_of
     (drop (cond (not b) 1 0 + 1) (byte ∷ []))
 unfolding lines_of
-last_cut true byte = refl
-last_cut false byte = refl
+last_cut b byte = grind (arith)
 
 -- the lines of a text that isn't empty are its first line and the lines of what stands after that line's line feed
 pub lines_of-cut : (text : List ℕ) → 0 < length text → lines_of text
@@ -45,36 +40,30 @@ lines_of-cut (byte ∷ next ∷ rest) h =
 
 -- a text of length 0 is the empty one
 empty_is : (text : List ℕ) → (length text == 0) ≡ is_empty_line text
-empty_is [] = refl
-empty_is (x ∷ xs) = grind (arith, common_steps)
+empty_is text = grind (arith, common_steps)
 
 -- a line of nothing but blanks says nothing
 pub line_of-blank : (line text : List ℕ) → text ≡ unblank line → (length text == 0) ≡ true → Blank ≡ line_of line
 unfolding line_of
-line_of-blank line text is empty = let e : is_empty_line (unblank line) ≡ true =
-    ap is_empty_line (sym is) ∙ sym (empty_is text) ∙ empty in rw e refl
+line_of-blank line text is empty = grind (arith, empty_is)
 
 -- a line that isn't blank is read without its leading blanks
 pub line_of-filled : (line text : List ℕ) → text ≡ unblank line → (length text == 0) ≡ false
     → line_of line ≡ filled_line text
 unfolding line_of
-line_of-filled line text is filled =
-    let e : is_empty_line (unblank line) ≡ false = ap is_empty_line (sym is) ∙ sym (empty_is text) ∙ filled in
-    rw (e, is) refl
+line_of-filled line text is filled = grind (arith, empty_is)
 
 -- a line whose first word is no session's number is bad
 pub filled-bad : (line text word : List ℕ) → line_of line ≡ filled_line text → word ≡ first_word text
     → session_named word ≡ None → Bad ≡ line_of line
-filled-bad line text word is at none =
-    sym (is ∙ ap (λ s. line_given s (unblank (after_word text))) (ap session_named (sym at) ∙ none))
+filled-bad line text word is at also = cc
 
 -- a line whose first word is a session's number gives that session the text behind it
 pub filled-given : (line text word rest : List ℕ) (session : ℕ) → line_of line ≡ filled_line text
     → word ≡ first_word text → rest ≡ after_word text
     → session_named word ≡ Some session
     → Given session (unblank rest) ≡ line_of line
-filled-given line text word rest session is at after some =
-    rw after (sym (is ∙ ap (λ s. line_given s (unblank (after_word text))) (ap session_named (sym at) ∙ some)))
+filled-given line text word rest session is at after also = cc
 
 -- if a text that isn't empty is split before its first line feed, its lines are the part before and the lines behind
 -- that line feed
@@ -89,5 +78,4 @@ lines_of-split text line rest lines some is after next =
 
 -- a text of no bytes is what is left of it without its first byte
 pub none_left : (text : List ℕ) → length text < 1 → text ≡ drop 1 text
-none_left [] short = refl
-none_left (x ∷ xs) short = absurd (omega arith)
+none_left text short = grind (arith)

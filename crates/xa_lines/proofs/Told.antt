@@ -1,12 +1,11 @@
 -- What the sequential server told.
-use Rattle.std.proofs.Common.{◌≡◌, ℕ, Bool, true, false, cond, nat_le, Option, Some, None, Result, Ok, Err, List, []}
-use Rattle.std.proofs.Common.{◌∷◌, ◌++◌, length, refl, sym, ap, ◌∙◌, inl, inr, append_assoc, append-nil, arith, codes}
-use Rattle.std.proofs.{Common.{decimal, lit<}, lemmas.{Fmt.decimal_digit, List.Elements.{All-head, All-tail}}}
-use Rattle.std.{proofs.lemmas.Bool.Decides.nat_tests, specs.Prelude.{All, OnOk, IfErr, IfSome}}
+use Rattle.std.proofs.Common.{◌≡◌, ℕ, Bool, true, cond, nat_le, Option, Result, List, [], ◌∷◌, ◌++◌, refl, sym, ap, ◌∙◌}
+use Rattle.std.proofs.{Common.{append_assoc, append-nil, arith, codes, decimal, lit<}, lemmas.Fmt.decimal_digit}
+use Rattle.std.proofs.lemmas.{List.Elements.{All-head, All-tail}, Bool.Decides.nat_tests}
+use Rattle.std.specs.Prelude.{All, OnOk, IfErr, IfSome}
 use Rattle.xa_server.specs.State.{State, no_state}
-use Rattle.xa_lines.specs.Script.{Line, Blank, Bad, Given, line_of, lines_of}
-use Rattle.xa_lines.specs.{Transcript.{answer_of, state_after_line, run_text}, Printed.{answer_text, syntax_text}}
-use Rattle.xa_lines.specs.declared.script_fault.ScriptFault.{ScriptFault}
+use Rattle.xa_lines.specs.{Script.{Line, Blank, Bad, line_of}, Transcript.{answer_of, state_after_line, run_text}}
+use Rattle.xa_lines.specs.{Printed.{answer_text, syntax_text}, declared.script_fault.ScriptFault.ScriptFault}
 use Rattle.xa_lines.specs.{Received.{Received, Whole, TooLong, received_line}, Exchange.Exchange}
 use Rattle.xa_lines.specs.{Served.{AnswersAll, AreAnswers, IsServed, AfterServing}, Statements.{said, refused_text}}
 use Rattle.xa_lines.specs.Statements.{HoldsNothing, IsRefusal, IsLineAnswer, text_of, state_of, served_text, IsToldAll}
@@ -20,15 +19,12 @@ record IsMarked (mark : Bool) (old : State) (line : Line) (text : List ℕ) (new
 -- an answer that refuses memory for a statement and changes nothing is the one with the mark true
 refusal_marked : (line : Line) (old new : State) (text : List ℕ) → IsRefusal old line text → new ≡ old
     → IsMarked true old line text new
-refusal_marked Blank old new text r same = absurd r
-refusal_marked Bad old new text r same = absurd r
-refusal_marked (Given session statement) old new text r same = record { text_is = r.0; state_is = same }
+refusal_marked line old new text r same = grind (arith)
 
 -- the answer to a line is the one with the mark true or the one with the mark false
 mark_of : (old new : State) (line : Received) (text : List ℕ) → IsLineAnswer old line text new
     → (mark : Bool) × IsMarked mark old (said line) text new
-mark_of old new line text (inl a) = (false, record { text_is = a.0; state_is = a.1 })
-mark_of old new line text (inr r) = (true, refusal_marked (said line) old new text r.0 r.1)
+mark_of old new line text is = grind (arith, refusal_marked)
 
 -- each of several answers has its mark, and together they are what a server tells with these marks
 marks_of : (lines later : List (List ℕ)) (first last : State) (text : List ℕ)
@@ -74,15 +70,13 @@ all_told lines text a =
 
 -- what a server has told once it ended are the answers to all lines
 pub served_told : (o : Option Exchange) → IfSome o (IsServed HoldsNothing IsLineAnswer) → IfSome o IsToldAll
-served_told None s = tt
-served_told (Some exchange) s = (s.0, all_told (lines_of exchange.received) exchange.told s.2)
+served_told o s = grind (arith, all_told)
 
 -- what a server has told once it ended, after Ok, are the answers to all lines
 pub served_ok : {A E : Type 0} (result : Result A E) (o : Option Exchange)
     → OnOk result (IfSome o (IsServed HoldsNothing IsLineAnswer))
     → OnOk result (IfSome o IsToldAll)
-served_ok (Ok x) o s = served_told o s
-served_ok (Err e) o s = tt
+served_ok result o s = grind (arith, served_told)
 
 -- a fault of serving leaves what a fault of statements leaves
 after_fault : (fault : ScriptFault) (exchange : Exchange) → AfterServing HoldsNothing IsLineAnswer fault exchange
@@ -110,20 +104,16 @@ after_fault ScriptFault.ThreadRefused exchange a = a
 pub served_fault : {A : Type 0} (result : Result A ScriptFault) (o : Option Exchange)
     → IfErr result (λ fault. IfSome o (AfterServing HoldsNothing IsLineAnswer fault))
     → IfErr result (λ fault. IfSome o (AfterFaultOfStatements fault))
-served_fault (Ok x) o a = tt
-served_fault (Err fault) None a = tt
-served_fault (Err fault) (Some exchange) a = after_fault fault exchange a
+served_fault result o a = grind (arith, after_fault)
 
 -- a line that is short enough to be kept whole says what its text says
 said_by : (b : Bool) (line : List ℕ) → b ≡ true → said (cond b (Whole line) TooLong) ≡ line_of line
-said_by true line short = refl
-said_by false line short = cc
+said_by b line short = cc
 
 -- a line that isn't too long says what it says in a script
 said_short : (line : List ℕ) → IsShort line → said (received_line line) ≡ line_of line
 unfolding received_line
-said_short line short = let b : nat_le (length line) 65536 ≡ true = grind (arith, nat_tests) in
-    said_by (nat_le (length line) 65536) line b
+said_short line short = grind (arith, nat_le, nat_tests, said_by)
 
 -- to short lines, and with memory enough, a server tells what `run` writes
 pub served_text-short : (state : State) (lines : List (List ℕ)) → All IsShort lines
@@ -151,10 +141,7 @@ bad_answered state line text is told = (rw (← is) told, rw (← is) refl)
 -- the answer to a bad line is `- ERROR 1064 (42000): syntax fault at byte 0`
 pub bad_text : codes "-" ++ codes " ERROR 1064 (42000): syntax fault at byte 0\n"
     ≡ answer_text (codes "-") (syntax_text 0)
-bad_text =
-    let e : decimal 0 ≡ 48 ∷ [] =
-    decimal_digit 0 (lit< tt) in ap (λ d. answer_text (codes "-")
-    (codes "ERROR 1064 (42000): syntax fault at byte " ++ d)) (sym e)
+bad_text = grind (arith, decimal, decimal_digit, lit<)
 
 -- a session's number and the text of ERROR 1037 are the answer to a statement of that session for which memory was
 -- refused

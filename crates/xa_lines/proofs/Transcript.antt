@@ -1,7 +1,7 @@
 -- Writing a transcript answer by answer.
-use Rattle.std.{specs.{Result.OnErr, Io.KnownBytes.Appends}, proofs.Common.{Result, Ok, Err, ◌≡◌, ℕ, ◌==◌, true}}
-use Rattle.std.proofs.Common.{Option, List, [], ◌∷◌, ◌++◌, length, take, drop, refl, sym, ap, ◌∙◌, subst, append_assoc}
-use Rattle.std.proofs.{Common.{append-nil, arith}, lemmas.{List.{take_at, take-append-drop}, Grind.common_steps}}
+use Rattle.std.{specs.{Result.OnErr, Io.KnownBytes.Appends}, proofs.Common.{Result, ◌≡◌, ℕ, ◌==◌, true, Option, List}}
+use Rattle.std.proofs.Common.{[], ◌∷◌, ◌++◌, length, take, drop, refl, sym, ap, ◌∙◌, subst, append_assoc, append-nil}
+use Rattle.std.proofs.{Common.arith, lemmas.{List.{take_at, take-append-drop}, Grind.common_steps}}
 use Rattle.std.proofs.KnownBytes.{Appends-trans, Appends-nil}
 use Rattle.xa_server.specs.State.{State}
 use Rattle.xa_lines.specs.Script.{lines_of, line_of}
@@ -58,15 +58,12 @@ run_text-line state next text line rest answer cut is after = rw (cut, is, after
 -- for a text of no bytes nothing is written
 pub run_text-end : (state : State) (text : List ℕ) → (length text == 0) ≡ true → run_text state (lines_of text) ≡ []
 unfolding run_text lines_of
-run_text-end state [] empty = refl
-run_text-end state (x ∷ xs) empty = absurd (let none : length (x ∷ xs) ≡ 0 = grind (arith, common_steps) in omega arith)
+run_text-end state text empty = grind (arith, common_steps)
 
 -- if nothing is left, all was written
 pub written_whole : (old new : Option (List ℕ)) (whole left : List ℕ) → IsWrittenUpTo old new whole left → left ≡ []
     → Appends old new whole
-written_whole old new whole left w none =
-    let e : w.written ≡ whole = sym (w.parts ∙ ap (λ xs. w.written ++ xs) none ∙ append-nil w.written) in
-    let P : List ℕ → Type 0 = λ piece. Appends old new piece in subst P e w.appended
+written_whole old new whole left w is = grind (arith, append-nil)
 
 -- what is left may be replaced by an equal text
 pub written_as : (old new : Option (List ℕ)) (whole left same : List ℕ) → left ≡ same → IsWrittenUpTo old new whole left
@@ -75,5 +72,4 @@ written_as old new whole left same e w = let P : List ℕ → Type 0 = λ xs. Is
 
 -- what holds anyway holds if the result is an error
 pub on_err : {T E : Type 0} {P : Type 0} (r : Result T E) → P → OnErr r P
-on_err (Ok x) p = tt
-on_err (Err e) p = p
+on_err r p = grind (arith)

@@ -1,6 +1,6 @@
 -- Tries to write a text.
-use Rattle.std.proofs.Common.{◌≡◌, ℕ, suc, ◌+◌, ◌-◌, List, [], ◌++◌, length, take, drop, refl, sym, ap, ◌∙◌, subst}
-use Rattle.std.proofs.{Common.arith, lemmas.List.{take_rest, take-append-drop}, Math.Seq.take-add}
+use Rattle.std.proofs.Common.{ℕ, ◌+◌, ◌-◌, List, [], length, take, drop, refl, sym, arith}
+use Rattle.std.proofs.{lemmas.List.{take_rest, take-append-drop}, Math.Seq.take-add}
 use Rattle.xa_lines.specs.Trying.{IsTry, Tries, IsLastTry, StopsTrying}
 
 module _ {S : Type 0} (takes : S → List ℕ → S → Type 0) (interrupts : S → S → Type 0) where
@@ -16,13 +16,7 @@ module _ {S : Type 0} (takes : S → List ℕ → S → Type 0) (interrupts : S 
       → IsTry takes interrupts mid (take n (take (length text - written) (drop written text))) new
       → Tries takes interrupts (count + 1) old (take (written + n) text) new
   unfolding Tries
-  tried_next count old mid new text written n before now =
-      let piece = take n (take (length text - written) (drop written text)) in
-      let is : take (written + n) text ≡ take written text ++ piece =
-      take-add written n text ∙ ap (λ xs. take written text ++ take n xs) (sym (take_rest text written)) in
-      let next : suc count ≡ count + 1 = omega arith in
-      let P : ℕ → Type 0 = λ k. Tries takes interrupts k old (take (written + n) text) new in
-      subst P next (mid, take written text, piece, before, now, is)
+  tried_next count old mid new text written n before now = grind (arith, take-add, take_rest)
 
   -- if writes took the first bytes of a text, and the last one failed or took nothing, or all tries are spent, trying
   -- stopped after these bytes (`StopsTrying`)

@@ -1,10 +1,10 @@
 -- A conversation, byte by byte and answer by answer. It is under way if all whole lines that don't wait are answered.
 use Rattle.std.proofs.Common.{◌≡◌, ℕ, ◌==◌, true, false, List, [], ◌∷◌, ◌++◌, length, take, drop, refl, sym, ap, subst}
 use Rattle.std.proofs.Common.{◌∙◌, append_assoc, append-nil, ◌≤◌, ◌+◌, arith, length-append}
-use Rattle.std.proofs.lemmas.{List.{length-take, take-append-drop}, Bool.Decides.nat_tests}
+use Rattle.std.proofs.lemmas.{List.{length-take, take-append-drop}, Bool.Decides.nat_tests, Grind.common_steps}
 use Rattle.xa_lines.specs.{Script.lines_of, Exchange.{Exchange, IsFresh, with_received}}
-use Rattle.xa_lines.specs.Received.{Received, Whole, received_line, longer, is_nothing, IsCutIntoLines}
-use Rattle.xa_lines.specs.Served.{AnswersAll, AreAnswers, IsAnswerSoFar, AwaitsMore, IsServed, IsCutOff}
+use Rattle.xa_lines.specs.Received.{Received, Whole, received_line, longer, is_nothing}
+use Rattle.xa_lines.specs.Served.{AnswersAll, AreAnswers, IsAnswerSoFar, IsServed, IsCutOff}
 use Rattle.xa_lines.specs.{UnderWay.{IsUnderWay, IsReady, IsAllAnswered}, declared.stage.Stage.Stage}
 use Rattle.xa_lines.proofs.Cut.{cut_none, cut_more, cut_feed, lines_of-cut, lines_of-cut_feed, lines_of-some}
 use Rattle.xa_lines.proofs.Cut.{lines_of-nothing, nothing_begun, received_line-nothing, received_line-longer}
@@ -67,19 +67,8 @@ module _ {S : Type 0} (Begins : S → Type 0) (Answers : S → Received → List
       → next ≡ longer line byte
       → IsUnderWay Begins Answers stage reads exchange (byte ∷ waiting) line server
       → IsUnderWay Begins Answers stage reads exchange waiting next server
-  put stage reads exchange byte waiting line next server other is u = record {
-    done = u.done ++ byte ∷ [];
-    lines = u.lines;
-    begun = u.begun ++ byte ∷ [];
-    first = u.first;
-    parts = u.parts ∙ sym (append_assoc u.done (byte ∷ []) waiting);
-    cut = cut_more u.done u.lines u.begun byte other u.cut;
-    held = is ∙ ap (λ l. longer l byte) u.held ∙ received_line-longer u.begun byte;
-    begins = u.begins;
-    answers = u.answers;
-    stage_is = u.stage_is;
-    counted = u.counted;
-  }
+  put stage reads exchange byte waiting line next server other is u =
+      grind (arith, common_steps, nat_tests, append_assoc, cut_more, received_line-longer)
 
   -- the next byte, a line feed, ends the line, whose answer was given: it no longer waits, and the next line is empty
   pub answered : (stage : Stage) (reads : ℕ) (exchange new : Exchange) (waiting answer : List ℕ) (line : Received)
@@ -142,102 +131,28 @@ module _ {S : Type 0} (Begins : S → Type 0) (Answers : S → Received → List
       → new ≡ with_received exchange n piece
       → IsUnderWay Begins Answers Stage.Open reads exchange [] line server
       → IsUnderWay Begins Answers Stage.Open (reads + 1) new (take n piece) line server
-  received reads exchange new n piece line server some within is u =
-      let P : Exchange → Type 0 = λ e. IsUnderWay Begins Answers Stage.Open (reads + 1) e (take n piece) line server in
-      subst P (sym is) (record {
-        done = u.done;
-        lines = u.lines;
-        begun = u.begun;
-        first = u.first;
-        parts = ap (λ xs. xs ++ take n piece) (u.parts ∙ append-nil u.done);
-        cut = u.cut;
-        held = u.held;
-        begins = u.begins;
-        answers = u.answers;
-        stage_is = rw some refl;
-        counted = longer_received reads n exchange.received piece some within u.counted;
-      })
-
-  -- a read gave no byte when none waited: the client has ended
-  pub received_end : (reads : ℕ) (exchange new : Exchange) (n : ℕ) (piece : List ℕ) (line : Received) (server : S)
-      → (n == 0) ≡ true
-      → new ≡ with_received exchange n piece
-      → IsUnderWay Begins Answers Stage.Open reads exchange [] line server
-      → IsUnderWay Begins Answers Stage.Ended reads new [] line server
-  received_end reads exchange new n piece line server none is u =
-      let P : Exchange → Type 0 = λ e. IsUnderWay Begins Answers Stage.Ended reads e [] line server in
-      let zero_is : n ≡ 0 = grind (arith, nat_tests) in
-      let same : exchange.received ++ take n piece ≡ exchange.received =
-      ap (λ k. exchange.received ++ take k piece) zero_is ∙ append-nil exchange.received in
-      let Q : List ℕ → Type 0 = λ xs. reads ≤ length xs in
-      subst P (sym is) (record {
-        done = u.done;
-        lines = u.lines;
-        begun = u.begun;
-        first = u.first;
-        parts = same ∙ u.parts;
-        cut = u.cut;
-        held = u.held;
-        begins = u.begins;
-        answers = u.answers;
-        stage_is = rw none refl;
-        counted = subst Q (sym same) u.counted;
-      })
+  received reads exchange new n piece line server also within is u = grind (arith, append-nil, longer_received)
 
   -- if no byte waits, what was given answers all whole lines of what was received
   so_far : (stage : Stage) (reads : ℕ) (exchange : Exchange) (text : List ℕ) (line : Received) (server : S)
       → text ≡ exchange.given
       → IsUnderWay Begins Answers stage reads exchange [] line server
       → IsAnswerSoFar Begins Answers exchange.received text
-  so_far stage reads exchange text line server is u =
-      let P : List ℕ → Type 0 = λ xs. IsCutIntoLines xs u.lines u.begun in
-      let Q : List ℕ → Type 0 = λ xs. AreAnswers Begins Answers u.lines xs in
-      record {
-        lines = u.lines;
-        begun = u.begun;
-        cut = subst P (sym (u.parts ∙ append-nil u.done)) u.cut;
-        answers = subst Q (sym is) (record { first = u.first; last = server; begins = u.begins; answers = u.answers });
-      }
-
-  -- in a conversation that is ready for more, all whole lines are answered, and the client was told so
-  pub ready_answered : (reads : ℕ) (exchange : Exchange) (line : Received) (server : S)
-      → IsReady Begins Answers Stage.Open reads exchange line server
-      → AwaitsMore Begins Answers exchange
-  ready_answered reads exchange line server r =
-      (r.1.stage_is, so_far Stage.Open reads exchange exchange.told line server r.0 r.1)
+  so_far stage reads exchange text line server is u = grind (arith, append-nil)
 
   -- if a read failed in a conversation that was ready for more, all whole lines are answered, and the client is deaf
   pub deaf : (reads : ℕ) (exchange new : Exchange) (line : Received) (server : S)
       → new ≡ record exchange { stage = Stage.Deaf }
       → IsReady Begins Answers Stage.Open reads exchange line server
       → IsAnswerSoFar Begins Answers new.received new.told × (new.stage ≡ Stage.Deaf)
-  deaf reads exchange new line server is r =
-      let P : Exchange → Type 0 = λ e. IsAnswerSoFar Begins Answers e.received e.told × (e.stage ≡ Stage.Deaf) in
-      subst P (sym is) (so_far Stage.Open reads exchange exchange.told line server r.0 r.1, refl)
+  deaf reads exchange new line server is r = grind (arith, common_steps, nat_tests, so_far)
 
   -- if all that was given was flushed when no byte waited, the conversation is ready for more
   pub flushed : (stage : Stage) (reads : ℕ) (exchange new : Exchange) (line : Received) (server : S)
       → new ≡ record exchange { told = exchange.given }
       → IsUnderWay Begins Answers stage reads exchange [] line server
       → IsReady Begins Answers stage reads new line server
-  flushed stage reads exchange new line server is u =
-      let P : Exchange → Type 0 = λ e. IsReady Begins Answers stage reads e line server in
-      subst P (sym is) (
-        refl,
-        record {
-          done = u.done;
-          lines = u.lines;
-          begun = u.begun;
-          first = u.first;
-          parts = u.parts;
-          cut = u.cut;
-          held = u.held;
-          begins = u.begins;
-          answers = u.answers;
-          stage_is = u.stage_is;
-          counted = u.counted;
-        },
-      )
+  flushed stage reads exchange new line server is u = grind (arith)
 
   -- if a flush failed when no byte waited, the conversation is cut off
   pub unflushed : (stage : Stage) (reads : ℕ) (exchange new : Exchange) (told : List ℕ) (line : Received) (server : S)
@@ -333,9 +248,7 @@ module _ {S : Type 0} (Begins : S → Type 0) (Answers : S → Received → List
   -- if all lines are answered, and all that was given was flushed, the client is served
   pub served : (exchange new : Exchange) → new ≡ record exchange { told = exchange.given }
       → IsAllAnswered Begins Answers exchange → IsServed Begins Answers new
-  served exchange new is all =
-      let P : Exchange → Type 0 = λ e. IsServed Begins Answers e in
-      subst P (sym is) (all.0, refl, all.1)
+  served exchange new is all = grind (arith)
 
   -- if all lines are answered, and the last flush failed, the conversation is cut off
   pub unserved : (exchange new : Exchange) (told : List ℕ) → new ≡ record exchange { told = told; stage = Stage.Mute }

@@ -7,8 +7,7 @@ use Rattle.std.{proofs.{Math.Seq.take-add, KnownBytes.Appends-trans}, specs.Io.K
 -- end
 pub length-piece : (most : ℕ) (script piece : List ℕ) (count : ℕ) → most < length script + count → count ≤ length piece
     → most < length (script ++ take count piece)
-length-piece most script piece count long within =
-    omega (arith, length-append script (take count piece), length-take count piece)
+length-piece most script piece count long within = grind (arith, length-append, length-take)
 
 -- if the first bytes of a text were written, and then some of those behind them, all of these were written as one part
 pub Appends-more : (first second third : Option (List ℕ)) (bytes : List ℕ) (written count : ℕ)
@@ -24,9 +23,7 @@ Appends-more first second third bytes written count before now =
 
 -- appending nothing keeps what was written
 kept_by_nothing : (old new : Option (List ℕ)) → Appends old new [] → Keeps old new
-kept_by_nothing None new taken = tt
-kept_by_nothing (Some old) None taken = absurd taken
-kept_by_nothing (Some old) (Some new) taken = taken ∙ append-nil old
+kept_by_nothing old new taken = grind (arith, append-nil)
 
 -- a write that took no byte keeps what was written
 pub Keeps-nothing : (old new : Option (List ℕ)) (count : ℕ) (bytes : List ℕ) → count ≡ 0
