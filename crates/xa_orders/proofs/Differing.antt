@@ -1,9 +1,8 @@
 -- Ways that are counted by their numbers.
 --     chosen_same, chosen_new      a number is noted, and no more are chosen;  one more is, whose number is new
-use Rattle.std.proofs.Common.{◌≡◌, ◌≢◌, ℕ, ◌+◌, ◌<◌, Bool, true, false, not, cond, List, [], ◌∷◌, length, get_or, take}
-use Rattle.std.{proofs.{Common.{refl, ap, sym, ◌∙◌, subst, arith}, lemmas.Bool.false≢true}, specs.BTreeMap.is_at}
-use Rattle.std.{proofs.lemmas.List.Elements.{All-cons, All-nil, All-weaker}, specs.{List.All, Ordering.nat_cmp}}
-use Rattle.std.specs.BTreeSet.{BTreeSet, contains, Updates}
+use Rattle.std.proofs.Common.{◌≡◌, ◌≢◌, ℕ, ◌+◌, ◌<◌, Bool, true, false, not, List, ◌∷◌, length, get_or, take, refl, ap}
+use Rattle.std.proofs.{Common.{sym, ◌∙◌, subst, arith}, lemmas.{Bool.false≢true, List.Elements.{All-cons, All-weaker}}}
+use Rattle.std.specs.{BTreeMap.is_at, List.All, Ordering.nat_cmp, BTreeSet.{BTreeSet, contains, Updates}}
 use Rattle.xa_orders.specs.{declared.way.Way.Way, Orders.{Told, Config, Any}, Marks.mark}
 use Rattle.xa_orders.specs.Found.{config_of, AreDifferent, HasDifferent, IsSpread, IsTurn, IsNextOf, IsWideNext}
 use Rattle.xa_orders.proofs.Lists.{any_front, any_read, any_with}
@@ -18,33 +17,20 @@ pub record Chosen (known : List Way) (keys : List (List ℕ)) (marks : BTreeSet 
 
 -- no ways are a choice of which 0 were counted, whatever numbers the set has
 pub chosen_none : (known : List Way) (keys : List (List ℕ)) (marks : BTreeSet ℕ) → Chosen known keys marks 0
-chosen_none known keys marks = record {
-  chosen = [];
-  counted = refl;
-  among = All-nil (λ one. Any (λ way. way ≡ one) known);
-  marked = All-nil (λ one. contains nat_cmp marks (mark keys (config_of one)) ≡ true);
-  differ = tt;
-}
+chosen_none known keys marks = grind (arith, nat_cmp)
 
 -- a number that the set had is still there
 still_marked : (old new : BTreeSet ℕ) (added number : ℕ) → Updates nat_cmp old new added true
     → contains nat_cmp old number ≡ true
     → contains nat_cmp new number ≡ true
-still_marked old new added number updates had = updates.0 number ∙ by (is_at (nat_cmp added) number)
-  where
-    by : (b : Bool) → cond b true (contains nat_cmp old number) ≡ true
-    by true = refl
-    by false = had
+still_marked old new added number updates had = grind (arith, is_at, nat_cmp)
 
 -- numbers that were noted stay noted when one more is
 all_still_marked : (keys : List (List ℕ)) (old new : BTreeSet ℕ) (added : ℕ) (chosen : List Way)
     → Updates nat_cmp old new added true
     → All (λ one. contains nat_cmp old (mark keys (config_of one)) ≡ true) chosen
     → All (λ one. contains nat_cmp new (mark keys (config_of one)) ≡ true) chosen
-all_still_marked keys old new added chosen updates marked =
-    All-weaker (λ one. contains nat_cmp old (mark keys (config_of one)) ≡ true)
-    (λ one. contains nat_cmp new (mark keys (config_of one)) ≡ true)
-    (λ one had. still_marked old new added (mark keys (config_of one)) updates had) chosen marked
+all_still_marked keys old new added chosen updates marked = grind (arith, nat_cmp, still_marked)
 
 -- the chosen ways stay a choice when any number is noted (used for one that was there already)
 pub chosen_same : (known : List Way) (keys : List (List ℕ)) (old new : BTreeSet ℕ) (count added : ℕ)
@@ -81,8 +67,7 @@ chosen_more known keys old new count one among updates none c = record {
 
 -- a test whose negation holds fails
 not_there : (b : Bool) → not b ≡ true → b ≡ false
-not_there true e = absurd (false≢true e)
-not_there false e = refl
+not_there b e = grind (arith, false≢true)
 
 -- the way at a place is chosen too, if its number wasn't noted before and now is
 pub chosen_new : (known : List Way) (keys : List (List ℕ)) (old new : BTreeSet ℕ) (count place number : ℕ) (one : Way)
@@ -99,8 +84,7 @@ chosen_new known keys old new count place number one added within at is was new_
 -- the list has as many ways as were counted, no two of which have come to the same (`HasDifferent`)
 pub chosen_differ : (known : List Way) (keys : List (List ℕ)) (marks : BTreeSet ℕ) (count : ℕ)
     → Chosen known keys marks count → HasDifferent count known
-chosen_differ known keys marks count c =
-    record { many = c.chosen; counted = c.counted; differ = c.differ; among = c.among }
+chosen_differ known keys marks count c = grind (arith)
 
 -- if the ways to which one more turn of the first ways leads have more than allowed that differ, one more turn of all
 -- ways leads to more than allowed that differ (`IsWideNext`)

@@ -1,7 +1,7 @@
 -- Answers and states of lines, one line more; and outcomes of ways, each once.
 use Rattle.std.proofs.Common.{◌≡◌, ◌≢◌, ℕ, ◌+◌, ◌<◌, ◌≤◌, List, [], ◌∷◌, ◌++◌, length, take, drop, get_or, sym, ap, ◌∙◌}
-use Rattle.std.proofs.{Common.{subst, inl, inr, append_assoc}, lemmas.List.{take_more, drop_more, drop_all}}
-use Rattle.std.{proofs.lemmas.List.Elements.{All-nil, All-push, All-weaker}, specs.List.{All, concat}}
+use Rattle.std.proofs.{Common.{subst, inl, inr, append_assoc, arith}, lemmas.List.{take_more, drop_more, drop_all}}
+use Rattle.std.{proofs.lemmas.List.Elements.{All-push, All-weaker}, specs.List.{All, concat}}
 use Rattle.xa_server.specs.State.{State, no_state}
 use Rattle.xa_lines.specs.Transcript.{answer_to, state_then}
 use Rattle.xa_statement.specs.Reading.{read_of}
@@ -19,8 +19,7 @@ pub told_text-more : (state : State) (lines : List Told) (index : ℕ) (line : T
     ≡ answer_to state line.session (read_of line.text) ++ told_text (state_then state line.session (read_of line.text))
     (drop (index + 1) lines)
 unfolding told_text
-told_text-more state lines index line below at =
-    ap (told_text state) (drop_more lines index line below ∙ ap (λ l. l ∷ drop (index + 1) lines) (sym at))
+told_text-more state lines index line below at = grind (arith, drop_more)
 
 -- the state after the lines from a place on: the one there is carried out, and then the others
 pub told_state-more : (state : State) (lines : List Told) (index : ℕ) (line : Told) → index < length lines
@@ -28,8 +27,7 @@ pub told_state-more : (state : State) (lines : List Told) (index : ℕ) (line : 
     → told_state state (drop index lines) ≡ told_state (state_then state line.session (read_of line.text))
     (drop (index + 1) lines)
 unfolding told_state
-told_state-more state lines index line below at =
-    ap (told_state state) (drop_more lines index line below ∙ ap (λ l. l ∷ drop (index + 1) lines) (sym at))
+told_state-more state lines index line below at = grind (arith, drop_more)
 
 -- past the last line nothing is written
 pub told_text-end : (state : State) (lines : List Told) (index : ℕ) → length lines ≤ index
@@ -53,15 +51,7 @@ pub told_step : (state new : State) (lines : List Told) (index : ℕ) (line : To
     → whole ≡ out ++ told_text state (drop index lines)
     → whole ≡ more ++ told_text new (drop (index + 1) lines)
 told_step state new lines index line session said whole out answer more below at by text is now appended before =
-    let rest = drop (index + 1) lines in
-    let own : answer ≡ answer_to state line.session (read_of line.text) =
-    is ∙ ap (λ n. answer_to state n (read_of said)) by ∙ ap (λ t. answer_to state line.session (read_of t)) text in
-    let next : new ≡ state_then state line.session (read_of line.text) =
-    now ∙ ap (λ n. state_then state n (read_of said)) by ∙ ap (λ t. state_then state line.session (read_of t)) text in
-    before ∙ ap (λ t. out ++ t) (told_text-more state lines index line below at)
-    ∙ ap (λ a. out ++ (a ++ told_text (state_then state line.session (read_of line.text)) rest)) (sym own)
-    ∙ ap (λ s. out ++ (answer ++ told_text s rest)) (sym next)
-    ∙ sym (append_assoc out answer (told_text new rest)) ∙ ap (λ t. t ++ told_text new rest) (sym appended)
+    grind (arith, append_assoc, told_text-more)
 
 -- the loop over lines: one more is carried out; the state after all of them stays the same
 pub told_state_step : (first state new : State) (lines : List Told) (index : ℕ) (line : Told) (session : ℕ)
@@ -72,10 +62,7 @@ pub told_state_step : (first state new : State) (lines : List Told) (index : ℕ
     → last ≡ told_state state (drop index lines)
     → last ≡ told_state new (drop (index + 1) lines)
 told_state_step first state new lines index line session said last below at by text now before =
-    let next : new ≡ state_then state line.session (read_of line.text) =
-    now ∙ ap (λ n. state_then state n (read_of said)) by ∙ ap (λ t. state_then state line.session (read_of t)) text in
-    before ∙ told_state-more state lines index line below at
-    ∙ ap (λ s. told_state s (drop (index + 1) lines)) (sym next)
+    grind (arith, told_state-more)
 
 -- the outcome is that of one of these ways: its order and its text
 abbrev pub IsOf : (Way → List ℕ) → List Way → Outcome → Type 0
@@ -148,11 +135,7 @@ module _ (text_of : Way → List ℕ) (front : List Way) (way : Way) (old : List
   pub outcome_more : (new : List Outcome) (text : List ℕ) → text ≡ text_of way
       → IsOutcomeAdded way.order.items text old new
       → AreOutcomes text_of (front ++ way ∷ []) new
-  outcome_more new text text_is (inl there) =
-      subst (AreOutcomes text_of (front ++ way ∷ [])) (sym there.1) (outcome_there text text_is there.0)
-  outcome_more new text text_is (inr added) =
-      subst (AreOutcomes text_of (front ++ way ∷ [])) (sym added.4)
-      (outcome_added text added.0 text_is added.1 added.2 added.3)
+  outcome_more new text text_is is = grind (arith, outcome_added, outcome_there)
 
 -- the loop over ways: after the outcome of one more is added, unless it was there, the outcomes are those of the ways
 -- so far
@@ -172,9 +155,7 @@ outcome_step text_of ways old new index way text below at ascending text_is adde
 
 -- no ways have no outcomes
 pub outcomes_none : (text_of : Way → List ℕ) (outcomes : List Outcome) → outcomes ≡ [] → AreOutcomes text_of [] outcomes
-outcomes_none text_of outcomes none =
-    subst (AreOutcomes text_of []) (sym none)
-    (record { each = All-nil (IsOf text_of []); all = All-nil (HasOutcome text_of []); once = tt; ascending = tt })
+outcomes_none text_of outcomes is = grind (arith)
 
 -- the outcomes of the ways in which each line has had its turn are those of all orders (`IsExplored`)
 pub all_explored : (parts : Parts) (first : List ℕ) (ways same : List Way) (outcomes : List Outcome)

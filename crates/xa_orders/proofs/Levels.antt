@@ -1,8 +1,8 @@
 -- Ways with one turn more: each configuration to which they come is listed, with its least order.
 use Rattle.std.proofs.Common.{◌≡◌, ◌⊎◌, ℕ, ◌+◌, ◌<◌, Option, Some, None, Vec, Global, IfSome, List, [], ◌∷◌, ◌++◌}
 use Rattle.std.proofs.{Common.{length, take, get_or, refl, sym, ap, ◌∙◌, subst, inl, inr, arith}, lemmas.Bool.cases_lt}
-use Rattle.std.proofs.lemmas.{Option.{none-some, same_Some}, List.{length_push, take_more}}
-use Rattle.std.{proofs.lemmas.List.Elements.{All-nil, All-cons, All-push, All-weaker}, specs.List.All}
+use Rattle.std.proofs.lemmas.{Bool.Decides.nat_tests, Option.{none-some, same_Some}, List.{length_push, take_more}}
+use Rattle.std.{proofs.lemmas.{List.Elements.{All-push, All-weaker}, Grind.common_steps}, specs.List.All}
 use Rattle.xa_orders.specs.declared.way.Way.{Way}
 use Rattle.xa_orders.specs.Orders.{Told, Config, opening, turn, IsSession, LeadsTo, Precedes, AtMost, Any, IsAscending}
 use Rattle.xa_orders.specs.Found.{config_of, order_of, IsReached, HasBy, IsLevel, IsTurn, Covers, IsNextOf, AllPrecede}
@@ -32,10 +32,7 @@ leads_last lines old new (first ∷ order) session leads =
 -- a configuration that a list had, with an order at most as great, it still has when a way is added
 pub has_kept : (old new : List Way) (one : Way) (config : Config) (order : List ℕ) → AddsUnlessThere old one new
     → HasBy old config order → HasBy new config order
-has_kept old new one config order (inl was) has = subst (λ l. HasBy l config order) (sym was.1) has
-has_kept old new one config order (inr is) has =
-    subst (λ l. HasBy l config order) (sym is) (any_left (λ way. (config_of way ≡ config)
-    × AtMost way.order.items order) old (one ∷ []) has)
+has_kept old new one config order is has = grind (arith, any_left)
 
 -- `new` was found by a turn of one of the front, or by the turn of `way` of a session below the number
 abbrev pub IsFrom : List Told → List Way → Way → ℕ → Way → Type 0
@@ -54,13 +51,7 @@ pub record IsHalfway (lines : List Told) (front : List Way) (way : Way) (number 
 -- if the list is what one more turn of the ways before this one leads to, `IsHalfway` holds of it with number 1
 pub halfway_first : (lines : List Told) (front : List Way) (way : Way) (list : List Way) → IsNextOf lines front list
     → IsHalfway lines front way 1 list
-halfway_first lines front way list next = record {
-  each = All-weaker (λ new. Any (λ one. (session : ℕ) × IsTurn lines session one new) front) (IsFrom lines front way 1)
-      (λ new any. inl any) list next.each;
-  fronts = next.all;
-  own = λ session config below is at. absurd (omega (arith, below, is.0));
-  ascending = next.ascending;
-}
+halfway_first lines front way list next = grind (arith)
 
 -- what was found before a session's turn comes before the way's order with that turn
 before_turn : (lines : List Told) (front : List Way) (way : Way) (number : ℕ) (new : Way) → AllPrecede front way
@@ -78,41 +69,25 @@ before_turn lines front way number new precede (inr own) =
 
 -- a session below the number after another is below that one, or is it
 below_more : (session number : ℕ) → session < number + 1 → (session < number) ⊎ (session ≡ number)
-below_more session number below =
-    elim (cases_lt session number) [ inl less ↦ inl less | inr most ↦ inr (omega (arith, below, most)) ]
+below_more session number below = grind (arith, cases_lt)
 
 -- a way that was found by sessions below a number was found by those below the next one
 from_more : (lines : List Told) (front : List Way) (way : Way) (number : ℕ) (new : Way)
     → IsFrom lines front way number new
     → IsFrom lines front way (number + 1) new
-from_more lines front way number new (inl any) = inl any
-from_more lines front way number new (inr own) = inr (own.0, omega (arith, own.1), own.2)
+from_more lines front way number new is = grind (arith)
 
 module _ (lines : List Told) (front : List Way) (way : Way) (number : ℕ) (old : List Way)
     (half : IsHalfway lines front way number old) where
   -- each way of the list was found by a turn of the ways before this one, or of this way by a session below the next
   -- number
   more_each : All (IsFrom lines front way (number + 1)) old
-  more_each = All-weaker (IsFrom lines front way number) (IsFrom lines front way (number + 1))
-      (from_more lines front way number) old half.each
+  more_each = grind (arith, from_more)
 
   -- if the session of this number has no turn, `IsHalfway` holds of the list with the next number
   halfway_none : (IsSession number → turn lines (config_of way) number ≡ None)
       → IsHalfway lines front way (number + 1) old
-  halfway_none none = record {
-    each = more_each;
-    fronts = half.fronts;
-    own = λ session config below is at. by session config is at (below_more session number below);
-    ascending = half.ascending;
-  }
-    where
-      by : (session : ℕ) (config : Config) → IsSession session → turn lines (config_of way) session ≡ Some config
-          → (session < number) ⊎ (session ≡ number)
-          → HasBy old config (way.order.items ++ session ∷ [])
-      by session config is at (inl less) = half.own session config less is at
-      by session config is at (inr same) =
-          absurd (none-some config (sym (none (subst IsSession same is)) ∙ ap (turn lines (config_of way)) (sym same)
-          ∙ at))
+  halfway_none is = grind (arith, below_more, none-some)
 
   -- if the turn of this number's session leads to a configuration that the list has, `IsHalfway` holds of the list with
   -- the next number
@@ -180,16 +155,7 @@ module _ (lines : List Told) (front : List Way) (way : Way) (number : ℕ) (old 
   -- number
   pub halfway_more : (new : List Way) → AllPrecede front way → IsTurnAdded lines way number old new
       → IsHalfway lines front way (number + 1) new
-  halfway_more new precede (inl none) =
-      subst (IsHalfway lines front way (number + 1)) (sym none.1) (halfway_none none.0)
-  halfway_more new precede (inr some) = added some.0 some.1 some.2
-    where
-      added : (next : Way) → IsTurn lines number way next → AddsUnlessThere old next new
-          → IsHalfway lines front way (number + 1) new
-      added next is_turn (inl was) =
-          subst (IsHalfway lines front way (number + 1)) (sym was.1) (halfway_there next precede is_turn was.0)
-      added next is_turn (inr is) =
-          subst (IsHalfway lines front way (number + 1)) (sym is) (halfway_added next precede is_turn)
+  halfway_more new precede is = grind (arith, halfway_added, halfway_none, halfway_there)
 
 -- after session 16 all turns of the way were taken: the list is what one more turn of the ways up to it leads to
 pub halfway_done : (lines : List Told) (front : List Way) (way : Way) (list : List Way)
@@ -213,13 +179,7 @@ halfway_done lines front way list half = record {
 reached_more : (lines : List Told) (base : Config) (count session : ℕ) (way new : Way) → IsReached lines base count way
     → IsTurn lines session way new
     → IsReached lines base (count + 1) new
-reached_more lines base count session way new reached is_turn = record {
-  count_is = ap length is_turn.order_is ∙ length_push way.order.items session ∙ ap (λ n. n + 1) reached.count_is;
-  leads =
-      subst (λ order. LeadsTo lines base order (config_of new)) (sym is_turn.order_is)
-      (leads_more lines base (config_of way) (config_of new) way.order.items session reached.leads is_turn.is_session
-      is_turn.leads);
-}
+reached_more lines base count session way new reached is_turn = grind (arith, leads_more, length_push)
 
 -- ways with one turn more than ways that are reached are reached with one turn more
 pub each_reached : (lines : List Told) (base : Config) (count : ℕ) (ways list : List Way)
@@ -276,25 +236,7 @@ level_next lines base count ways list level next = record {
 pub level_first : (lines : List Told) (base : Config) (list : List Way) (one : Way) → list ≡ one ∷ []
     → config_of one ≡ base → one.order.items ≡ []
     → IsLevel lines base 0 list
-level_first lines base list one is came none =
-    subst (IsLevel lines base 0) (sym is)
-    (record {
-      each =
-          All-cons (IsReached lines base 0) one []
-          (record {
-            count_is = ap length none;
-            leads = subst (λ order. LeadsTo lines base order (config_of one))
-                (sym none) came;
-          })
-          (All-nil (IsReached lines base 0));
-      all = all;
-      ascending = (All-nil (λ other. Precedes one.order.items other.order.items), tt);
-    })
-  where
-    all : (order : List ℕ) (config : Config) → length order ≡ 0 → LeadsTo lines base order config
-        → HasBy (one ∷ []) config order
-    all [] config count_is leads = inl (came ∙ sym leads, inl none)
-    all (first ∷ rest) config count_is leads = absurd (omega (arith, count_is))
+level_first lines base list one is came also = grind (arith, common_steps, nat_tests)
 
 -- the loop over ways: after the turns of one more are added, the list is what one more turn of the ways so far leads
 -- to

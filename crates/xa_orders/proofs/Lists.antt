@@ -101,11 +101,8 @@ precedes_last (x ∷ a) s t below = inr (refl, precedes_last a s t below)
 
 -- an order that is another one or precedes it still is or does with the same turns behind both
 pub at_most_append : (a b c : List ℕ) → AtMost a b → AtMost (a ++ c) (b ++ c)
-at_most_append a b c (inl same) = inl (ap (λ l. l ++ c) same)
-at_most_append a b c (inr less) = inr (precedes_append a b c c less)
+at_most_append a b c is = grind (arith, precedes_append)
 
 -- of three orders, each the next or before it, the first is the last or before it
 pub at_most_trans : (a b c : List ℕ) → AtMost a b → AtMost b c → AtMost a c
-at_most_trans a b c (inl same) other = subst (λ l. AtMost l c) (sym same) other
-at_most_trans a b c (inr less) (inl same) = inr (subst (Precedes a) same less)
-at_most_trans a b c (inr less) (inr more) = inr (precedes_trans a b c less more)
+at_most_trans a b c is other = grind (arith, precedes_trans)

@@ -2,12 +2,11 @@
 use Rattle.std.proofs.Common.{◌≡◌, ℕ, ◌+◌, ◌==◌, ◌&&◌, Bool, not, cond, List, [], ◌∷◌, length, position, refl, ap, ◌∙◌}
 use Rattle.std.{proofs.{Common.arith, lemmas.Bool.Decides.nat_tests}, specs.List.{zip, prefix_len}}
 use Rattle.xa_lines.specs.Script.{is_empty_line}
-use Rattle.xa_orders.specs.Orders.{Told, is_left, next_place}
+use Rattle.xa_orders.specs.Orders.{Told, next_place}
 
 -- a text of length 0 is the empty one
 is_empty_length : (text : List ℕ) → (length text == 0) ≡ is_empty_line text
-is_empty_length [] = grind (arith, nat_tests)
-is_empty_length (byte ∷ text) = grind (arith, nat_tests)
+is_empty_length text = grind (arith, nat_tests)
 
 -- if two tests agree on each element, as many elements at the front of a list fail one as fail the other
 prefix_same : {A : Type 0} (p q : A → Bool) (xs : List A) → ((x : A) → p x ≡ q x)
@@ -25,7 +24,4 @@ position_same p q xs same = rw (prefix_same p q xs same)
 pub next_is : (session : ℕ) (lines : List Told) (texts : List (List ℕ))
     → position (λ pair. (pair.0.session == session) && (length pair.1 == 0)) (zip lines texts)
     ≡ next_place session lines texts
-next_is session lines texts =
-    position_same (λ (pair : Told × List ℕ). (pair.0.session == session) && (length pair.1 == 0)) (is_left session)
-    (zip lines texts)
-    (λ pair. ap (λ b. (pair.0.session == session) && b) (is_empty_length pair.1))
+next_is session lines texts = grind (arith, is_empty_length, position_same, zip)
