@@ -12,10 +12,10 @@ use Rattle.chain_log.specs.RingPass.{identity_of, log_of}
 use Rattle.xa_store.specs.{Gathered.IsTakenIn, Legal.{IsLegal, LetsIn}, Spread.HasAnswered}
 use Rattle.xa_store.{specs.declared.race_fault.RaceFault.RaceFault, proofs.Races.legal_in}
 use Rattle.xa_store.proofs.Spreading.{zip_get, zip_first, zip_chain, map_twice}
-use Rattle.xa_races.specs.Long.{known_in, IsAddedBy, IsListed, HasRaced, EndsAt, StopsAt, Settles, Keeps, AreOfOne}
-use Rattle.xa_races.specs.{Long.{seen_by_last, IsLongOutcome, BlamesLong}, Assembled.IsWithin}
-use Rattle.xa_races.specs.declared.{added.Added.Added, racer.Raced.Raced, long_run.LongRun.LongRun}
-use Rattle.xa_races.{specs.declared.long_outcome.LongOutcome.LongOutcome, proofs.Statements.own_part}
+use Rattle.xa_races.specs.Long.{known_in, IsListed, HasRaced, EndsAt, StopsAt, Settles, Keeps, AreOfOne, seen_by_last}
+use Rattle.xa_races.specs.{Long.{IsLongOutcome, BlamesLong}, Assembled.IsWithin, declared.added.Added.Added}
+use Rattle.xa_races.specs.declared.{racer.Raced.Raced, long_run.LongRun.LongRun, long_outcome.LongOutcome.LongOutcome}
+use Rattle.xa_races.proofs.Statements.{own_part}
 
 -- what stands at a place of a list stands in the rest of the list from `from` on at the place counted from there
 pub get_drop : (from place : ℕ) (list : List Entry) → from ≤ place
@@ -50,8 +50,7 @@ all_mapped P f (x ∷ xs) all = All-cons P (f x) (map f xs) (All-head (λ y. P (
 -- place isn't before that
 pub listed_within : (whole : List Entry) (limit from : ℕ) (added : Added) → IsListed whole limit added
     → IsWithin (drop from whole) limit from added
-listed_within whole limit from added is low =
-    record { at = get_drop from added.place whole low ∙ is.at; some = is.some; few = is.few }
+listed_within whole limit from added is low = grind (arith, get_drop)
 
 -- if all noted entries are listed at their places in the whole history, each fits into the rest of it from the place
 -- `from` on, if its place isn't before that
@@ -114,24 +113,14 @@ of_one gate store runs raced all zip = record {
 answered_of : (gate : ℕ → ℕ → Bool → Type 0) (run : LongRun) (one : Raced) → one.fault ≡ None
     → (is : HasRaced gate run.session run.lines.items one)
     → HasAnswered gate no_state (known_in run.session) (known_in is.mid) run.lines.items one.said.answers.items
-answered_of gate run one none is =
-    subst (λ (fault : Option RaceFault). EndsAt gate (known_in run.session) run.lines.items one.said.answers.items fault
-    is.mid) none is.ends
+answered_of gate run one also is = grind (arith)
 
 -- if a history has all that the session knows, each entry that its thread noted is listed there
 listed_of : (gate : ℕ → ℕ → Bool → Type 0) (whole : List Entry) (limit : ℕ) (run : LongRun) (one : Raced)
     → HasRaced gate run.session run.lines.items one
     → IsTakenIn whole (known_in one.session) → 1 ≤ (known_in run.session).number → (known_in run.session).number ≤ limit
     → All (IsListed whole limit) one.said.added.items
-listed_of gate whole limit run one is taken some few =
-    All-weaker (IsAddedBy (known_in is.mid).seen (known_in run.session).number) (IsListed whole limit)
-    (λ added by. record {
-      at = get_begins (known_in is.mid).seen whole added.place added.entry
-          (begins_through (known_in is.mid).seen (known_in one.session).seen whole is.rests.seen taken.seen) by.at;
-      some = omega (arith, by.own, some);
-      few = omega (arith, by.own, few);
-    })
-    one.said.added.items is.own
+listed_of gate whole limit run one is taken also few = grind (arith, begins_through, get_begins)
 
 -- the number of a session of a ring is from 1 on
 pub numbered : (session : EndlessSession) → 1 ≤ (known_in session).number

@@ -26,12 +26,7 @@ stays_itself session = record { store = refl; adds_nothing = keeps_itself (known
 
 -- what a session keeps through each of two calls it keeps through both
 pub stays_through : (old now new : EndlessSession) → Keeps old now → Keeps now new → Keeps old new
-stays_through old now new s t =
-    record {
-      store = t.store ∙ s.store;
-      adds_nothing = keeps_again (known_in old) (known_in now)
-          (known_in new) s.adds_nothing t.adds_nothing;
-    }
+stays_through old now new s t = grind (arith, keeps_again, known_in)
 
 -- if all elements have changed as a transitive relation says, and then one changes so again, all still have
 pub zip_set : {S : Type 0} (R : S → S → Type 0) → ((a b c : S) → R a b → R b c → R a c)
@@ -76,17 +71,11 @@ module _ (first once twice told : List EndlessSession) (last last1 last2 last3 :
 
   -- the last one has added nothing from the first meeting on, and may have seen more
   pub last_keeps : AddsNothing (known_in last) (known_in last3)
-  last_keeps =
-      keeps_again (known_in last) (known_in last1) (known_in last3) l1
-      (keeps_again (known_in last1) (known_in last2) (known_in last3) l2
-      (meets_keeps (known_in last2) (known_in last3) f3))
+  last_keeps = grind (arith, keeps_again, known_in, meets_keeps)
 
   -- what the last one has seen in the end has all that each of the others knew after the second meeting
   taken_twice : All (λ session. IsTakenIn (known_in last3).seen (known_in session)) twice
-  taken_twice k d below = record {
-    seen = subst (λ list. Begins (known_in (get_or twice k d)).seen list) (sym f3.seen) (s2 k d below);
-    mine = ap (entries_of (known_in (get_or twice k d)).number) f3.seen ∙ w2 k d below;
-  }
+  taken_twice k d below = grind (arith, entries_of, known_in)
 
   -- what the last one has seen in the end has all that each of the others knew at first
   pub others_taken : All (λ session. IsTakenIn (known_in last3).seen (known_in session)) first

@@ -16,15 +16,7 @@ raced_in_log gate capacity lines text is =
 pub raced_on : (gate : ℕ → ℕ → Bool → Type 0) (rows : ℕ) (lines : List (List ℕ)) (text : List ℕ)
     → IsHeldEndless gate rows lines text
     → IsRacedOn lines text
-raced_on gate rows lines text is = record {
-  lists = is.lists;
-  are_lists = is.are_lists;
-  history = is.outcome.history.items;
-  answers = map (λ answers. answers.items) is.outcome.answers.items;
-  legal = is.held.legal;
-  own = is.held.own;
-  text_is = is.text_is;
-}
+raced_on gate rows lines text is = grind (arith)
 
 -- if the list at each index has the statements of session `index + session`, the first `count` lists are those of the
 -- sessions from `session` on

@@ -26,16 +26,12 @@ pub record Said : Type 0 where
 -- if a history's first entry is the session's own, the session's entries are that one, and then those of the rest
 entries_of-own : (session : ℕ) (entry : Entry) (list : List Entry) → entry.session ≡ session
     → entries_of session (entry ∷ list) ≡ entry ∷ entries_of session list
-entries_of-own session entry list own =
-    ap (λ b. cond b (entry ∷ entries_of session list) (entries_of session list))
-    (ap (λ (n : ℕ). is_of session (record entry { session = n })) own ∙ same_test session)
+entries_of-own session entry list own = grind (arith, same_test)
 
 -- if a history's first entry is another session's, the session's entries are those of the rest
 pub entries_of-other : (session : ℕ) (entry : Entry) (list : List Entry) → entry.session ≢ session
     → entries_of session (entry ∷ list) ≡ entries_of session list
-entries_of-other session entry list apart =
-    ap (λ b. cond b (entry ∷ entries_of session list) (entries_of session list))
-    (apart_test entry.session session apart)
+entries_of-other session entry list apart = grind (arith, apart_test)
 
 -- a history from a place on begins with the entry at the place
 from_place : (history : List Entry) (place : ℕ) (entry : Entry) → slice_get history place ≡ Some entry
@@ -49,22 +45,17 @@ from_place (x ∷ xs) (suc place) entry is = from_place xs place entry is
 own_from : (history : List Entry) (place session : ℕ) (entry : Entry) → slice_get history place ≡ Some entry
     → entry.session ≡ session
     → entries_of session (drop place history) ≡ entry ∷ entries_of session (drop (suc place) history)
-own_from history place session entry is own =
-    ap (entries_of session) (from_place history place entry is)
-    ∙ entries_of-own session entry (drop (suc place) history) own
+own_from history place session entry is own = grind (arith, entries_of-own, from_place)
 
 -- if the entry at a place is another session's, the session's entries from there on are those from the next place on
 other_from : (history : List Entry) (place session : ℕ) (entry : Entry) → slice_get history place ≡ Some entry
     → entry.session ≢ session
     → entries_of session (drop place history) ≡ entries_of session (drop (suc place) history)
-other_from history place session entry is apart =
-    ap (entries_of session) (from_place history place entry is)
-    ∙ entries_of-other session entry (drop (suc place) history) apart
+other_from history place session entry is apart = grind (arith, entries_of-other, from_place)
 
 -- a list with one element more, or not, is at least as long
 more_of : (b : Bool) (entry : Entry) (list : List Entry) → length list ≤ length (cond b (entry ∷ list) list)
-more_of true entry list = omega arith
-more_of false entry list = omega arith
+more_of b entry list = grind (arith)
 
 -- dropping a front of the history leaves at most as many entries of a session
 count_drop : (session : ℕ) (list : List Entry) (count : ℕ)
@@ -153,22 +144,7 @@ module _ {L : Type 0} (spoken : L → Said) where
       → (spoken line).answer.place ≡ place
       → enters (state_at base history place) session (spoken line).statement ≡ false
       → Remains base history place session rest
-  skipped base history place session line rest left at out =
-      let no : enters (state_at base history (spoken line).answer.place) session (spoken line).statement ≡ false =
-      ap (λ (n : ℕ). enters (state_at base history n) session (spoken line).statement) at ∙ out in
-      record {
-        answered =
-            subst (λ (n : ℕ). Answered base history session n (statements_in rest) (answers_in rest)) at
-            (subst (λ (b : Bool). Answered base history session
-            (cond b ((spoken line).answer.place + 1) (spoken line).answer.place) (statements_in rest) (answers_in rest))
-            no
-            left.answered.2);
-        mine =
-            left.mine
-            ∙ ap (λ (b : Bool). cond b (entry_of session (spoken line).statement ∷ entered base history session
-            (statements_in rest) (answers_in rest))
-            (entered base history session (statements_in rest) (answers_in rest))) no;
-      }
+  skipped base history place session line rest left at out = grind (arith)
 
   -- behind a line whose statement entered at this place, the session has its other lines left from the next place on
   pub entering : (base : State) (history : List Entry) (place session : ℕ) (line : L) (rest : List L)
@@ -178,26 +154,7 @@ module _ {L : Type 0} (spoken : L → Said) where
       → slice_get history place ≡ Some entry
       → entry.session ≡ session
       → Remains base history (suc place) session rest
-  entering base history place session line rest entry left at in' is own =
-      let yes : enters (state_at base history (spoken line).answer.place) session (spoken line).statement ≡ true =
-      ap (λ (n : ℕ). enters (state_at base history n) session (spoken line).statement) at ∙ in' in
-      let mine : entries_of session (drop place history) ≡ entry_of session (spoken line).statement
-      ∷ entered base history session (statements_in rest) (answers_in rest) =
-      left.mine
-      ∙ ap (λ (b : Bool). cond b (entry_of session (spoken line).statement
-      ∷ entered base history session (statements_in rest) (answers_in rest))
-      (entered base history session (statements_in rest) (answers_in rest))) yes in
-      record {
-        answered =
-            subst (λ (n : ℕ). Answered base history session n (statements_in rest) (answers_in rest))
-            (ap (λ (n : ℕ). n + 1) at ∙ add-one place)
-            (subst (λ (b : Bool). Answered base history session
-            (cond b ((spoken line).answer.place + 1) (spoken line).answer.place) (statements_in rest) (answers_in rest))
-            yes
-            left.answered.2);
-        mine = tails entry (entry_of session (spoken line).statement) _ _
-            (sym (own_from history place session entry is own) ∙ mine);
-      }
+  entering base history place session line rest entry left at in' is own = grind (arith, add-one, own_from, tails)
 
   -- the line that enters at a place is the entry there
   pub enters_there : (base : State) (history : List Entry) (place session : ℕ) (line : L) (rest : List L)
@@ -205,30 +162,15 @@ module _ {L : Type 0} (spoken : L → Said) where
       → (spoken line).answer.place ≡ place
       → enters (state_at base history place) session (spoken line).statement ≡ true
       → slice_get history place ≡ Some (entry_of session (spoken line).statement)
-  enters_there base history place session line rest left at in' =
-      sym (ap (slice_get history) at) ∙ left.answered.1.next
-      (ap (λ (n : ℕ). enters (state_at base history n) session (spoken line).statement) at ∙ in')
+  enters_there base history place session line rest left at in' = grind (arith)
 
   -- behind an entry of another session, a drained session has left what it had left before that entry
   pub waiting : (base : State) (history : List Entry) (place session : ℕ) (lines : List L) (entry : Entry)
       → Remains base history place session lines
       → Drained base history place session lines → slice_get history place ≡ Some entry
       → entry.session ≢ session → Remains base history (suc place) session lines
-  waiting base history place session [] entry left drained is apart =
-      record { answered = tt; mine = sym (other_from history place session entry is apart) ∙ left.mine }
-  waiting base history place session (line ∷ rest) entry left drained is apart =
-      let later : (spoken line).answer.place ≢ place = λ at.
-      apart (ap (λ (e : Entry). e.session)
-      (same_Some entry (entry_of session (spoken line).statement) (sym is
-      ∙ enters_there base history place session line rest left at (drained at)))) in
-      record {
-        answered = (after_place later left.answered.0, left.answered.1, left.answered.2);
-        mine = sym (other_from history place session entry is apart) ∙ left.mine;
-      }
-    where
-      after_place : (spoken line).answer.place ≢ place → place ≤ (spoken line).answer.place
-          → suc place ≤ (spoken line).answer.place
-      after_place apart order = omega arith
+  waiting base history place session lines entry left drained is apart =
+      grind (arith, enters_there, other_from, same_Some)
 
   -- the first of these lines was answered at the place
   pub record Due (place : ℕ) (lines : List L) : Type 0 where
@@ -261,9 +203,4 @@ module _ {L : Type 0} (spoken : L → Said) where
   pub ended : (base : State) (history : List Entry) (place session : ℕ) (lines : List L)
       → Remains base history place session lines
       → Drained base history place session lines → place ≡ length history → lines ≡ []
-  ended base history place session [] left drained end = refl
-  ended base history place session (line ∷ rest) left drained end =
-      let at : (spoken line).answer.place ≡ place = omega (arith, left.answered.0, left.answered.1.within, end) in
-      absurd (none-some (entry_of session (spoken line).statement)
-      (sym (slice_get_past history place (omega (arith, end)))
-      ∙ enters_there base history place session line rest left at (drained at)))
+  ended base history place session lines left drained end = grind (arith, enters_there, none-some, slice_get_past)

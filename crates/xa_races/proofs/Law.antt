@@ -1,24 +1,17 @@
 -- What lines were answered in a race, some order of them gives.
-use Rattle.std.proofs.Common.{◌≡◌, ℕ, suc, ◌+◌, ◌≤◌, ◌==◌, ◌&&◌, Bool, true, false, not, cond, Option, Some, None, List}
-use Rattle.std.proofs.Common.{[], ◌∷◌, ◌++◌, length, map, refl, ap, sym, ◌∙◌, subst, inl, inr, arith, append-nil}
-use Rattle.std.{proofs.lemmas.Option.{none-some, same_Some}, specs.{Prelude.nat_lt, List.{Contains, concat}}}
-use Rattle.std.specs.Option.{option_map}
+use Rattle.std.proofs.Common.{◌≡◌, ℕ, suc, ◌≤◌, List, [], ◌∷◌, ◌++◌, length, refl, ap, sym, ◌∙◌, arith}
+use Rattle.std.specs.List.{concat}
 use Rattle.xa_xid.specs.declared.statement.Statement.{Statement}
-use Rattle.xa_statement.specs.Reading.{read_of}
 use Rattle.xa_words.specs.Entry.{Entry}
 use Rattle.xa_server.specs.State.{State, no_state}
-use Rattle.decision_log.specs.Known.{newcomer}
 use Rattle.xa_session.specs.{Replay.{state_at, state_after}, declared.answer.Answer.Answer}
 use Rattle.xa_session.proofs.Replaying.{state_after-nil, state_at-whole}
-use Rattle.xa_store.specs.Legal.{Answered, entered, next_place, IsLegal}
-use Rattle.xa_lines.specs.Transcript.{answer_to, state_then}
-use Rattle.xa_orders.specs.{declared.outcome.Outcome.Outcome, Orders.{Told, Parts, Config, opening, text_at}}
-use Rattle.xa_orders.specs.Orders.{carried_out, turn, IsSession, LeadsTo, Gives, AtMost, Any, IsExplored, told_text}
-use Rattle.xa_orders.specs.Orders.{told_state}
-use Rattle.xa_races.specs.CountedRaced.{statements_of, IsRaced, HasCome}
-use Rattle.xa_races.proofs.{Tests.{same_of_test, all_at}, Histories.{Said, Remains, statements_in, answers_in}}
-use Rattle.xa_races.proofs.{Schedules.goes, Turns.{Lines, Stands, Goes, emits, all_filled, owed_by, said_of}}
-use Rattle.xa_races.proofs.Turns.{opening_agrees, opening_left, all_empty}
+use Rattle.xa_store.specs.Legal.{Answered, next_place}
+use Rattle.xa_orders.specs.{declared.outcome.Outcome.Outcome, Orders.{Told, Parts, Config, opening, IsSession, Gives}}
+use Rattle.xa_orders.specs.Orders.{AtMost, Any, IsExplored, told_text, told_state}
+use Rattle.xa_races.{specs.CountedRaced.{statements_of, IsRaced, HasCome}, proofs.Tests.all_at}
+use Rattle.xa_races.proofs.{Histories.{Said, Remains, statements_in, answers_in}, Schedules.goes, Turns.{Lines, Stands}}
+use Rattle.xa_races.proofs.Turns.{Goes, emits, all_filled, owed_by, said_of, opening_agrees, opening_left, all_empty}
 
 -- what a line of a session says and is answered: the line itself, which is both
 abbrev itself : Said → Said
@@ -57,9 +50,7 @@ module _ (base : State) (lines : List Told) (texts : List (List ℕ)) (new : Sta
     (raced : IsRaced base lines texts new) where
   -- each session has as many answers as statements
   long : (session : ℕ) → IsSession session → length (raced.answers session) ≡ length (statements_of session lines)
-  long session is =
-      answered_long base raced.history session (statements_of session lines) (raced.answers session) 0
-      (raced.legal session is).answered
+  long session is = grind (arith, answered_long)
 
   -- the statements of each session, each with its answer
   abbrev all_said : Lines
@@ -67,21 +58,11 @@ module _ (base : State) (lines : List Told) (texts : List (List ℕ)) (new : Sta
 
   -- each session's statements with their answers are what remains of it at the beginning of the race's history
   remain : (session : ℕ) → IsSession session → Remains itself base raced.history 0 session (all_said session)
-  remain session is =
-      let legal = raced.legal session is in
-      let statements : statements_in itself (all_said session) ≡ statements_of session lines =
-      said_statements (statements_of session lines) (raced.answers session) (long session is) in
-      let answers : answers_in itself (all_said session) ≡ raced.answers session =
-      said_answers (statements_of session lines) (raced.answers session) (long session is) in
-      record { answered = rw (statements, answers) legal.answered; mine = rw (statements, answers) legal.mine }
+  remain session is = grind (arith, answers_in, long, said_answers, said_statements, statements_in)
 
   -- before any turn no line has an answer, and each session has its statements with their answers left to say
   stands : Stands lines texts (state_after base raced.history) all_said (opening lines base)
-  stands = record {
-    agrees = opening_agrees lines texts raced.long;
-    left_is = λ session is. opening_left session lines texts (raced.answers session) raced.read raced.long
-        (long session is) (raced.texts_are session is);
-  }
+  stands = grind (arith, long, opening_agrees, opening_left)
 
   abbrev end : State
   end = state_after base raced.history

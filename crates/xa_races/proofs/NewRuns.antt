@@ -6,16 +6,14 @@ use Rattle.std.specs.{Prelude.slice_get, List.{All, AllZip, AllByRecursion}}
 use Rattle.xa_xid.specs.declared.statement.Statement.{Statement}
 use Rattle.xa_words.specs.Entry.{Entry}
 use Rattle.xa_server.specs.State.{State, no_state}
-use Rattle.decision_log.specs.{declared.known.Known.Known, Known.newcomer, History.entries_of}
-use Rattle.decision_log.proofs.Histories.{begins_nothing}
+use Rattle.decision_log.{specs.{declared.known.Known.Known, Known.newcomer}, proofs.Histories.begins_nothing}
 use Rattle.xa_session.specs.declared.answer.Answer.{Answer}
 use Rattle.xa_endless.specs.{Opens.Opens, declared.session.EndlessSession.EndlessSession}
 use Rattle.xa_endless.specs.declared.store.EndlessStore.{EndlessStore}
-use Rattle.xa_store.specs.{Legal.{IsLegal, LetsIn, Answered, entered}, declared.race_fault.RaceFault.RaceFault}
+use Rattle.xa_store.specs.{Legal.{IsLegal, LetsIn}, declared.race_fault.RaceFault.RaceFault}
 use Rattle.xa_races.specs.{Long.{known_in, IsLongOutcome, BlamesLong}, declared.long_run.LongRun.LongRun}
+use Rattle.xa_races.{specs.declared.long_outcome.LongOutcome.LongOutcome, proofs.Ends.{zip_beside, zip_second}}
 use Rattle.xa_races.specs.LongRace.{IsNewRun, AreNewRuns, AllAnswered, AllLetIn, IsLongRace, BlamesRace}
-use Rattle.xa_races.specs.declared.long_outcome.LongOutcome.{LongOutcome}
-use Rattle.xa_races.proofs.Ends.{zip_beside, zip_second}
 
 -- the new runs of a store, and one more with the next number, are new runs of the store
 pub new_more : (store : EndlessStore) (n m : ℕ) (lists : List (List Statement)) (runs : List LongRun)
@@ -65,16 +63,7 @@ legal_new : (base : State) (history : List Entry) (n : ℕ) (known : Known) (sta
     (answers : List Answer) → known.number ≡ n
     → known.seen ≡ [] → known.mine ≡ [] → IsLegal base history known statements answers
     → IsLegal base history (newcomer n) statements answers
-legal_new base history n known statements answers number seen mine legal = record {
-  seen = begins_nothing history;
-  answered =
-      subst (λ (m : ℕ). Answered base history m 0 statements answers) number
-      (subst (λ (l : List Entry). Answered base history known.number
-      (length l) statements answers) seen legal.answered);
-  mine =
-      subst (λ (m : ℕ). entries_of m history ≡ entered base history m statements answers) number
-      (legal.mine ∙ ap (λ (l : List Entry). l ++ entered base history known.number statements answers) mine);
-}
+legal_new base history n known statements answers number seen mine legal = grind (arith, begins_nothing)
 
 -- if all new runs were answered legally, the lists of statements were
 answered_new : (store : EndlessStore) (history : List Entry) (n : ℕ) (lists : List (List Statement))

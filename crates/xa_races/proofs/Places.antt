@@ -1,6 +1,6 @@
 -- Entries that are put to their places.
 use Rattle.std.proofs.Common.{◌≡◌, ◌⊎◌, ℕ, zero, suc, ◌≤◌, List, [], ◌∷◌, length, map, set, Option, Some, None, inl}
-use Rattle.std.proofs.{Common.{inr, ⊎_elim, refl, ap, sym, ◌∙◌, subst, arith}, lemmas.List.Elements.recursion_from_All}
+use Rattle.std.proofs.{Common.{inr, ⊎_elim, refl, ap, sym, ◌∙◌, arith}, lemmas.List.Elements.recursion_from_All}
 use Rattle.std.{proofs.lemmas.Option.{none-some, same_Some}, specs.{Prelude.slice_get, List.{All, AllByRecursion}}}
 use Rattle.xa_words.specs.Entry.{Entry}
 use Rattle.decision_log.{specs.Known.AllOf, proofs.Histories.all_from_places}
@@ -20,12 +20,7 @@ get_set (x ∷ xs) (suc i) (suc k) v w is =
 pub only_set : (list : List Entry) (limit : ℕ) (places : List (Option Entry)) (index : ℕ) (entry : Entry)
     → HasOnly list limit places
     → Fits list limit index entry → HasOnly list limit (set places index (Some entry))
-only_set list limit places index entry only fits place one is =
-    ⊎_elim
-    (λ both.
-    let same : entry ≡ one = same_Some entry one both.1 in
-    subst (λ n. Fits list limit n one) (sym both.0) (subst (λ e. Fits list limit index e) same fits))
-    (λ old. only place one old) (get_set places index place (Some entry) (Some one) is)
+only_set list limit places index entry only fits place one is = grind (arith, get_set, same_Some)
 
 -- if every place is empty, no place has an entry
 empty_get : (places : List (Option Entry)) → AllByRecursion (λ place. place ≡ None) places → (place : ℕ) (entry : Entry)
@@ -37,8 +32,7 @@ empty_get (one ∷ places) all (suc place) entry is = empty_get places all.1 pla
 -- empty places have only entries that fit
 pub only_none : (list : List Entry) (limit : ℕ) (places : List (Option Entry)) → All (λ place. place ≡ None) places
     → HasOnly list limit places
-only_none list limit places all place entry is =
-    absurd (empty_get places (recursion_from_All (λ one. one ≡ None) places all) place entry is)
+only_none list limit places all place entry is = grind (arith, empty_get, recursion_from_All)
 
 -- places that are filled with the entries of a list have the same entry at each place
 get_some : (entries : List Entry) (place : ℕ) (entry : Entry) → slice_get entries place ≡ Some entry

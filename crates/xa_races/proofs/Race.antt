@@ -1,8 +1,7 @@
 -- The lines of a race, how its outcome is printed, and steps of loops over lists.
-use Rattle.std.proofs.Common.{◌≡◌, ℕ, zero, suc, ◌+◌, ◌<◌, ◌≤◌, ◌==◌, max, true, Bool, Option, Some, None, List, []}
-use Rattle.std.proofs.Common.{◌∷◌, ◌++◌, length, map, take, get_or, min, refl, ap, sym, ◌∙◌, arith, append_assoc}
-use Rattle.std.proofs.{Common.append-nil, lemmas.{List.take_more, Grind.common_steps}}
-use Rattle.std.specs.{List.{filter_map, cons_option}, Option.option_to_list}
+use Rattle.std.proofs.Common.{◌≡◌, ℕ, zero, suc, ◌+◌, ◌<◌, ◌≤◌, ◌==◌, max, true, Bool, Option, List, [], ◌∷◌, ◌++◌}
+use Rattle.std.proofs.Common.{length, map, take, get_or, min, refl, ap, sym, ◌∙◌, arith, append_assoc, append-nil}
+use Rattle.std.{proofs.lemmas.{List.take_more, Grind.common_steps}, specs.{List.cons_option, Option.option_to_list}}
 use Rattle.xa_words.specs.Entry.{Entry}
 use Rattle.xa_session.specs.declared.answer.Answer.{Answer}
 use Rattle.xa_lines.specs.{Printed.converts, Script.{lines_of, line_of}}
@@ -20,9 +19,7 @@ faults_text-line number text line rest cut = rw cut refl
 -- of a text without lines no fault is written
 pub faults_text-end : (number : ℕ) (text : List ℕ) → (length text == 0) ≡ true → faults_text number (lines_of text) ≡ []
 unfolding faults_text lines_of
-faults_text-end number [] empty = refl
-faults_text-end number (x ∷ xs) empty =
-    absurd (let none : length (x ∷ xs) ≡ 0 = grind (arith, common_steps) in omega arith)
+faults_text-end number text empty = grind (arith, common_steps)
 
 -- the greatest session of a text is that of the first line or of the rest, whichever is greater
 pub last_session-line : (text line rest : List ℕ) → lines_of text ≡ line ∷ lines_of rest
@@ -33,31 +30,25 @@ last_session-line text line rest cut = rw cut refl
 -- a text without lines names no session
 pub last_session-end : (text : List ℕ) → (length text == 0) ≡ true → last_session (lines_of text) ≡ 0
 unfolding last_session lines_of
-last_session-end [] empty = refl
-last_session-end (x ∷ xs) empty = absurd (let none : length (x ∷ xs) ≡ 0 = grind (arith, common_steps) in omega arith)
+last_session-end text empty = grind (arith, common_steps)
 
 -- putting an element, if there is one, in front of a list is putting the list behind that element or nothing
 cons_option-list : {A : Type 0} (first : Option A) (rest : List A)
     → cons_option first rest ≡ option_to_list first ++ rest
-cons_option-list None rest = refl
-cons_option-list (Some x) rest = refl
+cons_option-list first rest = grind (arith)
 
 -- a session's statements of a text are that of the first line, if it gives one, and then those of the rest
 pub statements_of-line : (session : ℕ) (text line rest : List ℕ) → lines_of text ≡ line ∷ lines_of rest
     → statements_of session (lines_of text) ≡ option_to_list (statement_by session (line_of line))
     ++ statements_of session (lines_of rest)
 unfolding statements_of
-statements_of-line session text line rest cut =
-    rw cut (cons_option-list (statement_by session (line_of line))
-    (filter_map (λ l. statement_by session (line_of l)) (lines_of rest)))
+statements_of-line session text line rest cut = grind (arith, cons_option-list)
 
 -- a text without lines gives no statement
 pub statements_of-end : (session : ℕ) (text : List ℕ) → (length text == 0) ≡ true
     → statements_of session (lines_of text) ≡ []
 unfolding statements_of lines_of
-statements_of-end session [] empty = refl
-statements_of-end session (x ∷ xs) empty =
-    absurd (let none : length (x ∷ xs) ≡ 0 = grind (arith, common_steps) in omega arith)
+statements_of-end session text empty = grind (arith, common_steps)
 
 -- the text of two lists of entries is that of the first, and then that of the second, whose places go on from the
 -- first's
@@ -160,8 +151,7 @@ answers_text-one : (session : ℕ) (lines : List (List ℕ)) (answers : List Ans
     → answers_text session lines (answers ∷ []) ≡ session_text session
     (map converts (statements_of session lines)) answers
 unfolding answers_text
-answers_text-one session lines answers =
-    append-nil (session_text session (map converts (statements_of session lines)) answers)
+answers_text-one session lines answers = grind (arith, append-nil)
 
 -- without sessions the text of the answers is empty
 pub answers_text-none : (session : ℕ) (lines : List (List ℕ)) → answers_text session lines [] ≡ []
@@ -181,9 +171,7 @@ map_more f (y ∷ xs) (suc i) x below is =
 pub mapped_more : {A B : Type 0} (f : A → B) (xs : List A) (i : ℕ) (x : A) (done now : List B) (y : B) → i < length xs
     → x ≡ get_or xs i x
     → done ≡ map f (take i xs) → y ≡ f x → now ≡ done ++ y ∷ [] → now ≡ map f (take (i + 1) xs)
-mapped_more f xs i x done now y below is before gives pushed =
-    pushed ∙ ap (λ l. l ++ y ∷ []) before ∙ ap (λ b. map f (take i xs) ++ b ∷ []) gives
-    ∙ sym (map_more f xs i x below is)
+mapped_more f xs i x done now y below is before gives pushed = grind (arith, map_more)
 
 -- a mapped front has the front's length
 length_map_take : {A B : Type 0} (f : A → B) (xs : List A) (i : ℕ) → i < length xs → length (map f (take i xs)) ≡ i
@@ -214,8 +202,7 @@ module _ {S : Type 0} (answers_of : S → List Answer) where
 pub moved : {A : Type 0} (whole before now left piece rest : List A) → whole ≡ before ++ left → left ≡ piece ++ rest
     → now ≡ before ++ piece
     → whole ≡ now ++ rest
-moved whole before now left piece rest w l n =
-    w ∙ ap (λ t. before ++ t) l ∙ sym (append_assoc before piece rest) ∙ ap (λ t. t ++ rest) (sym n)
+moved whole before now left piece rest w l n = grind (arith, append_assoc)
 
 -- elements that were moved one by one to another list: when none is left, all are there
 pub moved_whole : {A : Type 0} (whole now left : List A) → whole ≡ now ++ left → left ≡ [] → now ≡ whole
@@ -225,5 +212,4 @@ moved_whole whole now left w none = sym (w ∙ ap (λ t. now ++ t) none ∙ appe
 pub grown : {A : Type 0} (begin before now done piece longer : List A) → before ≡ begin ++ done → now ≡ before ++ piece
     → longer ≡ done ++ piece
     → now ≡ begin ++ longer
-grown begin before now done piece longer b n l =
-    n ∙ ap (λ t. t ++ piece) b ∙ append_assoc begin done piece ∙ ap (λ t. begin ++ t) (sym l)
+grown begin before now done piece longer b n l = grind (arith, append_assoc)

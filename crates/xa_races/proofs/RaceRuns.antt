@@ -149,10 +149,7 @@ map_same (pair ∷ pairs) = ap (λ l. pair ∷ l) (map_same pairs)
 pub runs_count : (n : ℕ) (passes taken : List Pass) (runs : List Run) → length passes ≡ max n 1 → taken ≡ take n passes
     → map (λ run. run.pass) runs ≡ taken
     → length runs ≡ n
-runs_count n passes taken runs count cut are =
-    let all : length runs ≡ length (take n passes) = sym (length_mapped (λ run. run.pass) runs) ∙ ap length are
-    ∙ ap length cut in
-    omega (arith, all, length-take n passes, count)
+runs_count n passes taken runs count cut are = grind (arith, length-take, length_mapped)
 
 -- `P` holds of what every pass knows of its log. If it holds of a newcomer, it holds of what the last pass of a race
 -- knows, also if there is no pass

@@ -1,13 +1,13 @@
 -- What a script gives to a race, line by line.
 use Rattle.std.proofs.Common.{◌≡◌, ℕ, zero, suc, ◌+◌, ◌-◌, ◌<◌, ◌≤◌, ◌==◌, max, true, false, Bool, cond, Some, None}
-use Rattle.std.proofs.Common.{Result, Ok, Err, Vec, Global, List, [], ◌∷◌, ◌++◌, length, map, get_or, refl, ap, sym}
-use Rattle.std.{proofs.{Common.{◌∙◌, arith, append-nil}, lemmas.Bool.Decides.nat_tests}, specs.Option.option_to_list}
+use Rattle.std.proofs.Common.{Result, Err, List, [], ◌∷◌, ◌++◌, length, map, get_or, refl, ap, sym, ◌∙◌, arith}
+use Rattle.std.{proofs.{Common.append-nil, lemmas.Bool.Decides.nat_tests}, specs.Option.option_to_list}
 use Rattle.std.specs.Prelude.{slice_set, OnOk}
 use Rattle.xa_xid.specs.declared.statement.Statement.{Statement}
 use Rattle.xa_statement.specs.{Reading.{read_of, seen_of}, declared.syntax_fault.SyntaxFault.SyntaxFault}
 use Rattle.xa_lines.specs.Script.{Given, lines_of, line_of}
 use Rattle.xa_races.specs.{declared.given.RaceScript.RaceScript, Race.{fault_text, faults_text, last_session}}
-use Rattle.xa_races.specs.Race.{statements_of, part_at, Gains, TakesLine, HasRead, place_of_fault, statement_read}
+use Rattle.xa_races.specs.Race.{statements_of, part_at, Gains, TakesLine, HasRead, statement_read}
 use Rattle.xa_races.proofs.{RaceRuns.map_push, Race.{faults_text-line, faults_text-end, last_session-line}}
 use Rattle.xa_races.proofs.Race.{last_session-end, statements_of-line, statements_of-end, moved, moved_whole}
 
@@ -23,10 +23,7 @@ part_at-more (list ∷ lists) (suc index) = part_at-more lists index
 pub empty_more : {V A : Type 0} (items : V → List A) (lists new : List V) (one : V) → new ≡ lists ++ one ∷ []
     → items one ≡ []
     → ((index : ℕ) → part_at (map items lists) index ≡ []) → (index : ℕ) → part_at (map items new) index ≡ []
-empty_more items lists new one now none empty index =
-    ap (λ l. part_at (map items l) index) now ∙ ap (λ l. part_at l index)
-    (map_push items lists one ∙ ap (λ l. map items lists ++ l ∷ []) none)
-    ∙ part_at-more (map items lists) index ∙ empty index
+empty_more items lists new one now is empty index = grind (arith, map_push, part_at-more)
 
 -- if an item is put behind the list at a place, that list gains it, and the others gain nothing
 pub gains_at : {V A : Type 0} (items : V → List A) (lists : List V) (place : ℕ) (list d : V) (x : A)
@@ -63,14 +60,12 @@ gains items lists new session place list d statement some at below now is index 
 
 -- if the reader of statements reports this fault, reading stopped at the place that the fault names
 pub unread_at : (read : Result Statement ℕ) (fault : SyntaxFault) → Err fault ≡ seen_of read → read ≡ Err fault.at
-unread_at (Ok statement) fault is = cc
-unread_at (Err place) fault is = cc
+unread_at read fault is = grind (arith)
 
 -- a line that can't be read gives no statement to any session
 given_nothing : (b : Bool) (read : Result Statement ℕ) (place : ℕ) → read ≡ Err place
     → cond b (statement_read read) None ≡ None
-given_nothing true read place is = ap statement_read is
-given_nothing false read place is = refl
+given_nothing b read place is = grind (arith)
 
 -- a line whose statement isn't read adds one fault to the script, and no statement
 pub takes_unread : {A E : Type 0} (result : Result A E) (number session : ℕ) (text : List ℕ) (place : ℕ)
@@ -78,15 +73,8 @@ pub takes_unread : {A E : Type 0} (result : Result A E) (number session : ℕ) (
     → OnOk result (new.faults.items ≡ old.faults.items ++ fault_text number (Some place))
     → new.greatest ≡ max old.greatest session
     → new.lists ≡ old.lists → OnOk result (TakesLine number (Given session text) old new)
-takes_unread (Err fault) number session text place old new unread listed greatest same = tt
-takes_unread (Ok value) number session text place old new unread listed greatest same = record {
-  faults = listed ∙ ap (λ r. old.faults.items ++ fault_text number (place_of_fault r)) (sym unread);
-  greatest = greatest;
-  lists = λ index. ap (λ (l : Vec (Vec Statement Global) Global). part_at (map (λ list. list.items) l.items) index) same
-      ∙ sym (append-nil (part_at (map (λ list. list.items) old.lists.items) index))
-      ∙ ap (λ given. part_at (map (λ list. list.items) old.lists.items) index ++ option_to_list given)
-      (sym (given_nothing (session == index + 1) (read_of text) place unread));
-}
+takes_unread result number session text place old new unread listed greatest same =
+    grind (arith, append-nil, given_nothing, option_to_list)
 
 -- what was read of a script before line `number` (`given`) and what is left (`rest`) have together its faults, its
 -- greatest session and each session's statements
@@ -105,11 +93,7 @@ has_read_nothing given faults greatest empty = record { faults = faults; greates
 -- before the first line nothing was read, as the loop over the lines states it
 pub read_nothing : (script : List ℕ) (given : RaceScript) → HasRead [] given → IsReadUpTo script script 1 given
 unfolding faults_text last_session statements_of
-read_nothing script given r = record {
-  faults = ap (λ t. t ++ faults_text 1 (lines_of script)) (sym r.faults);
-  greatest = let none : given.greatest ≡ 0 = r.greatest in omega (arith, none);
-  lists = λ index. ap (λ l. l ++ statements_of (index + 1) (lines_of script)) (sym (r.lists index));
-}
+read_nothing script given r = grind (arith)
 
 -- the loop over lines: one was read, and those after it are left
 pub read_more : (script rest line lines : List ℕ) (number : ℕ) (given new : RaceScript)
@@ -127,8 +111,5 @@ read_more script rest line lines number given new cut takes r = record {
 pub read_all_lines : (script rest : List ℕ) (number : ℕ) (given : RaceScript) → (length rest == 0) ≡ true
     → IsReadUpTo script rest number given
     → HasRead (lines_of script) given
-read_all_lines script rest number given empty r = record {
-  faults = moved_whole _ _ _ r.faults (faults_text-end number rest empty);
-  greatest = let none = last_session-end rest empty in omega (arith, r.greatest, none);
-  lists = λ index. moved_whole _ _ _ (r.lists index) (statements_of-end (index + 1) rest empty);
-}
+read_all_lines script rest number given empty r =
+    grind (arith, faults_text-end, last_session-end, moved_whole, statements_of-end)

@@ -4,7 +4,7 @@
 --     Leads             turns lead to the end once a session is drained
 --     goes              turns of the lines that are left at a place lead to the end
 use Rattle.std.proofs.Common.{◌≡◌, ◌≢◌, ℕ, zero, suc, ◌+◌, ◌<◌, ◌≤◌, Bool, true, false, Some, List, [], ◌∷◌, length}
-use Rattle.std.proofs.{Common.{refl, ap, sym, ◌∙◌, subst, inl, inr, arith, add-one}, lemmas.Option.same_Some}
+use Rattle.std.proofs.{Common.{refl, ap, sym, ◌∙◌, subst, arith, add-one}, lemmas.Option.same_Some}
 use Rattle.std.specs.Prelude.{slice_get}
 use Rattle.xa_words.specs.Entry.{Entry}
 use Rattle.xa_server.{specs.{State.State, Replies.reply_to, Step.{enters, after}}, proofs.Entering.unentered_leaves}
@@ -37,21 +37,15 @@ module _ {L C : Type 0} (spoken : L → Said) (state_of : C → State) (Stands G
       → Remains spoken base history next session rest
       → ((other : ℕ) → IsSession other → other ≢ session → Remains spoken base history next other (lines other))
       → (other : ℕ) → IsSession other → Remains spoken base history next other (with_lines lines session rest other)
-  remain_with next lines session rest own others other is = elim (same_number other session) [
-    | inl same ↦ subst (λ (n : ℕ). Remains spoken base history next n (with_lines lines session rest n)) (sym same)
-        (subst (Remains spoken base history next session) (sym (lines_own lines session rest)) own)
-    | inr apart ↦ subst (Remains spoken base history next other) (sym (lines_other lines session other rest apart))
-        (others other is apart)
-  ]
+  remain_with next lines session rest own others other is =
+      grind (arith, lines_other, lines_own, same_number, with_lines)
 
   -- the reply to a line that stands at the place is the server's in the configuration there
   reply_there : (place session : ℕ) (line : L) (rest : List L) (config : C)
       → Remains spoken base history place session (line ∷ rest)
       → (spoken line).answer.place ≡ place → state_of config ≡ state_at base history place
       → (spoken line).answer.reply ≡ reply_to (state_of config) session (spoken line).statement
-  reply_there place session line rest config left at state =
-      left.answered.1.reply_is ∙ ap (λ (s : State). reply_to s session (spoken line).statement)
-      (ap (state_at base history) at ∙ sym state)
+  reply_there place session line rest config left at state = cc
 
   -- turns lead to the end from wherever the session is drained at the place and the others' lines are as before
   abbrev pub Leads : ℕ → ℕ → (ℕ → List L) → Type 0
@@ -96,16 +90,8 @@ module _ {L C : Type 0} (spoken : L → Said) (state_of : C → State) (Stands G
       → ((new : ℕ → List L) (later : C) → new session ≡ rest → Ready place new later → Leads place session new
       → Goes new later) → Leads place session lines
       → Goes lines config
-  drain_by place session is line rest lines config own ready true in' drains go =
-      go lines config ready (subst (Drained spoken base history place session) (sym own) (λ at. in'))
-      (λ other apart. refl)
-  drain_by place session is line rest lines config own ready false out drains go =
-      elim (same_number (spoken line).answer.place place) [
-        | inl at ↦ skip_one place session is line rest lines config own ready at out drains go
-        | inr apart ↦ go lines config ready (subst (Drained spoken base history place session) (sym own)
-            (λ at. absurd (apart at)))
-            (λ other else'. refl)
-      ]
+  drain_by place session is line rest lines config own ready enters_it in' drains go =
+      grind (arith, same_number, skip_one)
 
   -- turns lead to the end if they do so once a session is drained: those of its lines that stand at the place and
   -- don't enter there have their turns before
@@ -128,11 +114,7 @@ module _ {L C : Type 0} (spoken : L → Said) (state_of : C → State) (Stands G
       → ((other : ℕ) → other ≢ suc count → new other ≡ lines other) → (session : ℕ) → IsSession session
       → count < session
       → Drained spoken base history place session (new session)
-  drained_above place count lines new above own others session is high = elim (same_number session (suc count)) [
-    | inl same ↦ subst (λ (n : ℕ). Drained spoken base history place n (new n)) (sym same) own
-    | inr apart ↦ subst (Drained spoken base history place session) (sym (others session apart))
-        (above session is (omega arith))
-  ]
+  drained_above place count lines new above own others session is high = grind (arith, same_number)
 
   -- turns lead to the end if they do so once all sessions are drained: those up to `count` are drained one after
   -- another, those above are already
@@ -188,10 +170,7 @@ module _ {L C : Type 0} (spoken : L → Said) (state_of : C → State) (Stands G
   done : (place : ℕ) → place ≡ length history → (lines : ℕ → List L) (config : C) → Ready place lines config
       → ((session : ℕ) → IsSession session → Drained spoken base history place session (lines session))
       → Goes lines config
-  done place end lines config ready drained =
-      ends lines config ready.stands (ready.state ∙ ap (state_at base history) end)
-      (λ session is. ended spoken base history place session (lines session) (ready.remain session is)
-      (drained session is) end)
+  done place end lines config ready drained = grind (arith, ended, state_at)
 
   -- the turns of the lines that are left at a place lead to the end; from there on the history has `left` entries
   pub goes : (left place : ℕ) → place + left ≡ length history

@@ -1,6 +1,6 @@
 -- What a session of a long race says, one statement after another.
-use Rattle.std.proofs.Common.{◌≡◌, ℕ, Bool, true, false, ◌<◌, List, length, take, refl, ap, sym, ◌∙◌, subst, Some}
-use Rattle.std.{proofs.{Common.arith, lemmas.List.Elements.All-weaker}, specs.{Prelude.slice_get, List.All}}
+use Rattle.std.proofs.Common.{◌≡◌, ℕ, Bool, true, ◌<◌, List, length, take, ap, sym, ◌∙◌, Some, arith}
+use Rattle.std.specs.{Prelude.slice_get, List.All}
 use Rattle.xa_xid.specs.declared.statement.Statement.{Statement}
 use Rattle.xa_words.specs.Entry.{Entry}
 use Rattle.xa_server.specs.{State.no_state, Step.enters}
@@ -8,10 +8,9 @@ use Rattle.decision_log.specs.{declared.known.Known.Known, History.{Begins, entr
 use Rattle.decision_log.proofs.Histories.{get_begins, begins_itself, begins_through}
 use Rattle.xa_session.specs.{Answer.IsAnswered, Replay.state_at, declared.answer.Answer.Answer}
 use Rattle.chain_log.specs.RingPass.{identity_of, log_of}
-use Rattle.xa_endless.specs.{Answers.IsCaused, Seen.HasOnlySeen, declared.session.EndlessSession.EndlessSession}
-use Rattle.xa_endless.specs.declared.fault.EndlessFault.TheVariants.{NoMemory as NoMoreMemory}
+use Rattle.xa_endless.specs.{Seen.HasOnlySeen, declared.session.EndlessSession.EndlessSession}
 use Rattle.xa_endless.specs.declared.store.EndlessStore.{EndlessStore}
-use Rattle.xa_store.specs.{Gathered.{IsTakenIn, AddsNothing}, declared.race_fault.RaceFault.RaceFault}
+use Rattle.xa_store.specs.{Gathered.AddsNothing, declared.race_fault.RaceFault.RaceFault}
 use Rattle.xa_store.proofs.Legality.{IsOnTheWay, legal_longer, no_further}
 use Rattle.xa_races.specs.{Long.{known_in, IsAddedBy, HaltsAt, StopsAt}, declared.added.Added.Added}
 
@@ -19,9 +18,7 @@ use Rattle.xa_races.specs.{Long.{known_in, IsAddedBy, HaltsAt, StopsAt}, declare
 pub added_longer : (front list : List Entry) (session : ℕ) (added : List Added) → Begins front list
     → All (IsAddedBy front session) added
     → All (IsAddedBy list session) added
-added_longer front list session added begins all =
-    All-weaker (IsAddedBy front session) (IsAddedBy list session)
-    (λ one is. record { at = get_begins front list one.place one.entry begins is.at; own = is.own }) added all
+added_longer front list session added begins all = grind (arith, get_begins)
 
 -- a session of the same store is of the same log
 pub same_log : (old new : EndlessSession) → new.store.value ≡ old.store.value
@@ -42,71 +39,24 @@ module _ (gate : ℕ → ℕ → Bool → Type 0) (before : Known) (now new : En
       → IsOnTheWay no_state before (known_in now) (take place statements) answers
       → HaltsAt gate place statement fault now new
       → StopsAt gate before statements fault new
-  stops_at (RaceFault.GateShut session line) below given store way is = (
-    no_further gate no_state 0 before (known_in now) (known_in new) statements answers place statement
-        (RaceFault.GateShut session line) below (own_part now)
-        (own_part new) way is,
-    is.2.shut,
-  )
-  stops_at (RaceFault.Full session line) below given store way is = absurd is
-  stops_at RaceFault.NoMemory below given store way is =
-      let unanswered = is.failed.fails in
-      let taken : IsTakenIn (known_in new).seen (known_in now) = record {
-        seen = unanswered.advances.seen;
-        mine = ap (λ n. entries_of n (known_in new).seen) (sym unanswered.advances.number) ∙ own_part new
-            ∙ unanswered.mine;
-      } in
-      record {
-        line = place;
-        reached = record {
-          number = refl;
-          below = below;
-          answers = answers;
-          legal = legal_longer no_state (known_in new).seen before (known_in now)
-              (take place statements) answers way.number (own_part now) taken way.legal;
-        };
-        statement = statement;
-        given = given;
-        opened = subst (λ n. gate n place true) way.number is.opened;
-        cause = subst
-            (λ (store : EndlessStore). IsCaused store.log statement NoMoreMemory new.member.replica new.member.pass)
-            (sym store) is.failed.cause;
-      }
-  stops_at RaceFault.ThreadRefused below given store way is = absurd is
+  stops_at fault below given store way is = grind (arith, legal_longer, no_further, own_part)
 
 -- a session that stops at a statement has seen no less than before
 pub halts_begins : (gate : ℕ → ℕ → Bool → Type 0) (place : ℕ) (statement : Statement) (fault : RaceFault)
     (now new : EndlessSession)
     → HaltsAt gate place statement fault now new → Begins (known_in now).seen (known_in new).seen
-halts_begins gate place statement (RaceFault.GateShut session line) now new is =
-    subst (λ (known : Known). Begins (known_in now).seen known.seen) (sym is.2.same) (begins_itself (known_in now).seen)
-halts_begins gate place statement (RaceFault.Full session line) now new is = absurd is
-halts_begins gate place statement RaceFault.NoMemory now new is = is.failed.fails.advances.seen
-halts_begins gate place statement RaceFault.ThreadRefused now new is = absurd is
+halts_begins gate place statement fault now new is = grind (arith, begins_itself)
 
 -- if a session has seen more than the entries before its answer's place, the statement was logged
 pub entered_where_longer : (statement : Statement) (answer : Answer) (old new : Known)
     → IsAnswered no_state statement answer old new
     → answer.place < length new.seen → enters (state_at no_state new.seen answer.place) old.number statement ≡ true
-entered_where_longer statement answer old new answered longer =
-    by (enters (state_at no_state new.seen answer.place) old.number statement) refl
-  where
-    by : (b : Bool) → enters (state_at no_state new.seen answer.place) old.number statement ≡ b
-        → enters (state_at no_state new.seen answer.place) old.number statement ≡ true
-    by true is = is
-    by false is = let whole = (answered.outside is).whole in absurd (omega (arith, whole, longer))
+entered_where_longer statement answer old new answered longer = grind (arith)
 
 -- a session that says nothing adds nothing
 pub rests_itself : (known : Known) → AddsNothing known known
-rests_itself known =
-    record { number = refl; seen = begins_itself known.seen; mine = refl; looks = omega arith; tries = refl }
+rests_itself known = grind (arith, begins_itself)
 
 -- a session that adds nothing, and then only sees more, adds nothing in both calls together
 pub rests_more : (old now new : Known) → AddsNothing old now → HasOnlySeen now new → AddsNothing old new
-rests_more old now new rests seen = record {
-  number = seen.number ∙ rests.number;
-  seen = begins_through old.seen now.seen new.seen rests.seen seen.seen;
-  mine = seen.mine ∙ rests.mine;
-  looks = omega (arith, rests.looks, seen.looks);
-  tries = seen.tries ∙ rests.tries;
-}
+rests_more old now new rests seen = grind (arith, begins_through)

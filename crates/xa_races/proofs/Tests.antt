@@ -1,9 +1,9 @@
 -- Numbers that are told apart, by a test or without one, what stands at a place, first places, and lines after a
 -- change.
-use Rattle.std.proofs.Common.{◌≡◌, ◌≢◌, ◌⊎◌, ℕ, zero, suc, ◌+◌, ◌<◌, ◌==◌, Bool, true, false, not, cond, Some, None}
-use Rattle.std.proofs.Common.{List, [], ◌∷◌, length, position, inl, inr, refl, ap, ◌∙◌, subst, arith}
-use Rattle.std.proofs.lemmas.{Bool.Decides.nat_tests, Option.{slice_get_within, get_or_from_slice_get}}
-use Rattle.std.specs.{Prelude.{slice_get, nat_lt}, List.{All, prefix_len, position_or_len}}
+use Rattle.std.proofs.Common.{◌≡◌, ◌≢◌, ◌⊎◌, ℕ, zero, suc, ◌+◌, ◌<◌, ◌==◌, Bool, true, false, not, cond, Some, List, []}
+use Rattle.std.proofs.{Common.{◌∷◌, length, position, inl, inr, refl, ap, arith}, lemmas.Bool.Decides.nat_tests}
+use Rattle.std.{proofs.lemmas.Option.{slice_get_within, get_or_from_slice_get}, specs.Prelude.{slice_get, nat_lt}}
+use Rattle.std.specs.List.{All, prefix_len, position_or_len}
 use Rattle.xa_races.specs.LinesLeft.{with_lines}
 
 -- a number is equal to itself by the test
@@ -42,9 +42,7 @@ module _ {A : Type 0} (p : A → Bool) where
   -- if the first place that passes is within the list, it is found
   pub position_is : (xs : List A) (place : ℕ) → position_or_len p xs ≡ place → place < length xs
       → position p xs ≡ Some place
-  position_is xs place is below =
-      ap (λ n. cond (nat_lt n (length xs)) (Some n) None) is
-      ∙ ap (λ b. cond b (Some place) None) (below_test place (length xs) below)
+  position_is xs place is below = grind (arith, below_test)
 
 -- after a session's lines were replaced, it has the new ones
 pub lines_own : {L : Type 0} (lines : ℕ → List L) (session : ℕ) (rest : List L)
@@ -65,5 +63,4 @@ get_within (y ∷ xs) (suc i) within = get_within xs i (omega arith)
 -- what holds of each element holds of the one at a place
 pub all_at : {A : Type 0} (P : A → Type 0) (list : List A) (place : ℕ) (x : A) → All P list
     → slice_get list place ≡ Some x → P x
-all_at P list place x all found =
-    subst P (get_or_from_slice_get list place x x found) (all place x (slice_get_within list place x found))
+all_at P list place x all found = grind (arith, get_or_from_slice_get, slice_get_within)

@@ -7,11 +7,10 @@
 --     Stands, Goes   how things stand;  turns lead from there to the end
 --     emits          a line of a session has its turn
 --     all_empty, opening_agrees, opening_left     no line was carried out yet
-use Rattle.std.proofs.Common.{◌≡◌, ◌≢◌, ◌⊎◌, ℕ, zero, suc, ◌+◌, ◌<◌, ◌≤◌, ◌==◌, ◌&&◌, Bool, true, false, cond, Option}
-use Rattle.std.proofs.Common.{Some, None, Result, Ok, List, [], ◌∷◌, ◌++◌, length, map, drop, replicate, decimal, refl}
-use Rattle.std.proofs.{Common.{ap, sym, ◌∙◌, subst, inl, inr, arith}, lemmas.List.Elements.{All-head, All-tail}}
-use Rattle.std.{proofs.lemmas.List.Sums.sum_by-append, specs.Prelude.{slice_get, slice_set}}
-use Rattle.std.specs.{List.{All, zip, position_or_len, cons_option, sum_by}, Option.option_map}
+use Rattle.std.proofs.Common.{◌≡◌, ◌≢◌, ◌⊎◌, ℕ, suc, ◌+◌, ◌<◌, ◌==◌, ◌&&◌, Bool, true, false, cond, Some, Result, Ok}
+use Rattle.std.proofs.Common.{List, [], ◌∷◌, length, map, replicate, decimal, refl, ap, sym, ◌∙◌, subst, inl, inr}
+use Rattle.std.{proofs.{Common.arith, lemmas.List.Elements.{All-head, All-tail}}, specs.Prelude.slice_set}
+use Rattle.std.specs.List.{All, zip, position_or_len}
 use Rattle.xa_xid.specs.declared.statement.Statement.{Statement}
 use Rattle.xa_statement.specs.Reading.{read_of}
 use Rattle.xa_server.specs.{State.State, declared.reply.Reply.Reply, Replies.reply_to, Step.after}
@@ -19,10 +18,9 @@ use Rattle.xa_session.specs.declared.answer.Answer.{Answer}
 use Rattle.xa_lines.specs.{Script.is_empty_line, Printed.{reply_text, converts, answer_text}}
 use Rattle.xa_lines.specs.Transcript.{answer_to, state_then}
 use Rattle.xa_orders.specs.Orders.{Told, Config, is_left, text_at, carried_out, turn, IsSession, LeadsTo}
-use Rattle.xa_races.specs.{CountedRaced.{IsReadLine, statement_in, statements_of, printed, texts_of}, LinesLeft.with_lines}
-use Rattle.xa_races.proofs.Tests.{same_number, same_test}
-use Rattle.xa_races.proofs.Tests.{apart_test, same_of_test, first_passes, first_fails, position_is, lines_own}
-use Rattle.xa_races.proofs.{Tests.lines_other, Histories.Said}
+use Rattle.xa_races.specs.{CountedRaced.{IsReadLine, statements_of, printed, texts_of}, LinesLeft.with_lines}
+use Rattle.xa_races.proofs.Tests.{same_number, same_test, apart_test, same_of_test, first_passes, first_fails}
+use Rattle.xa_races.proofs.{Tests.{position_is, lines_own, lines_other}, Histories.Said}
 
 -- each line has no answer yet (an empty text), or that of the end: what the lines have so far comes first, what they
 -- have in the end behind it. Both have as many texts as there are lines
@@ -74,39 +72,29 @@ tail_of (x ∷ xs) = xs
 -- equal lists of pairs have equal first pairs and equal rests
 heads : {A B : Type 0} (x y : A) (a b : B) (xs ys : List (A × B)) → (x, a) ∷ xs ≡ (y, b) ∷ ys
     → (x ≡ y) × (a ≡ b) × (xs ≡ ys)
-heads {A} {B} x y a b xs ys same = (
-  ap (λ (l : List (A × B)). (head_or {A = A × B} l (x, a)).0) same,
-  ap (λ (l : List (A × B)). (head_or {A = A × B} l (x, a)).1) same,
-  ap (λ (l : List (A × B)). tail_of {A = A × B} l) same,
-)
+heads {A} {B} x y a b xs ys same = grind (arith)
 
 -- if both of two tests hold, so does the first
 and_first : (a b : Bool) → (a && b) ≡ true → a ≡ true
-and_first true b both = refl
-and_first false b both = both
+and_first a b both = grind (arith)
 
 -- if both of two tests hold, so does the second
 and_second : (a b : Bool) → (a && b) ≡ true → b ≡ true
-and_second true b both = both
-and_second false b both = absurd cc
+and_second a b both = grind (arith)
 
 -- two tests don't both hold if the second doesn't
 and_false : (a : Bool) → (a && false) ≡ false
-and_false true = refl
-and_false false = refl
+and_false a = grind (arith)
 
 -- a session that isn't the line's has nothing left there
 not_its : (session other : ℕ) (told : Told) (answer : List ℕ) → (told.session == session) ≡ true → other ≢ session
     → is_left other (told, answer) ≡ false
-not_its session other told answer its apart =
-    ap (λ b. b && is_empty_line answer) (apart_test told.session other
-    (λ same. apart (sym same ∙ same_of_test told.session session its)))
+not_its session other told answer its apart = grind (arith, apart_test, same_of_test)
 
 -- a line that has an answer isn't left
 filled_not : (session : ℕ) (told : Told) (text : List ℕ) → is_empty_line text ≡ false
     → is_left session (told, text) ≡ false
-filled_not session told text filled =
-    ap (λ b. (told.session == session) && b) filled ∙ and_false (told.session == session)
+filled_not session told text filled = grind (arith, and_false)
 
 -- the first line that a session has left can be answered next; the other sessions' lines stay as they are
 pub next : (session : ℕ) (lines : List Told) (answers texts : List (List ℕ)) (read : Result Statement ℕ) (text : List ℕ)
@@ -231,9 +219,7 @@ module _ (told : List Told) (texts : List (List ℕ)) (end : State) where
       → place < length (zip told config.answers)
       → turn told config session ≡ Some (carried_out session (text_at told place) config place)
   unfolding turn
-  taken config session place first below =
-      ap (option_map (λ n. carried_out session (text_at told n) config n))
-      (position_is (is_left session) (zip told config.answers) place first below)
+  taken config session place first below = grind (arith, position_is)
 
   -- if a session's next line gets the server's reply, turns lead from here to the end if they do so from where the
   -- line was carried out
@@ -354,17 +340,13 @@ given_own : (session : ℕ) (told : Told) (lines : List Told) (statement : State
     → read_of told.text ≡ Ok statement
     → statements_of session (told ∷ lines) ≡ statement ∷ statements_of session lines
 unfolding statements_of
-given_own session told lines statement its read =
-    ap (λ (o : Option Statement). cons_option o (statements_of session lines))
-    (ap (λ b. cond b (statement_in (read_of told.text)) None) its ∙ ap statement_in read)
+given_own session told lines statement its read = cc
 
 -- a line of another session adds no statement to this session's
 given_other : (session : ℕ) (told : Told) (lines : List Told) → (told.session == session) ≡ false
     → statements_of session (told ∷ lines) ≡ statements_of session lines
 unfolding statements_of
-given_other session told lines other =
-    ap (λ (o : Option Statement). cons_option o (statements_of session lines))
-    (ap (λ b. cond b (statement_in (read_of told.text)) None) other)
+given_other session told lines other = cc
 
 -- without lines a session gives no statement
 given_none : (session : ℕ) → statements_of session [] ≡ []
@@ -376,20 +358,14 @@ left_own : (session : ℕ) (told : Told) (lines : List Told) (text : List ℕ) (
     → (told.session == session) ≡ true
     → left session (told ∷ lines) (replicate (length (told ∷ lines)) []) (text ∷ texts)
     ≡ (read_of told.text, text) ∷ left session lines (replicate (length lines) []) texts
-left_own session told lines text texts its =
-    ap (λ b. cond (b && true) ((read_of told.text, text) ∷ left session lines (replicate (length lines) []) texts)
-    (left session lines (replicate (length lines) []) texts))
-    its
+left_own session told lines text texts its = cc
 
 -- before any line is carried out, a session has nothing left of another session's line, only of those behind it
 left_other : (session : ℕ) (told : Told) (lines : List Told) (text : List ℕ) (texts : List (List ℕ))
     → (told.session == session) ≡ false
     → left session (told ∷ lines) (replicate (length (told ∷ lines)) []) (text ∷ texts)
     ≡ left session lines (replicate (length lines) []) texts
-left_other session told lines text texts other =
-    ap (λ b. cond (b && true) ((read_of told.text, text) ∷ left session lines (replicate (length lines) []) texts)
-    (left session lines (replicate (length lines) []) texts))
-    other
+left_other session told lines text texts other = cc
 
 -- before any of these lines is carried out, a session has all its statements of them left, each with its answer, if it
 -- has as many answers, and its lines have these as their texts
