@@ -1,8 +1,7 @@
 -- Allowances, one by one.
-use Rattle.std.proofs.Common.{◌≡◌, ℕ, zero, suc, ◌+◌, ◌<◌, ◌≤◌, ◌==◌, Bool, true, false, if◌then◌else◌, Option, Some}
-use Rattle.std.proofs.Common.{None, Result, Ok, Err, List, [], ◌∷◌, ◌++◌, length, drop, get_or, option_to_list, refl}
-use Rattle.std.proofs.{Common.{ap, sym, ◌∙◌, arith, append_assoc, append-nil}, lemmas.List.drop_all}
-use Rattle.std.proofs.lemmas.Grind.{common_steps}
+use Rattle.std.proofs.Common.{◌≡◌, ℕ, zero, suc, ◌+◌, ◌<◌, ◌≤◌, ◌==◌, Bool, true, if◌then◌else◌, Option, Result, Ok}
+use Rattle.std.proofs.Common.{Err, List, [], ◌∷◌, ◌++◌, length, drop, get_or, option_to_list, refl, ap, sym, ◌∙◌, arith}
+use Rattle.std.proofs.{Common.{append_assoc, append-nil}, lemmas.{List.drop_all, Grind.common_steps}}
 use Rattle.xa_lines.specs.Script.{lines_of}
 use Rattle.xa_record.specs.declared.{allowance.Allowance.Allowance, statement_kind.StatementKind.StatementKind}
 use Rattle.xa_record.specs.Allowances.{lets_stand, allowed_for, first_allows, line_allows, allowances_in}
@@ -10,8 +9,7 @@ use Rattle.xa_record.proofs.Effects.{dropped}
 
 -- putting an element in front if a test holds is putting it there as a list of its own
 if-front : (b : Bool) (x : ℕ) (xs : List ℕ) → (if b then x ∷ xs else xs) ≡ (if b then x ∷ [] else []) ++ xs
-if-front true x xs = refl
-if-front false x xs = refl
+if-front b x xs = grind (arith)
 
 -- what several allowances allow for a number is what the first allows, and then what the others do
 allowed_for-front : (one : Allowance) (more : List Allowance) (kind : StatementKind) (number : ℕ)
@@ -45,9 +43,7 @@ allowed_for-next allowances kind number whole others longer index any within is 
 pub allowed_for-whole : (allowances : List Allowance) (kind : StatementKind) (number : ℕ) (whole others : List ℕ)
     (index : ℕ) → length allowances ≤ index
     → whole ≡ others ++ allowed_for (drop index allowances) kind number → others ≡ whole
-allowed_for-whole allowances kind number whole others index past is =
-    sym (is ∙ ap (λ (l : List Allowance). others ++ allowed_for l kind number) (drop_all index allowances past)
-    ∙ append-nil others)
+allowed_for-whole allowances kind number whole others index past is = grind (arith, append-nil, drop_all)
 
 -- the allowances read before, in front of what the lines left allow; if one of these is faulty, its number
 abbrev pub prepended : List Allowance → Result (List Allowance) ℕ → Result (List Allowance) ℕ
@@ -57,10 +53,7 @@ prepended list (Err number) = Err number
 -- an allowance that a line gives, if it gives one, goes to the end of those read before
 prepended-first : (list : List Allowance) (found : Option Allowance) (rest : Result (List Allowance) ℕ)
     → prepended list (first_allows (Ok found) rest) ≡ prepended (list ++ option_to_list found) rest
-prepended-first list None (Ok more) = ap (λ (l : List Allowance). Ok (l ++ more)) (sym (append-nil list))
-prepended-first list None (Err number) = refl
-prepended-first list (Some one) (Ok more) = ap (λ (l : List Allowance). Ok l) (sym (append_assoc list (one ∷ []) more))
-prepended-first list (Some one) (Err number) = refl
+prepended-first list found rest = grind (arith, append-nil, append_assoc)
 
 -- the loop over lines: one was cut off that isn't faulty, and what it allows, if anything, is at the end of the list;
 -- the whole is that list, and what the lines after it allow
@@ -70,11 +63,7 @@ pub allowances_in-line : (whole : Result (List Allowance) ℕ) (list longer : Li
     → Ok found ≡ line_allows number line
     → longer ≡ list ++ option_to_list found → whole ≡ prepended longer (allowances_in (number + 1) (lines_of rest))
 unfolding allowances_in
-allowances_in-line whole list longer number text line rest found is cut said parts =
-    let below = allowances_in (number + 1) (lines_of rest) in
-    is ∙ ap (λ (l : List (List ℕ)). prepended list (allowances_in number l)) cut
-    ∙ ap (λ (r : Result (Option Allowance) ℕ). prepended list (first_allows r below)) (sym said)
-    ∙ prepended-first list found below ∙ ap (λ (l : List Allowance). prepended l below) (sym parts)
+allowances_in-line whole list longer number text line rest found is cut said parts = grind (arith, prepended-first)
 
 -- the loop over lines: one was cut off that is faulty, so the whole is its number
 pub allowances_in-faulty : (whole : Result (List Allowance) ℕ) (list : List Allowance) (number : ℕ)
@@ -83,16 +72,11 @@ pub allowances_in-faulty : (whole : Result (List Allowance) ℕ) (list : List Al
     → Err faulty ≡ line_allows number line
     → whole ≡ Err faulty
 unfolding allowances_in
-allowances_in-faulty whole list number text line rest faulty is cut said =
-    let below = allowances_in (number + 1) (lines_of rest) in
-    is ∙ ap (λ (l : List (List ℕ)). prepended list (allowances_in number l)) cut
-    ∙ ap (λ (r : Result (Option Allowance) ℕ). prepended list (first_allows r below)) (sym said)
+allowances_in-faulty whole list number text line rest faulty is cut said = cc
 
 -- the loop over lines ends: no line is left, and the list read so far is the result
 pub allowances_in-end : (whole : Result (List Allowance) ℕ) (list : List Allowance) (number : ℕ) (text : List ℕ)
     → (length text == 0) ≡ true
     → whole ≡ prepended list (allowances_in number (lines_of text)) → whole ≡ Ok list
 unfolding allowances_in lines_of
-allowances_in-end whole list number [] empty is = is ∙ ap (λ (l : List Allowance). Ok l) (append-nil list)
-allowances_in-end whole list number (x ∷ xs) empty is =
-    absurd (let none : length (x ∷ xs) ≡ 0 = grind (arith, common_steps) in omega arith)
+allowances_in-end whole list number text empty is = grind (arith, append-nil, common_steps)

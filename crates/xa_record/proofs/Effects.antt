@@ -1,13 +1,12 @@
 -- The lines of an order, as a loop over its moves writes them.
-use Rattle.std.proofs.Common.{◌≡◌, ℕ, suc, ◌+◌, ◌<◌, ◌≤◌, Option, Some, List, [], ◌∷◌, ◌++◌, length, map, set, drop}
-use Rattle.std.proofs.Common.{get_or, slice_get, refl, ap, sym, ◌∙◌, arith, add-one, append_assoc, append-nil}
+use Rattle.std.proofs.Common.{◌≡◌, ℕ, ◌+◌, ◌<◌, ◌≤◌, Option, Some, List, [], ◌∷◌, ◌++◌, length, map, drop, get_or}
+use Rattle.std.proofs.Common.{slice_get, refl, ap, sym, ◌∙◌, arith, add-one, append_assoc, append-nil}
 use Rattle.std.proofs.{Math.Seq.drop-cons, lemmas.{List.{drop_all, length-map, map-set}, Option.slice_get-map}}
 use Rattle.std.specs.{List.drop-map, Option.option_map}
 use Rattle.xa_judge.specs.declared.moves.{Act.Act, Move.{Move, TheVariants.{Event as Seeing, Effect}}}
-use Rattle.xa_record.specs.declared.line_event.NumberedEvent.{NumberedEvent as NumberedRead}
+use Rattle.xa_record.specs.{declared.line_event.NumberedEvent.NumberedEvent as NumberedRead, Reading.NumberedEvent}
 use Rattle.xa_record.specs.{declared.last_calls.LastCalls.LastCalls, VerdictText.{with_call, effect_text, order_text}}
-use Rattle.xa_record.specs.Kept.{told_kept, text_told, text_at, numbered_kept, calls_kept, with_place}
-use Rattle.xa_record.specs.{Lines.{Told, Calls, Returns, ReturnsUnknown, Leaves}, Reading.NumberedEvent}
+use Rattle.xa_record.specs.{Kept.{told_kept, text_told, text_at, numbered_kept, calls_kept, with_place}, Lines.Told}
 use Rattle.xa_record.proofs.Places.{text_at-kept}
 
 -- if this is what the list of places has for a session, the list of their texts has the text of the call there, which
@@ -23,9 +22,7 @@ pub moved_effect : (out new : List ℕ) (calls : List (List ℕ)) (numbered : Li
     → new ≡ out ++ effect_text calls session act
     → out ++ order_text calls numbered (Effect session act ∷ moves) ≡ new ++ order_text calls numbered moves
 unfolding order_text
-moved_effect out new calls numbered session act moves written =
-    sym (append_assoc out (effect_text calls session act) (order_text calls numbered moves))
-    ∙ ap (λ l. l ++ order_text calls numbered moves) (sym written)
+moved_effect out new calls numbered session act moves written = grind (arith, append_assoc)
 
 -- where no event is left, a move that goes over one writes nothing
 pub moved_over : (out : List ℕ) (calls : List (List ℕ)) (moves : List Move)
@@ -43,16 +40,14 @@ moved_event out calls new one more moves next = ap (λ c. out ++ order_text c mo
 -- a list from a place on is the element there, and then the list from the next place on
 pub dropped : {A : Type 0} (list : List A) (index : ℕ) (next : A) → index < length list → next ≡ get_or list index next
     → drop index list ≡ next ∷ drop (index + 1) list
-dropped list index next within at =
-    rw add-one (drop-cons list index next within ∙ ap (λ x. x ∷ drop (suc index) list) (sym at))
+dropped list index next within at = grind (arith, add-one, drop-cons)
 
 -- the loop over moves ends: no move is left, and all lines of the order are written
 pub moved_whole : (whole out : List ℕ) (calls : List (List ℕ)) (numbered : List NumberedEvent) (moves : List Move)
     (index : ℕ) → length moves ≤ index
     → whole ≡ out ++ order_text calls numbered (drop index moves) → out ≡ whole
 unfolding order_text
-moved_whole whole out calls numbered moves index past is =
-    sym (is ∙ ap (λ m. out ++ order_text calls numbered m) (drop_all index moves past) ∙ append-nil out)
+moved_whole whole out calls numbered moves index past is = grind (arith, append-nil, drop_all)
 
 -- the program's events from a place on, in the definitions' form, are the one there and then those from the next place
 -- on
@@ -67,11 +62,7 @@ mapped numbered place one within at =
 calls-followed : (all : List NumberedEvent) (places : List (Option ℕ)) (place : ℕ) (told : Told)
     → text_at all (Some place) ≡ text_told told
     → map (text_at all) (with_place place told places) ≡ with_call told (map (text_at all) places)
-calls-followed all places place (Calls session text) at =
-    map-set (text_at all) places session (Some place) ∙ ap (set (map (text_at all) places) session) at
-calls-followed all places place (Returns session shown) at = refl
-calls-followed all places place (ReturnsUnknown session) at = refl
-calls-followed all places place (Leaves session) at = refl
+calls-followed all places place told at = grind (arith, map-set)
 
 -- the loop over moves, in the program's form of the list: after a move over the event at this place, which is noted if
 -- the event is a call, the lines left to write are those of the moves left
@@ -84,19 +75,11 @@ pub moved_event_at : (out : List ℕ) (old new : LastCalls) (numbered : List Num
     ≡ out ++ order_text (calls_kept (map numbered_kept numbered) new)
     (drop (place + 1) (map numbered_kept numbered)) moves
 moved_event_at out old new numbered place one moves within at next =
-    let all = map numbered_kept numbered in
-    ap (λ l. out ++ order_text (calls_kept all old) l (Seeing ∷ moves)) (mapped numbered place one within at)
-    ∙ moved_event out (calls_kept all old) (calls_kept all new) (numbered_kept one) (drop (place + 1) all) moves
-    (ap (map (text_at all)) next ∙ calls-followed all old.places place (told_kept one.line_event)
-    (sym (text_at-kept numbered place one within at)))
+    grind (arith, calls-followed, mapped, moved_event, text_at-kept)
 
 -- past the last event a move that goes over an event writes nothing
 pub moved_over_at : (out : List ℕ) (calls : List (List ℕ)) (numbered : List NumberedRead) (place : ℕ)
     (moves : List Move) → length numbered ≤ place
     → out ++ order_text calls (drop place (map numbered_kept numbered)) (Seeing ∷ moves) ≡ out
     ++ order_text calls (drop place (map numbered_kept numbered)) moves
-moved_over_at out calls numbered place moves past =
-    let none : drop place (map numbered_kept numbered) ≡ [] =
-    drop_all place (map numbered_kept numbered) (omega (arith, length-map numbered numbered_kept)) in
-    ap (λ l. out ++ order_text calls l (Seeing ∷ moves)) none ∙ moved_over out calls moves
-    ∙ sym (ap (λ l. out ++ order_text calls l moves) none)
+moved_over_at out calls numbered place moves past = grind (arith, drop_all, length-map, moved_over)

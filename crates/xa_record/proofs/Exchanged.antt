@@ -1,10 +1,9 @@
 -- What was seen at a place, and its call.
-use Rattle.std.proofs.Common.{◌≡◌, ◌∙◌, ℕ, ◌+◌, ◌<◌, ◌≤◌, Bool, true, false, Option, Some, None, List, [], ◌∷◌, length}
-use Rattle.std.proofs.Common.{map, take, drop, get_or, slice_get, refl, ap, sym, arith, Result, Ok, Err}
-use Rattle.std.{proofs.lemmas.List.{drop_all, take-map}, specs.Prelude.{if◌then◌else◌, IfOk}}
+use Rattle.std.proofs.Common.{◌≡◌, ℕ, ◌+◌, ◌<◌, ◌≤◌, true, false, Option, Some, None, List, length, map, take, drop}
+use Rattle.std.{proofs.{Common.{get_or, arith, Result, Ok, Err}, lemmas.List.{drop_all, take-map}}, specs.Prelude.IfOk}
 use Rattle.xa_record.specs.declared.line_event.NumberedEvent.{NumberedEvent as NumberedRead}
 use Rattle.xa_record.specs.{declared.exchange.Exchange.Exchange as ExchangeMade, Kept.{numbered_kept, exchange_kept}}
-use Rattle.xa_record.specs.Exchanges.{Exchange, is_call_by, last_call, exchange_with, exchange_after, exchange_at}
+use Rattle.xa_record.specs.Exchanges.{Exchange, is_call_by, last_call, exchange_with, exchange_at}
 use Rattle.xa_record.{specs.Reading.{NumberedEvent, session_of}, proofs.{Effects.dropped, Places.slice_get-kept}}
 
 -- the search for a session's last call: the event at this place is a call by it, so it replaces what was found before
@@ -14,10 +13,7 @@ pub call_found : (session : ℕ) (found : Option NumberedEvent) (numbered : List
     → last_call session found (map numbered_kept (drop index numbered))
     ≡ last_call session (Some (numbered_kept one)) (map numbered_kept (drop (index + 1) numbered))
 unfolding last_call
-call_found session found numbered index one within at calls =
-    ap (λ (l : List NumberedRead). last_call session found (map numbered_kept l)) (dropped numbered index one within at)
-    ∙ ap (λ (b : Bool). last_call session (if b then Some (numbered_kept one) else found)
-    (map numbered_kept (drop (index + 1) numbered))) calls
+call_found session found numbered index one within at calls = grind (arith, dropped)
 
 -- the search for a session's last call: the event at this place isn't a call by it, so what was found before stays
 pub call_other : (session : ℕ) (found : Option NumberedEvent) (numbered : List NumberedRead) (index : ℕ)
@@ -26,18 +22,14 @@ pub call_other : (session : ℕ) (found : Option NumberedEvent) (numbered : List
     → last_call session found (map numbered_kept (drop index numbered))
     ≡ last_call session found (map numbered_kept (drop (index + 1) numbered))
 unfolding last_call
-call_other session found numbered index one within at calls =
-    ap (λ (l : List NumberedRead). last_call session found (map numbered_kept l)) (dropped numbered index one within at)
-    ∙ ap (λ (b : Bool). last_call session (if b then Some (numbered_kept one) else found)
-    (map numbered_kept (drop (index + 1) numbered))) calls
+call_other session found numbered index one within at calls = grind (arith, dropped)
 
 -- the search for a session's last call ends: no event is left, and what was found, if anything, is that call
 pub call_last : (session : ℕ) (whole found : Option NumberedEvent) (numbered : List NumberedRead) (index : ℕ)
     → length numbered ≤ index
     → whole ≡ last_call session found (map numbered_kept (drop index numbered)) → whole ≡ found
 unfolding last_call
-call_last session whole found numbered index past is =
-    is ∙ ap (λ (l : List NumberedRead). last_call session found (map numbered_kept l)) (drop_all index numbered past)
+call_last session whole found numbered index past is = grind (arith, drop_all)
 
 -- what is made of the event at a place, and of its session's last call before that, is the exchange at that place
 pub exchange_there : (made : Exchange) (numbered : List NumberedRead) (place : ℕ) (one : NumberedRead)
@@ -45,11 +37,7 @@ pub exchange_there : (made : Exchange) (numbered : List NumberedRead) (place : �
     → last_call (session_of (numbered_kept one).told) None (map numbered_kept (take place numbered)) ≡ call
     → made ≡ exchange_with (numbered_kept one).told call
     → made ≡ exchange_at (map numbered_kept numbered) place
-exchange_there made numbered place one call within at found is =
-    is ∙ ap (exchange_with (numbered_kept one).told) (sym found)
-    ∙ ap (λ (l : List NumberedEvent). exchange_with (numbered_kept one).told
-    (last_call (session_of (numbered_kept one).told) None l)) (sym (take-map numbered_kept place numbered))
-    ∙ ap (exchange_after (take place (map numbered_kept numbered))) (sym (slice_get-kept numbered place one within at))
+exchange_there made numbered place one call within at found is = grind (arith, session_of, slice_get-kept, take-map)
 
 -- what the program made, if it had memory, of the event at a place and of its session's last call before that, is the
 -- exchange at that place

@@ -1,13 +1,11 @@
 -- Texts without a line feed, and lines that are cut where they were joined.
 use Rattle.std.proofs.Common.{◌≡◌, ℕ, zero, suc, ◌+◌, ◌<◌, ◌/◌, ◌%◌, ◌^◌, ◌==◌, true, false, Bool, not, ◌&&◌, List, []}
-use Rattle.std.proofs.Common.{◌∷◌, ◌++◌, map, codes, decimal, refl, ap, sym, ◌∙◌, subst, arith, lit<}
+use Rattle.std.proofs.Common.{◌∷◌, ◌++◌, map, codes, decimal, refl, ap, ◌∙◌, arith, lit<}
 use Rattle.std.proofs.lemmas.{Bool.Decides.nat_tests, Fmt.{decimal_digit, decimal-digits_of}}
 use Rattle.std.{proofs.lemmas.List.Folds.list_all-append, specs.Prelude.slice_index}
-use Rattle.std.specs.{List.{AllByRecursion as All, list_all}, Int.Digits.digits_of}
-use Rattle.hex.specs.Hex.{encode_with, encode_lower, lower_digits}
+use Rattle.std.specs.List.{AllByRecursion as All, list_all}
+use Rattle.hex.specs.Hex.{encode_with}
 use Rattle.xa_xid.specs.{XidText.{part_text, xid_text}, declared.{xid.Xid.Xid, statement.Statement.Statement}}
-use Rattle.xa_xid.specs.declared.statement.Statement.TheVariants.{Start, End, Prepare, Commit, Rollback, Recover}
-use Rattle.xa_xid.specs.declared.statement.Statement.TheVariants.{Unsupported, Get, Put, Del, Disconnect}
 use Rattle.xa_statement.specs.Canonical.{statement_text}
 use Rattle.xa_lines.specs.Script.{lines_of, with_first}
 use Rattle.xa_record.specs.Replaying.{HasNoFeed, joined, IsFit}
@@ -18,24 +16,19 @@ both one two first second = ap (λ b. b && two) first ∙ second
 
 -- of two tests that hold together the first one holds
 pub both_first : (one two : Bool) → (one && two) ≡ true → one ≡ true
-both_first true two is = refl
-both_first false two is = is
+both_first one two is = grind (arith)
 
 -- of two tests that hold together the second one holds
 pub both_second : (one two : Bool) → (one && two) ≡ true → two ≡ true
-both_second true two is = is
-both_second false two is = absurd (cc)
+both_second one two is = grind (arith)
 
 -- a test whose negation holds fails
 not_so : (test : Bool) → not test ≡ true → test ≡ false
-not_so true is = sym is
-not_so false is = refl
+not_so test is = grind (arith)
 
 -- two texts without a line feed have none together
 pub feed-append : (one two : List ℕ) → HasNoFeed one → HasNoFeed two → HasNoFeed (one ++ two)
-feed-append one two first second =
-    let p : ℕ → Bool = λ byte. not (byte == 10) in
-    list_all-append p one two ∙ both (list_all p one) (list_all p two) first second
+feed-append one two first second = grind (arith, both, list_all-append, not)
 
 -- a line without a line feed, with one behind it, is cut off whole from a text that begins with it
 cut : (line rest : List ℕ) → HasNoFeed line → lines_of ((line ++ codes "\n") ++ rest) ≡ line ∷ lines_of rest
@@ -70,9 +63,7 @@ encoded_feed table free (byte ∷ bytes) =
 
 -- the text of a gtrid, bqual, key or value has no line feed
 part_feed : (bytes : List ℕ) → HasNoFeed (part_text bytes)
-part_feed [] = refl
-part_feed (byte ∷ bytes) =
-    feed-append (codes "0x") (encode_lower (byte ∷ bytes)) refl (encoded_feed lower_digits refl (byte ∷ bytes))
+part_feed bytes = grind (arith, encoded_feed, feed-append)
 
 -- a decimal digit, made of the byte 48 (`0`) and a number, is no line feed
 shifted : (digit : ℕ) → not (48 + digit == 10) ≡ true
@@ -85,37 +76,13 @@ shifted_feed (digit ∷ digits) = both _ _ (shifted digit) (shifted_feed digits)
 
 -- a number below 2^64 is written without a line feed
 pub decimal_feed : (number : ℕ) → number < 2 ^ 64 → HasNoFeed (decimal number)
-decimal_feed zero fits = subst HasNoFeed (sym (decimal_digit 0 (lit< tt))) refl
-decimal_feed (suc number) fits =
-    subst HasNoFeed (sym (decimal-digits_of (suc number) (omega arith) fits)) (shifted_feed (digits_of 10 (suc number)))
+decimal_feed number fits = grind (arith, decimal-digits_of, decimal_digit, lit<, shifted_feed)
 
 -- an identifier whose formatID is below 2^64 is written without a line feed
 xid_feed : (xid : Xid) → xid.format_id < 2 ^ 64 → HasNoFeed (xid_text xid)
-xid_feed xid fits =
-    feed-append (part_text xid.gtrid.items) (44 ∷ (part_text xid.bqual.items ++ (44 ∷ decimal xid.format_id)))
-    (part_feed xid.gtrid.items)
-    (feed-append (part_text xid.bqual.items) (44 ∷ decimal xid.format_id) (part_feed xid.bqual.items)
-    (decimal_feed xid.format_id fits))
+xid_feed xid fits = grind (arith, decimal, decimal_feed, feed-append, part_feed)
 
 -- the canonical form of a statement has no line feed, if its identifier can be written
 pub statement_feed : (statement : Statement) → IsFit statement → HasNoFeed (statement_text statement)
 unfolding statement_text
-statement_feed (Start xid) fit = feed-append (codes "XA START ") (xid_text xid) refl (xid_feed xid fit.format_fits)
-statement_feed (End xid) fit = feed-append (codes "XA END ") (xid_text xid) refl (xid_feed xid fit.format_fits)
-statement_feed (Prepare xid) fit = feed-append (codes "XA PREPARE ") (xid_text xid) refl (xid_feed xid fit.format_fits)
-statement_feed (Commit xid false) fit =
-    feed-append (codes "XA COMMIT ") (xid_text xid) refl (xid_feed xid fit.format_fits)
-statement_feed (Commit xid true) fit =
-    feed-append (codes "XA COMMIT ") (xid_text xid ++ codes " ONE PHASE") refl
-    (feed-append (xid_text xid) (codes " ONE PHASE") (xid_feed xid fit.format_fits) refl)
-statement_feed (Rollback xid) fit =
-    feed-append (codes "XA ROLLBACK ") (xid_text xid) refl (xid_feed xid fit.format_fits)
-statement_feed (Recover false) fit = refl
-statement_feed (Recover true) fit = refl
-statement_feed Unsupported fit = refl
-statement_feed (Get key) fit = feed-append (codes "GET ") (part_text key) refl (part_feed key)
-statement_feed (Put key value) fit =
-    feed-append (codes "PUT ") (part_text key ++ (44 ∷ part_text value.items)) refl
-    (feed-append (part_text key) (44 ∷ part_text value.items) (part_feed key) (part_feed value.items))
-statement_feed (Del key) fit = feed-append (codes "DEL ") (part_text key) refl (part_feed key)
-statement_feed Disconnect fit = refl
+statement_feed statement fit = grind (arith, feed-append, part_feed, xid_feed)

@@ -1,6 +1,6 @@
 -- Texts as strings of JSON: characters; the end of an array and of an object with a verdict and a line.
-use Rattle.std.proofs.Common.{◌≡◌, ℕ, ◌+◌, ◌<◌, ◌==◌, true, Result, Ok, Err, OnOk, List, [], ◌∷◌, ◌++◌, length, take}
-use Rattle.std.proofs.Common.{get_or, codes, decimal, refl, ap, sym, ◌∙◌, arith, append_assoc, append-nil}
+use Rattle.std.proofs.Common.{◌≡◌, ℕ, ◌+◌, ◌<◌, ◌==◌, true, Result, OnOk, List, [], ◌∷◌, ◌++◌, length, take, get_or}
+use Rattle.std.proofs.Common.{codes, decimal, ap, sym, ◌∙◌, arith, append_assoc, append-nil}
 use Rattle.std.proofs.lemmas.{Grind.common_steps, List.take_more, Str.encodes-append}
 use Rattle.std.specs.Prelude.{encode_utf8, encode_utf8_all}
 use Rattle.json.specs.{Json.no_members, Token.{Token, end_array, end_object, key, string, number}}
@@ -28,16 +28,13 @@ array-ended whole old new texts is none ended = ended ∙ sym (is ∙ ap (λ t. 
 -- a text of no bytes has no lines
 pub lines-none : (text : List ℕ) → (length text == 0) ≡ true → lines_of text ≡ []
 unfolding lines_of
-lines-none [] empty = refl
-lines-none (byte ∷ text) empty =
-    absurd (let none : length (byte ∷ text) ≡ 0 = grind (arith, common_steps) in omega arith)
+lines-none text empty = grind (arith, common_steps)
 
 -- the end of an array was written, or writing failed: after Ok all of the array is there
 pub array-ended-ok : {X E : Type 0} (result : Result X E) (whole old new : List Token) (texts : List (List ℕ))
     → whole ≡ old ++ items_tokens (values_of texts) → texts ≡ [] → OnOk result (new ≡ old ++ end_array ∷ [])
     → OnOk result (new ≡ whole)
-array-ended-ok (Ok x) whole old new texts is none ended = array-ended whole old new texts is none ended
-array-ended-ok (Err e) whole old new texts is none ended = tt
+array-ended-ok result whole old new texts is also ended = grind (arith, array-ended)
 
 -- once a verdict, a line's number and the object's end are written, after Ok all members of the object with these two
 -- are written
@@ -46,13 +43,4 @@ pub line-ended-ok : {X E : Type 0} (result : Result X E) (old one two new : List
     → two ≡ one ++ key (codes "line") ∷ number (decimal line) ∷ []
     → OnOk result (new ≡ two ++ end_object ∷ [])
     → OnOk result (new ≡ old ++ members_tokens (with_verdict word (with_line line no_members)))
-line-ended-ok (Ok x) old one two new word line first second ended =
-    let made : two ≡ (old ++ key (codes "verdict") ∷ string word ∷ [])
-    ++ key (codes "line") ∷ number (decimal line) ∷ [] =
-    second ∙ ap (λ l. l ++ key (codes "line") ∷ number (decimal line) ∷ []) first in
-    ended ∙ ap (λ l. l ++ end_object ∷ []) made
-    ∙ append_assoc (old ++ key (codes "verdict") ∷ string word ∷ []) (key (codes "line") ∷ number (decimal line) ∷ [])
-    (end_object ∷ [])
-    ∙ append_assoc old (key (codes "verdict") ∷ string word ∷ [])
-    (key (codes "line") ∷ number (decimal line) ∷ end_object ∷ [])
-line-ended-ok (Err e) old one two new word line first second ended = tt
+line-ended-ok result old one two new word line first second ended = grind (arith, append_assoc, decimal)

@@ -1,19 +1,17 @@
 -- Where the last return to a session stands, and what is put behind it.
 use Rattle.std.proofs.Common.{◌≡◌, ◌⊎◌, inl, inr, ℕ, zero, suc, ◌+◌, Bool, true, false, List, [], ◌∷◌, ◌++◌, length}
-use Rattle.std.proofs.{Common.{take, drop, refl, ap, sym, ◌∙◌, subst, arith, add-one}, lemmas.Grind.common_steps}
+use Rattle.std.proofs.{Common.{take, drop, refl, ap, ◌∙◌, subst, arith, add-one}, lemmas.Grind.common_steps}
 use Rattle.std.{proofs.Math.Seq.{take-append_seam, drop-append_seam}, specs.List.insert}
 use Rattle.xa_record.specs.Reading.{NumberedEvent, is_return_of, one_more, up_to_return}
 use Rattle.xa_record.specs.Records.{EndsInReturn, HasNoReturn}
 
 -- a front of no elements is empty
 pub take-none : (list : List NumberedEvent) → take 0 list ≡ []
-take-none [] = refl
-take-none (one ∷ more) = refl
+take-none list = cc
 
 -- from place 0 on a list is the whole list
 pub drop-none : (list : List NumberedEvent) → drop 0 list ≡ list
-drop-none [] = refl
-drop-none (one ∷ more) = refl
+drop-none list = cc
 
 -- the session's last return is the event before this place, and none comes after it; at place 0 it has none
 abbrev pub Ends : ℕ → ℕ → List NumberedEvent → Type 0
@@ -43,8 +41,7 @@ ends session (one ∷ more) =
 -- the events before the place of the last return end in a return of the session, or there are none
 pub ends-in : (session place : ℕ) (list : List NumberedEvent) → Ends session place list
     → EndsInReturn session (take place list)
-ends-in session place list (inl none, after) = inl (ap (λ (n : ℕ). take n list) none ∙ take-none list)
-ends-in session place list (inr found, after) = inr found
+ends-in session place list is = grind (arith, take-none)
 
 -- without a return of the session among the events, `up_to_return` counts none
 pub no-return-none : (session : ℕ) (list : List NumberedEvent) → HasNoReturn session list
@@ -79,19 +76,11 @@ length-last front one = grind (arith, common_steps)
 pub up_to-before : (session : ℕ) (before after : List NumberedEvent) → EndsInReturn session before
     → HasNoReturn session after
     → up_to_return session (before ++ after) ≡ length before
-up_to-before session before after (inl none) last =
-    ap (λ (l : List NumberedEvent). up_to_return session (l ++ after)) none ∙ no-return-none session after last
-    ∙ ap length (sym none)
-up_to-before session before after (inr (front, one, parts, is)) last =
-    ap (λ (l : List NumberedEvent). up_to_return session (l ++ after)) parts
-    ∙ last-found session front after one is last
-    ∙ sym (ap length parts ∙ length-last front one)
+up_to-before session before after is last = grind (arith, last-found, length-last, no-return-none)
 
 -- a loss put in at the place of the last return stands between the events up to it and those behind it
 pub inserted : (session : ℕ) (before after : List NumberedEvent) (one : NumberedEvent) → EndsInReturn session before
     → HasNoReturn session after
     → insert (before ++ after) (up_to_return session (before ++ after)) one ≡ before ++ one ∷ after
 inserted session before after one ends last =
-    ap (λ (n : ℕ). insert (before ++ after) n one) (up_to-before session before after ends last)
-    ∙ ap (λ (l : List NumberedEvent). l ++ one ∷ drop (length before) (before ++ after)) (take-append_seam before after)
-    ∙ ap (λ (l : List NumberedEvent). before ++ one ∷ l) (drop-append_seam before after)
+    grind (arith, drop-append_seam, ends, insert, take-append_seam, up_to-before)

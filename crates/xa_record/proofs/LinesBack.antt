@@ -1,10 +1,7 @@
 -- The line of an effect, read back.
-use Rattle.std.proofs.Common.{◌≡◌, ◌≢◌, ℕ, zero, suc, true, false, Result, Ok, Err, List, [], ◌∷◌, ◌++◌, codes, decimal}
-use Rattle.std.proofs.Common.{refl, ap, sym, ◌∙◌, subst, ◌<◌, ◌≤◌, ◌^◌, arith, lit<, lit≤}
-use Rattle.std.proofs.lemmas.Fmt.{decimal_digit, decimal_step}
-use Rattle.xa_xid.specs.{Bytes.{belongs, behind, unblank}, declared.statement.Statement.{Statement, TheVariants.Start}}
-use Rattle.xa_xid.specs.declared.statement.Statement.TheVariants.{End, Prepare, Commit, Rollback, Recover, Unsupported}
-use Rattle.xa_xid.specs.declared.statement.Statement.TheVariants.{Get, Put, Del, Disconnect}
+use Rattle.std.proofs.Common.{◌≡◌, ◌≢◌, ℕ, zero, suc, Result, Ok, List, [], ◌∷◌, ◌++◌, codes, decimal, refl, ap, sym}
+use Rattle.std.proofs.{Common.{◌∙◌, subst, ◌<◌, ◌≤◌, ◌^◌, arith, lit<, lit≤}, lemmas.Fmt.{decimal_digit, decimal_step}}
+use Rattle.xa_xid.specs.{Bytes.{belongs, behind, unblank}, declared.statement.Statement.Statement}
 use Rattle.xa_statement.{specs.{Canonical.statement_text, Grammar.Spells, Reading.read_of}, proofs.Faults.reads_spelled}
 use Rattle.xa_lines.specs.Script.{Given, line_of}
 use Rattle.xa_judge.specs.Explained.{IsSession}
@@ -80,25 +77,12 @@ line_back (suc (suc (suc (suc (suc (suc (suc (suc (suc (suc (suc (suc (suc (suc 
 canonical_bare : (statement : Statement) (text : List ℕ) → unblank text ≡ text
     → unblank (canonical_text statement text) ≡ canonical_text statement text
 unfolding statement_text behind belongs
-canonical_bare (Start xid) text bare = refl
-canonical_bare (End xid) text bare = refl
-canonical_bare (Prepare xid) text bare = refl
-canonical_bare (Commit xid false) text bare = refl
-canonical_bare (Commit xid true) text bare = refl
-canonical_bare (Rollback xid) text bare = refl
-canonical_bare (Recover false) text bare = refl
-canonical_bare (Recover true) text bare = refl
-canonical_bare Unsupported text bare = bare
-canonical_bare (Get key) text bare = refl
-canonical_bare (Put key value) text bare = refl
-canonical_bare (Del key) text bare = refl
-canonical_bare Disconnect text bare = refl
+canonical_bare statement text bare = grind (arith)
 
 -- what is written for a call, a statement's canonical form or its own text, begins with no blank, if its text doesn't
 text_bare : (read : Result Statement ℕ) (text : List ℕ) → unblank text ≡ text
     → unblank (text_read read text) ≡ text_read read text
-text_bare (Ok statement) text bare = canonical_bare statement text bare
-text_bare (Err place) text bare = bare
+text_bare read text bare = grind (arith, canonical_bare)
 
 -- what is written for a text that a session called for begins with no blank, if the text doesn't
 pub call_bare : (text : List ℕ) → unblank text ≡ text → unblank (call_text text) ≡ call_text text
@@ -111,26 +95,14 @@ spelled_back statement spells = (reads_spelled (statement_text statement) statem
 
 -- what is written for a statement that was read is read as the same, if it is written back or unsupported
 canonical_back : (statement : Statement) (text : List ℕ) → read_of text ≡ Ok statement
-    → (statement ≢ Unsupported → IsWrittenBack statement)
+    → (statement ≢ Statement.Unsupported → IsWrittenBack statement)
     → read_of (canonical_text statement text) ≡ Ok statement
-canonical_back (Start xid) text is spells = spelled_back (Start xid) (spells (λ e. cc)).spelled
-canonical_back (End xid) text is spells = spelled_back (End xid) (spells (λ e. cc)).spelled
-canonical_back (Prepare xid) text is spells = spelled_back (Prepare xid) (spells (λ e. cc)).spelled
-canonical_back (Commit xid one_phase) text is spells = spelled_back (Commit xid one_phase) (spells (λ e. cc)).spelled
-canonical_back (Rollback xid) text is spells = spelled_back (Rollback xid) (spells (λ e. cc)).spelled
-canonical_back (Recover convert) text is spells = spelled_back (Recover convert) (spells (λ e. cc)).spelled
-canonical_back Unsupported text is spells = is
-canonical_back (Get key) text is spells = spelled_back (Get key) (spells (λ e. cc)).spelled
-canonical_back (Put key value) text is spells = spelled_back (Put key value) (spells (λ e. cc)).spelled
-canonical_back (Del key) text is spells = spelled_back (Del key) (spells (λ e. cc)).spelled
-canonical_back Disconnect text is spells = spelled_back Disconnect (spells (λ e. cc)).spelled
+canonical_back statement text is spells = grind (arith, spelled_back)
 
 -- what is written for a call's text, as it was read, makes the same request as that text, if this is well called
 read_back : (read : Result Statement ℕ) (text : List ℕ) → read_of text ≡ read → IsWellCalled text
     → request_read read ≡ request_read (read_of (text_read read text))
-read_back (Ok statement) text is well =
-    sym (ap request_read (canonical_back statement text is (well.canonical statement is)))
-read_back (Err place) text is well = sym (ap request_read is)
+read_back read text is well = grind (arith, canonical_back)
 
 -- what is written for a text that a session called for makes the same request as that text, if this is well called
 pub call_back : (text : List ℕ) → IsWellCalled text → request_called text ≡ request_read (read_of (call_text text))
@@ -138,25 +110,14 @@ call_back text well = read_back (read_of text) text refl well
 
 -- what is written for a statement has no line feed, if its text has none, and it is written back or unsupported
 canonical_feed : (statement : Statement) (text : List ℕ) → HasNoFeed text
-    → (statement ≢ Unsupported → IsWrittenBack statement)
+    → (statement ≢ Statement.Unsupported → IsWrittenBack statement)
     → HasNoFeed (canonical_text statement text)
-canonical_feed (Start xid) text free written = (written (λ e. cc)).whole
-canonical_feed (End xid) text free written = (written (λ e. cc)).whole
-canonical_feed (Prepare xid) text free written = (written (λ e. cc)).whole
-canonical_feed (Commit xid one_phase) text free written = (written (λ e. cc)).whole
-canonical_feed (Rollback xid) text free written = (written (λ e. cc)).whole
-canonical_feed (Recover convert) text free written = (written (λ e. cc)).whole
-canonical_feed Unsupported text free written = free
-canonical_feed (Get key) text free written = (written (λ e. cc)).whole
-canonical_feed (Put key value) text free written = (written (λ e. cc)).whole
-canonical_feed (Del key) text free written = (written (λ e. cc)).whole
-canonical_feed Disconnect text free written = (written (λ e. cc)).whole
+canonical_feed statement text free written = grind (arith)
 
 -- what is written for a call's text, as it was read, has no line feed, if the text is well called
 read_feed : (read : Result Statement ℕ) (text : List ℕ) → read_of text ≡ read → IsWellCalled text
     → HasNoFeed (text_read read text)
-read_feed (Ok statement) text is well = canonical_feed statement text well.whole (well.canonical statement is)
-read_feed (Err place) text is well = well.whole
+read_feed read text is well = grind (arith, canonical_feed)
 
 -- what is written for a text that a session called for has no line feed, if the text is well called
 pub call_feed : (text : List ℕ) → IsWellCalled text → HasNoFeed (call_text text)
@@ -169,6 +130,4 @@ below_bound session is = omega (arith, is)
 -- a session's number, a blank and a text without a line feed have no line feed
 pub line_feed : (session : ℕ) → IsSession session → (text : List ℕ) → HasNoFeed text
     → HasNoFeed (decimal session ++ codes " " ++ text)
-line_feed session is text free =
-    feed-append (decimal session ++ codes " ") text
-    (feed-append (decimal session) (codes " ") (decimal_feed session (below_bound session is.1)) refl) free
+line_feed session is text free = grind (arith, below_bound, decimal, decimal_feed, feed-append)

@@ -1,12 +1,12 @@
 -- Reading a record line by line.
-use Rattle.std.proofs.Common.{◌≡◌, ℕ, ◌+◌, ◌==◌, Bool, true, Option, None, List, [], ◌∷◌, ◌++◌, map, take, drop, length}
-use Rattle.std.proofs.{Common.{slice_get, slice_set, refl, ap, sym, ◌∙◌, arith}, lemmas.Grind.common_steps}
-use Rattle.std.{proofs.lemmas.List.map-append, specs.List.{insert, take-map, drop-map}}
+use Rattle.std.proofs.Common.{◌≡◌, ℕ, ◌+◌, ◌==◌, Bool, true, None, List, [], ◌∷◌, ◌++◌, map, length, slice_get}
+use Rattle.std.proofs.{Common.{slice_set, refl, arith}, lemmas.{Grind.common_steps, List.map-append}}
+use Rattle.std.specs.List.{insert, take-map, drop-map}
 use Rattle.xa_lines.specs.Script.{lines_of}
-use Rattle.xa_record.specs.declared.{line_fault.LineFault.LineFault, presence.Presence.{Presence, TheVariants.Lost}}
+use Rattle.xa_record.specs.{declared.presence.Presence.{Presence, TheVariants.Lost}, Lines.{Told, Leaves}}
 use Rattle.xa_record.specs.{declared.line_event.NumberedEvent.NumberedEvent as NumberedRead, Kept.numbered_kept}
-use Rattle.xa_record.specs.{Lines.{Told, Leaves}, Reading.{NumberedEvent, Notes, session_of, presence_after, cause_of}}
-use Rattle.xa_record.specs.Reading.{note_of, noted_if, up_to_return, closed_if, note_closed, noted_line, noted_lines}
+use Rattle.xa_record.specs.Reading.{NumberedEvent, Notes, session_of, presence_after, cause_of, note_of, noted_if}
+use Rattle.xa_record.specs.Reading.{up_to_return, closed_if, note_closed, noted_line, noted_lines}
 
 -- the loop over lines: once one was cut off and noted, the lines behind it are noted with the notes that it leaves
 pub noted_lines-line : (strict : Bool) (notes : Notes) (number : ℕ) (text line rest : List ℕ) → lines_of text
@@ -20,9 +20,7 @@ noted_lines-line strict notes number text line rest cut = rw cut refl
 pub noted_lines-end : (strict : Bool) (notes : Notes) (number : ℕ) (text : List ℕ) → (length text == 0) ≡ true
     → noted_lines strict notes number (lines_of text) ≡ notes
 unfolding noted_lines lines_of
-noted_lines-end strict notes number [] empty = refl
-noted_lines-end strict notes number (x ∷ xs) empty =
-    absurd (let none : length (x ∷ xs) ≡ 0 = grind (arith, common_steps) in omega arith)
+noted_lines-end strict notes number text empty = grind (arith, common_steps)
 
 -- the notes with another list of events, and other presences of sessions
 abbrev pub made : Notes → List NumberedEvent → List Presence → Notes
@@ -36,10 +34,7 @@ pub numbered-so : (notes : Notes) (number : ℕ) (told : Told) (list : List Numb
     → presence ≡ slice_set notes.presence (session_of told) (presence_after told)
     → made notes list presence ≡ note_of notes number told
 unfolding noted_if
-numbered-so notes number told list presence no_fault one two =
-    ap (λ (l : List NumberedEvent). made notes l presence) one
-    ∙ ap (made notes (notes.told ++ record { number = number; told = told } ∷ [])) two
-    ∙ sym (ap (λ (c : Option LineFault). noted_if c notes number told) no_fault)
+numbered-so notes number told list presence no_fault one two = cc
 
 -- if a client can be gone, the notes with its loss behind the session's last return, and the session as lost, are those
 -- of `note_closed`
@@ -49,18 +44,9 @@ pub closed-so : (notes : Notes) (number session : ℕ) (list : List NumberedEven
     → presence ≡ slice_set notes.presence session Lost
     → made notes list presence ≡ note_closed notes number session
 unfolding closed_if
-closed-so notes number session list presence no_fault one two =
-    ap (λ (l : List NumberedEvent). made notes l presence) one
-    ∙ ap (made notes (insert notes.told (up_to_return session notes.told)
-    (record { number = number; told = Leaves session }))) two
-    ∙ sym (ap (λ (c : Option LineFault). closed_if c notes number session) no_fault)
+closed-so notes number session list presence no_fault one two = cc
 
 -- putting an event in at a place is, as definitions see it, putting it in at that place of their list
 pub map-insert : (list : List NumberedRead) (place : ℕ) (one : NumberedRead)
     → map numbered_kept (insert list place one) ≡ insert (map numbered_kept list) place (numbered_kept one)
-map-insert list place one =
-    map-append numbered_kept (take place list) (one ∷ drop place list)
-    ∙ ap (λ (l : List NumberedEvent). l ++ numbered_kept one ∷ map numbered_kept (drop place list))
-    (sym (take-map numbered_kept place list))
-    ∙ ap (λ (l : List NumberedEvent). take place (map numbered_kept list) ++ numbered_kept one ∷ l)
-    (sym (drop-map numbered_kept place list))
+map-insert list place one = grind (arith, drop-map, map-append, take-map)

@@ -1,9 +1,8 @@
 -- Whether a session is idle, has an open call or is lost: what events say, and what is kept in a list, agree.
-use Rattle.std.proofs.Common.{◌≡◌, ◌≢◌, ℕ, zero, suc, ◌<◌, ◌==◌, Bool, true, false, if◌then◌else◌, Option, Some, None}
-use Rattle.std.proofs.Common.{List, [], ◌∷◌, ◌++◌, length, replicate, slice_get, slice_set, refl, ap, sym, ◌∙◌, arith}
+use Rattle.std.proofs.Common.{◌≡◌, ◌≢◌, ℕ, zero, suc, ◌<◌, ◌==◌, Bool, true, false, if◌then◌else◌, Some, None, List, []}
+use Rattle.std.proofs.Common.{◌∷◌, ◌++◌, length, replicate, slice_get, slice_set, refl, ap, arith}
 use Rattle.std.proofs.lemmas.{Bool.Decides.nat_tests, Option.{none-some, slice_get_within}}
-use Rattle.xa_record.specs.declared.presence.Presence.{Presence, TheVariants.{Idle, Open, Lost}}
-use Rattle.xa_record.specs.Lines.{Told, Calls, Returns, ReturnsUnknown, Leaves}
+use Rattle.xa_record.specs.{declared.presence.Presence.{Presence, TheVariants.{Idle, Lost}}, Lines.{Told, Leaves}}
 use Rattle.xa_record.specs.Reading.{NumberedEvent, session_of, presence_after, cause_of}
 use Rattle.xa_record.specs.Records.{presence_then, presence_from, presence_in, cause_next, Fits}
 
@@ -61,16 +60,14 @@ own : (session : ℕ) (presence : Presence) (one : NumberedEvent) (more : List N
     → (session_of one.told == session) ≡ true
     → presence_from session presence (one ∷ more) ≡ presence_from session (presence_then presence one.told) more
 unfolding presence_from
-own session presence one more is =
-    ap (λ (b : Bool). presence_from session (if b then presence_then presence one.told else presence) more) is
+own session presence one more is = cc
 
 -- an event of another session doesn't change a session's presence
 other : (session : ℕ) (presence : Presence) (one : NumberedEvent) (more : List NumberedEvent)
     → (session_of one.told == session) ≡ false
     → presence_from session presence (one ∷ more) ≡ presence_from session presence more
 unfolding presence_from
-other session presence one more is =
-    ap (λ (b : Bool). presence_from session (if b then presence_then presence one.told else presence) more) is
+other session presence one more is = cc
 
 -- without an event the presence stays
 none-from : (session : ℕ) (presence : Presence) → presence_from session presence [] ≡ presence
@@ -80,18 +77,11 @@ none-from session presence = refl
 -- an event that can happen leaves its session as `presence_after` says
 then-after : (presence : Presence) (told : Told) → cause_of (Some presence) told ≡ None
     → presence_then presence told ≡ presence_after told
-then-after Idle told fits = refl
-then-after Open told fits = refl
-then-after Lost (Calls session text) fits = absurd (none-some _ (sym fits))
-then-after Lost (Returns session shown) fits = absurd (none-some _ (sym fits))
-then-after Lost (ReturnsUnknown session) fits = absurd (none-some _ (sym fits))
-then-after Lost (Leaves session) fits = absurd (none-some _ (sym fits))
+then-after presence told fits = grind (arith, none-some)
 
 -- after its client has gone a session is lost, whatever it was
 then-leaves : (presence : Presence) (session : ℕ) → presence_then presence (Leaves session) ≡ Lost
-then-leaves Idle session = refl
-then-leaves Open session = refl
-then-leaves Lost session = refl
+then-leaves presence session = grind (arith)
 
 -- the list has, at each session's number, the presence that the events say
 abbrev pub Placed : List Presence → List NumberedEvent → Type 0
@@ -106,67 +96,43 @@ placed-none session within = replicated 17 session Idle within
 pub fits-here : (presence : List Presence) (list : List NumberedEvent) (told : Told) → session_of told < 17
     → Placed presence list
     → cause_of (slice_get presence (session_of told)) told ≡ cause_next list told
-fits-here presence list told within placed =
-    ap (λ (o : Option Presence). cause_of o told) (placed (session_of told) within)
+fits-here presence list told within placed = grind (arith)
 
 -- after an event that can happen, the list says the same as the events again
 pub placed-next : (presence : List Presence) (list : List NumberedEvent) (number : ℕ) (told : Told)
     → session_of told < 17 → Placed presence list → Fits list told
     → Placed (slice_set presence (session_of told) (presence_after told))
     (list ++ record { number = number; told = told } ∷ [])
-placed-next presence list number told within placed fits session below = by (session_of told == session) refl
-  where
-    one : NumberedEvent
-    one = record { number = number; told = told }
-
-    now : Presence
-    now = presence_in session list
-
-    by : (b : Bool) → (session_of told == session) ≡ b
-        → slice_get (slice_set presence (session_of told) (presence_after told)) session
-        ≡ Some (presence_in session (list ++ one ∷ []))
-    by true is =
-        let same : session_of told ≡ session = tested (session_of told) session is in
-        let said : presence_in session (list ++ one ∷ []) ≡ presence_after told =
-        from-append session Idle list (one ∷ []) ∙ own session now one [] is
-        ∙ none-from session (presence_then now told)
-        ∙ ap (λ (s : ℕ). presence_then (presence_in s list) told) (sym same)
-        ∙ then-after (presence_in (session_of told) list) told fits in
-        ap (λ (s : ℕ). slice_get (slice_set presence (session_of told) (presence_after told)) s) (sym same)
-        ∙ set_same presence (session_of told) (presence_after told)
-        (slice_get_within presence (session_of told) _ (placed (session_of told) within))
-        ∙ ap Some (sym said)
-    by false is =
-        let said : presence_in session (list ++ one ∷ []) ≡ now =
-        from-append session Idle list (one ∷ []) ∙ other session now one [] is ∙ none-from session now in
-        set_other presence (session_of told) session (presence_after told)
-        (λ same. apart_test (session_of told) session is (sym same))
-        ∙ placed session below ∙ ap Some (sym said)
+placed-next presence list number told within placed fits session below =
+    grind (
+      arith,
+      apart_test,
+      from-append,
+      none-from,
+      other,
+      own,
+      set_other,
+      set_same,
+      slice_get_within,
+      tested,
+      then-after,
+    )
 
 -- once a session's loss is put in at any place among the events, and set in the list, the list says what they say
 pub placed-closed : (presence : List Presence) (before after : List NumberedEvent) (number session : ℕ) → session < 17
     → Placed presence (before ++ after)
     → Placed (slice_set presence session Lost) (before ++ record { number = number; told = Leaves session } ∷ after)
-placed-closed presence before after number gone within placed session below = by (gone == session) refl
-  where
-    one : NumberedEvent
-    one = record { number = number; told = Leaves gone }
-
-    now : Presence
-    now = presence_in session before
-
-    by : (b : Bool) → (gone == session) ≡ b → slice_get (slice_set presence gone Lost) session
-        ≡ Some (presence_in session (before ++ one ∷ after))
-    by true is =
-        let same : gone ≡ session = tested gone session is in
-        let said : presence_in session (before ++ one ∷ after) ≡ Lost =
-        from-append session Idle before (one ∷ after) ∙ own session now one after is
-        ∙ ap (λ (p : Presence). presence_from session p after) (then-leaves now gone) ∙ lost-stays session after in
-        ap (λ (s : ℕ). slice_get (slice_set presence gone Lost) s) (sym same)
-        ∙ set_same presence gone Lost (slice_get_within presence gone _ (placed gone within)) ∙ ap Some (sym said)
-    by false is =
-        let said : presence_in session (before ++ one ∷ after) ≡ presence_in session (before ++ after) =
-        from-append session Idle before (one ∷ after) ∙ other session now one after is
-        ∙ sym (from-append session Idle before after) in
-        set_other presence gone session Lost (λ same. apart_test gone session is (sym same)) ∙ placed session below
-        ∙ ap Some (sym said)
+placed-closed presence before after number session within placed is below =
+    grind (
+      arith,
+      apart_test,
+      from-append,
+      lost-stays,
+      other,
+      own,
+      set_other,
+      set_same,
+      slice_get_within,
+      tested,
+      then-leaves,
+    )

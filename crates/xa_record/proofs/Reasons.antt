@@ -39,8 +39,7 @@ legal_leads base events limit verdict moves right is = subst (IsVerdict base eve
 pub illegal_not : (base : State) (events : List Event) (limit : ℕ) (verdict : Verdict) (place : ℕ)
     (answers : Vec Answer Global)
     → IsVerdict base events limit verdict → verdict ≡ Verdict.Illegal place answers → Explained base events → ⊥
-illegal_not base events limit verdict place answers right is explained =
-    (subst (IsVerdict base events limit) is right).0.whole explained
+illegal_not base events limit verdict place answers right is explained = grind (arith)
 
 -- what holds place by place of two lists holds of the first `count` of each
 AllZip-take : {A B : Type 0} (R : A → B → Type 0) (count : ℕ) (xs : List A) (ys : List B) → AllZip R xs ys
@@ -55,9 +54,7 @@ AllZip-take R (suc count) (x ∷ xs) (y ∷ ys) all = (all.0, AllZip-take R coun
 pub place_within : (numbered : List NumberedRead) (events : List Event) (place : ℕ)
     → AreCalls (map numbered_kept numbered) events → place ≤ length events
     → place ≡ length (take place numbered)
-place_within numbered events place are within =
-    let long : length numbered ≡ length events = calls-length numbered events are in
-    sym (length-take-le place numbered (omega (arith, long, within)))
+place_within numbered events place are within = grind (arith, calls-length, length-take-le)
 
 -- if events are the calls that lines say (`AreCalls`), the events before a place are those of the lines before it
 pub events_before : (numbered : List NumberedRead) (events : List Event) (place : ℕ)

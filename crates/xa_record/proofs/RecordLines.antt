@@ -1,22 +1,20 @@
 -- What is read of a record without a faulty line is what its lines tell.
-use Rattle.std.proofs.Common.{◌≡◌, ◌≢◌, ℕ, zero, suc, ◌+◌, ◌-◌, ◌==◌, ◌<◌, Bool, true, false}
-use Rattle.std.proofs.Common.{if◌then◌else◌, Option, Some, None, List, [], ◌∷◌, ◌++◌, length, take, drop, slice_get}
-use Rattle.std.proofs.Common.{refl, ap, sym, ◌∙◌, subst, arith, append_assoc, append-nil}
-use Rattle.std.proofs.lemmas.{Bool.Decides.nat_tests, Grind.common_steps, List.take-append-drop}
+use Rattle.std.proofs.Common.{◌≡◌, ◌≢◌, ℕ, zero, suc, ◌+◌, ◌-◌, ◌==◌, ◌<◌, Bool, true, false, if◌then◌else◌, Option}
+use Rattle.std.proofs.Common.{Some, None, List, [], ◌∷◌, ◌++◌, length, take, drop, slice_get, refl, ap, sym, ◌∙◌, subst}
+use Rattle.std.proofs.{Common.{arith, append_assoc, append-nil}, lemmas.{Bool.Decides.nat_tests, Grind.common_steps}}
+use Rattle.std.proofs.lemmas.List.{take-append-drop}
 use Rattle.xa_xid.specs.{Bytes.unblank, declared.xid.Xid.Xid}
 use Rattle.xa_lines.specs.Script.{lines_of}
 use Rattle.xa_record.specs.{declared.{line_fault.LineFault.LineFault, presence.Presence.Presence}, Lines.Shown}
 use Rattle.xa_record.specs.Lines.{ShowsRows, Told, Calls, Returns, ReturnsUnknown, Leaves, LineSaid, Nothing, Bad, Says}
 use Rattle.xa_record.specs.{Lines.{Awaits, Closed, is_silent, reading_of_line}, Rows.row_said, Reading.NumberedEvent}
-use Rattle.xa_record.specs.Reading.{Awaited, Notes, fault_text, blamed, blamed_if, blamed_too, beyond, noted_if}
-use Rattle.xa_record.specs.Reading.{closed_if, cause_of, session_of, fault_called, up_to_return, returned, with_row}
-use Rattle.xa_record.specs.Reading.{noted_row, noted_said}
+use Rattle.xa_record.specs.Reading.{Awaited, Notes, fault_text, blamed, blamed_if, blamed_too, noted_if, closed_if}
+use Rattle.xa_record.specs.Reading.{cause_of, session_of, up_to_return, returned, with_row, noted_row, noted_said}
 use Rattle.xa_record.specs.Reading.{noted_line, noted_lines, no_notes, awaiting, note_of, note_closed, note_strictly}
-use Rattle.xa_record.specs.Reading.{ended_by, notes_by}
-use Rattle.xa_record.specs.Records.{RowsOf, no_row, silent_row, one_row, on_next_line, Fits}
-use Rattle.xa_record.specs.Records.{Tells, no_line, silent_line, call_line, return_line, rows_lines, unknown_line}
-use Rattle.xa_record.specs.Records.{lost_line, gone_line}
-use Rattle.xa_record.proofs.{LastReturns.{ends, ends-in}, SessionsWithin.{Within, line_within}}
+use Rattle.xa_record.specs.{Reading.{ended_by, notes_by}, Records.{RowsOf, no_row, silent_row, one_row, on_next_line}}
+use Rattle.xa_record.specs.Records.{Fits, Tells, no_line, silent_line, call_line, return_line, rows_lines, unknown_line}
+use Rattle.xa_record.{specs.Records.{lost_line, gone_line}, proofs.LastReturns.{ends, ends-in}}
+use Rattle.xa_record.proofs.SessionsWithin.{Within, line_within}
 use Rattle.xa_record.proofs.Presences.{Placed, placed-none, fits-here, placed-next, placed-closed}
 
 -- if two texts together are empty, so is the first
@@ -47,43 +45,31 @@ record Clean (notes : Notes) : Type 0 where
 noted-clean : (o : Option LineFault) (notes : Notes) (number : ℕ) (told : Told)
     → (noted_if o notes number told).faults ≡ [] → (notes.faults ≡ []) × (o ≡ None)
 unfolding noted_if blamed
-noted-clean None notes number told clean = (clean, refl)
-noted-clean (Some fault) notes number told clean = absurd (blamed-some notes.faults number fault clean)
+noted-clean o notes number told clean = grind (arith, blamed-some)
 
 -- if no fault is written after a connection was found closed, none was before, and its line has none
 closed-clean : (o : Option LineFault) (notes : Notes) (number session : ℕ)
     → (closed_if o notes number session).faults ≡ [] → (notes.faults ≡ []) × (o ≡ None)
 unfolding closed_if blamed
-closed-clean None notes number session clean = (clean, refl)
-closed-clean (Some fault) notes number session clean = absurd (blamed-some notes.faults number fault clean)
+closed-clean o notes number session clean = grind (arith, blamed-some)
 
 -- if no fault is written after a line may have been blamed, it wasn't
 blamed-clean : (o : Option LineFault) (notes : Notes) (number : ℕ) → (blamed_if o notes number).faults ≡ []
     → blamed_if o notes number ≡ notes
 unfolding blamed
-blamed-clean None notes number clean = refl
-blamed-clean (Some fault) notes number clean = absurd (blamed-some notes.faults number fault clean)
+blamed-clean o notes number clean = grind (arith, blamed-some)
 
 -- if no fault is written after an event, it is noted alike whether the texts of calls are tested or not
 strictly-clean : (strict : Bool) (notes : Notes) (number : ℕ) (told : Told)
     → (note_strictly strict notes number told).faults ≡ []
     → note_strictly strict notes number told ≡ note_of notes number told
-strictly-clean false notes number told clean = refl
-strictly-clean true notes number told clean =
-    blamed-clean (beyond (cause_of (slice_get notes.presence (session_of told)) told) (fault_called told))
-    (note_of notes number told) number clean
+strictly-clean strict notes number told clean = grind (arith, blamed-clean)
 
 -- if there is no fault after a return whose rows have come (`b`), or are still to come, there was none before
 awaiting-clean : (b : Bool) (notes : Notes) (a : Awaited)
     → Clean (if b then returned notes a else record notes { awaited = Some a })
     → (notes.faults ≡ []) × (a.faults ≡ [])
-awaiting-clean true notes a clean =
-    let told = Returns a.session (ShowsRows a.rows) in
-    let before = nothing-before (note_of notes a.number told).faults a.faults clean.noted in (
-      (noted-clean (cause_of (slice_get notes.presence a.session) told) notes a.number told before).0,
-      nothing-behind (note_of notes a.number told).faults a.faults clean.noted,
-    )
-awaiting-clean false notes a clean = (clean.noted, clean.none_held)
+awaiting-clean b notes a clean = grind (arith, noted-clean, nothing-before, nothing-behind)
 
 -- if there is no fault after a line that isn't in the place of a row, none was before
 said-clean : (strict : Bool) (said : LineSaid) (notes : Notes) (number : ℕ)
@@ -118,10 +104,7 @@ quiet-clean : (silent : Bool) (notes : Notes) (a : Awaited) (number : ℕ) (row 
     → Clean (if silent then record notes { awaited = Some a } else with_row (record notes { awaited = None }) a number
     row)
     → Clean (record notes { awaited = Some a })
-quiet-clean true notes a number row clean = clean
-quiet-clean false notes a number row clean =
-    let before = row-clean row (record notes { awaited = None }) a number clean in
-    record { noted = before.0; none_held = before.1 }
+quiet-clean silent notes a number row clean = grind (arith, row-clean)
 
 -- if there is no fault after a line, none was before; the notes are given by their four parts
 line-clean : (strict : Bool) (list : List NumberedEvent) (faults : List ℕ) (presence : List Presence)
@@ -183,16 +166,12 @@ told-at : (lines : List (List ℕ)) (list : List NumberedEvent) (done : List (Li
     → number ≡ length lines + 1
     → Tells done (list ++ on_next_line lines told ∷ []) → Tells done
     (list ++ record { number = number; told = told } ∷ [])
-told-at lines list done number told is tells =
-    subst (λ (n : ℕ). Tells done (list ++ record { number = n; told = told } ∷ [])) (sym is) tells
+told-at lines list done number told is tells = grind (arith)
 
 -- whether a return can happen doesn't depend on what it shows
 pub cause-shown : (o : Option Presence) (session : ℕ) (one two : Shown)
     → cause_of o (Returns session one) ≡ cause_of o (Returns session two)
-cause-shown None session one two = refl
-cause-shown (Some Presence.Idle) session one two = refl
-cause-shown (Some Presence.Open) session one two = refl
-cause-shown (Some Presence.Lost) session one two = refl
+cause-shown o session one two = grind (arith)
 
 -- a return whose rows are to come is of a session below 17
 part-within : (done : List (List ℕ)) (a : Awaited) (list : List NumberedEvent) → Part done a list → a.session < 17
@@ -271,19 +250,7 @@ happens-next : (told : Told) (list : List NumberedEvent) (faults : List ℕ) (pr
     → Right (done ++ line ∷ []) (note_of (made list faults presence) number told)
 unfolding noted_if
 happens-next told list faults presence done number line is at within placed tells clean =
-    by (cause_of (slice_get presence (session_of told)) told) refl
-    (noted-clean (cause_of (slice_get presence (session_of told)) told) (made list faults presence) number told clean).1
-  where
-    by : (o : Option LineFault) → cause_of (slice_get presence (session_of told)) told ≡ o → o ≡ None
-        → Right (done ++ line ∷ []) (noted_if o (made list faults presence) number told)
-    by (Some fault) some fits = absurd (cc)
-    by None none fits_now =
-        let fits : Fits list told = sym (fits-here presence list told within placed) ∙ none in
-        record {
-          placed = placed-next presence list number told within placed fits;
-          stands = told-at done list (done ++ line ∷ []) number told at
-              (happens-tells told done list line is fits tells);
-        }
+    grind (arith, fits-here, happens-tells, noted-clean, placed-next, told-at)
 
 -- after a line that says that a connection was found closed the notes are right, if they have no fault
 closed-next : (session : ℕ) (list : List NumberedEvent) (faults : List ℕ) (presence : List Presence)
@@ -376,49 +343,20 @@ one-more line (suc missing) xid lines more is full said came =
 -- the one more
 longer : (done : List (List ℕ)) (line : List ℕ) (a : Awaited) (list : List NumberedEvent) (part : Part done a list)
     → done ++ line ∷ [] ≡ part.before ++ part.line ∷ (part.came ++ line ∷ [])
-longer done line a list part = ap (λ (l : List (List ℕ)). l ++ line ∷ []) part.parts
-    ∙ append_assoc part.before (part.line ∷ part.came) (line ∷ [])
+longer done line a list part = grind (arith, append_assoc)
 
 -- after a silent line the same rows are to come
 part-silent : (done : List (List ℕ)) (line : List ℕ) (a : Awaited) (list : List NumberedEvent)
     → (a.missing == 0) ≡ false → is_silent line ≡ true → Part done a list
     → Part (done ++ line ∷ []) a list
-part-silent done line a list is silent part = record {
-  before = part.before;
-  line = part.line;
-  came = part.came ++ line ∷ [];
-  count = part.count;
-  parts = longer done line a list part;
-  tells = part.tells;
-  says = part.says;
-  number = part.number;
-  extends = λ lines more came.
-      subst (λ (l : List (List ℕ)). RowsOf part.count l (a.rows ++ more))
-      (sym (append_assoc part.came (line ∷ []) lines))
-      (part.extends (line ∷ lines) more (silent-more line a.missing lines more is silent came));
-}
+part-silent done line a list is silent part = grind (arith, append_assoc, longer, silent-more)
 
 -- after a row's line one row less is to come
 part-row : (done : List (List ℕ)) (line : List ℕ) (a : Awaited) (list : List NumberedEvent) (xid : Xid)
     → (a.missing == 0) ≡ false → is_silent line ≡ false
     → row_said (unblank line) ≡ Some xid → Part done a list
     → Part (done ++ line ∷ []) (record a { missing = a.missing - 1; rows = a.rows ++ xid ∷ [] }) list
-part-row done line a list xid is full said part = record {
-  before = part.before;
-  line = part.line;
-  came = part.came ++ line ∷ [];
-  count = part.count;
-  parts = longer done line a list part;
-  tells = part.tells;
-  says = part.says;
-  number = part.number;
-  extends = λ lines more came.
-      subst (λ (l : List (List ℕ)). RowsOf part.count l ((a.rows ++ xid ∷ []) ++ more))
-      (sym (append_assoc part.came (line ∷ []) lines))
-      (subst (λ (l : List Xid). RowsOf part.count (part.came ++ line ∷ lines) l)
-      (sym (append_assoc a.rows (xid ∷ []) more))
-      (part.extends (line ∷ lines) (xid ∷ more) (one-more line a.missing xid lines more is full said came)));
-}
+part-row done line a list xid is full said part = grind (arith, append_assoc, longer, one-more)
 
 -- after a line in the place of a row that isn't silent the notes are right, if they have no fault
 row-next : (row : Option Xid) (list : List NumberedEvent) (faults : List ℕ) (presence : List Presence)
@@ -491,15 +429,12 @@ lines-next strict (line ∷ todo) done notes number at right clean =
 ended-clean : (awaited : Option Awaited) (notes : Notes) → (ended_by awaited notes).faults ≡ []
     → (notes.faults ≡ []) × (awaited ≡ None)
 unfolding blamed
-ended-clean None notes clean = (clean, refl)
-ended-clean (Some a) notes clean =
-    absurd (blamed-some notes.faults a.number LineFault.RowsMissing (nothing-before _ a.faults clean))
+ended-clean awaited notes clean = grind (arith, blamed-some, nothing-before)
 
 -- of right notes without a row to come the lines tell the events
 ended-tells : (lines : List (List ℕ)) (awaited : Option Awaited) (notes : Notes) → awaited ≡ None
     → Stands lines awaited notes.told → Tells lines (ended_by awaited notes).told
-ended-tells lines None notes none tells = tells
-ended-tells lines (Some a) notes none stands = absurd (cc)
+ended-tells lines awaited notes is tells = grind (arith)
 
 -- if nothing was written for faults, the lines tell what is read of them, with the texts of calls tested or not
 pub text-tells : (strict : Bool) (text : List ℕ) → (notes_by strict text).faults ≡ []

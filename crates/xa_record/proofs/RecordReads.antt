@@ -1,20 +1,19 @@
 -- Lines tell nothing but what is read of them.
-use Rattle.std.proofs.Common.{◌≡◌, ℕ, suc, ◌+◌, ◌-◌, ◌==◌, ◌<◌, Bool, true, false, if◌then◌else◌, Option, Some, None}
-use Rattle.std.proofs.Common.{List, [], ◌∷◌, ◌++◌, length, slice_get, slice_set, refl, ap, sym, ◌∙◌, subst, arith}
-use Rattle.std.{proofs.{Common.{append_assoc, append-nil}, lemmas.Bool.Decides.nat_tests}, specs.List.insert}
+use Rattle.std.proofs.Common.{◌≡◌, ℕ, suc, ◌+◌, ◌-◌, ◌==◌, ◌<◌, true, false, Option, Some, None, List, [], ◌∷◌, ◌++◌}
+use Rattle.std.proofs.Common.{length, slice_get, slice_set, refl, ap, sym, ◌∙◌, subst, arith, append_assoc, append-nil}
+use Rattle.std.{proofs.lemmas.Bool.Decides.nat_tests, specs.List.insert}
 use Rattle.xa_xid.specs.{Bytes.unblank, declared.xid.Xid.Xid}
 use Rattle.xa_lines.specs.Script.{lines_of}
 use Rattle.xa_record.specs.{declared.{line_fault.LineFault.LineFault, presence.Presence.Presence}, Lines.ShowsRows}
 use Rattle.xa_record.specs.Lines.{Told, Calls, Returns, ReturnsUnknown, Leaves, LineSaid, Nothing, Says, Awaits, Closed}
 use Rattle.xa_record.specs.{Lines.{is_silent, reading_of_line}, Rows.row_said, Reading.{NumberedEvent, Awaited, Notes}}
-use Rattle.xa_record.specs.Reading.{blamed_too, noted_if, closed_if, cause_of, session_of, presence_after, up_to_return}
-use Rattle.xa_record.specs.Reading.{returned, awaiting, with_row, noted_row, noted_said, noted_line, noted_lines}
-use Rattle.xa_record.specs.Reading.{no_notes, ended_by, notes_by, notes_of}
-use Rattle.xa_record.specs.{Records.{RowsOf, no_row, silent_row, one_row, EndsInReturn, HasNoReturn}}
-use Rattle.xa_record.specs.Records.{Fits, Tells, no_line, silent_line, call_line, return_line, rows_lines, unknown_line}
-use Rattle.xa_record.{specs.Records.{lost_line, gone_line}, proofs.{LastReturns.inserted, RecordLines.cause-shown}}
+use Rattle.xa_record.specs.Reading.{noted_if, closed_if, cause_of, session_of, presence_after, up_to_return, returned}
+use Rattle.xa_record.specs.Reading.{awaiting, with_row, noted_row, noted_said, noted_line, noted_lines, no_notes}
+use Rattle.xa_record.specs.{Reading.{notes_by, notes_of}, Records.{RowsOf, no_row, silent_row, one_row, EndsInReturn}}
+use Rattle.xa_record.specs.Records.{HasNoReturn, Fits, Tells, no_line, silent_line, call_line, return_line, rows_lines}
+use Rattle.xa_record.{specs.Records.{unknown_line, lost_line, gone_line}, proofs.LastReturns.inserted}
+use Rattle.xa_record.proofs.{RecordLines.cause-shown, SessionsWithin.{Within, line_within}}
 use Rattle.xa_record.proofs.Presences.{Placed, placed-none, fits-here, placed-next, placed-closed}
-use Rattle.xa_record.proofs.SessionsWithin.{Within, line_within}
 
 -- reading two lists of lines is reading the second from where the first ends
 noted_lines-append : (notes : Notes) (number : ℕ) (lines more : List (List ℕ))
@@ -54,12 +53,7 @@ lines-more : (lines : List (List ℕ)) (line : List ℕ) (more : List (List ℕ)
     → noted_lines false no_notes 1 (lines ++ line ∷ more) ≡ noted_lines false
     (noted_line false (noted list read.presence) (length lines + 1) line) (length lines + 1 + 1) more
 unfolding noted_lines
-lines-more lines line more list read =
-    noted_lines-append no_notes 1 lines (line ∷ more)
-    ∙ ap (λ (n : ℕ). noted_lines false (noted_line false (noted_lines false no_notes 1 lines) n line) (n + 1) more)
-    (omega arith)
-    ∙ ap (λ (n : Notes). noted_lines false (noted_line false n (length lines + 1) line)
-    (length lines + 1 + 1) more) read.is
+lines-more lines line more list read = grind (arith, noted_lines-append)
 
 -- without a line the notes stay
 no-more : (notes : Notes) (number : ℕ) → noted_lines false notes number [] ≡ notes
@@ -93,8 +87,7 @@ noted-so : (o : Option LineFault) (list : List NumberedEvent) (presence : List P
     ≡ noted (list ++ record { number = number; told = told } ∷ [])
     (slice_set presence (session_of told) (presence_after told))
 unfolding noted_if
-noted-so None list presence number told none = refl
-noted-so (Some fault) list presence number told some = absurd (cc)
+noted-so o list presence number told is = cc
 
 -- a loss without a fault is noted behind the session's last return
 closed-so : (o : Option LineFault) (list : List NumberedEvent) (presence : List Presence) (number session : ℕ)
@@ -103,8 +96,7 @@ closed-so : (o : Option LineFault) (list : List NumberedEvent) (presence : List 
     ≡ noted (insert list (up_to_return session list) (record { number = number; told = Leaves session }))
     (slice_set presence session Presence.Lost)
 unfolding closed_if
-closed-so None list presence number session none = refl
-closed-so (Some fault) list presence number session some = absurd (cc)
+closed-so o list presence number session is = cc
 
 -- a line that says an event which can happen is read as that event
 happens-read : (told : Told) (lines : List (List ℕ)) (line : List ℕ) (list : List NumberedEvent)
@@ -143,10 +135,6 @@ closed-read session lines line before after is ends_so last fits read =
           (inserted session before after one ends_so last);
     }
 
--- a number of missing rows that is 0 tests as 0
-zero-missing : (missing : ℕ) → missing ≡ 0 → (missing == 0) ≡ true
-zero-missing missing is = grind (arith, nat_tests)
-
 -- a number above 0 doesn't test as 0
 some-missing : (missing : ℕ) → 0 < missing → (missing == 0) ≡ false
 some-missing missing some = grind (arith, nat_tests)
@@ -154,25 +142,19 @@ some-missing missing some = grind (arith, nat_tests)
 -- while rows are missing the return is held back
 waits : (list : List NumberedEvent) (presence : List Presence) (a : Awaited) → 0 < a.missing
     → awaiting (noted list presence) a ≡ waiting list presence a
-waits list presence a some =
-    ap (λ (b : Bool). if b then returned (noted list presence) a else waiting list presence a)
-    (some-missing a.missing some)
+waits list presence a is = grind (arith, some-missing)
 
 -- once none of its rows is missing a return is noted, or its line blamed if it can't happen (`returned`)
 all-came : (list : List NumberedEvent) (presence : List Presence) (a : Awaited) → a.missing ≡ 0
     → awaiting (noted list presence) a ≡ returned (noted list presence) a
-all-came list presence a none =
-    ap (λ (b : Bool). if b then returned (noted list presence) a else waiting list presence a)
-    (zero-missing a.missing none)
+all-came list presence a is = cc
 
 -- a silent line among rows changes nothing
 come-silent : (list : List NumberedEvent) (presence : List Presence) (a : Awaited) (number : ℕ) (line : List ℕ)
     → is_silent line ≡ true
     → noted_line false (waiting list presence a) number line ≡ waiting list presence a
 unfolding noted_line noted_row
-come-silent list presence a number line silent =
-    ap (λ (b : Bool). if b then waiting list presence a else with_row (noted list presence) a number
-    (row_said (unblank line))) silent
+come-silent list presence a number line silent = cc
 
 -- a line among rows that isn't silent is read as a row
 come-row : (list : List NumberedEvent) (presence : List Presence) (a : Awaited) (number : ℕ) (line : List ℕ)
@@ -180,10 +162,7 @@ come-row : (list : List NumberedEvent) (presence : List Presence) (a : Awaited) 
     → row_said (unblank line) ≡ row → noted_line false (waiting list presence a) number line
     ≡ with_row (noted list presence) a number row
 unfolding noted_line noted_row
-come-row list presence a number line row full said =
-    ap (λ (b : Bool). if b then waiting list presence a else with_row (noted list presence) a number
-    (row_said (unblank line))) full
-    ∙ ap (with_row (noted list presence) a number) said
+come-row list presence a number line row full said = cc
 
 -- a row that can be read is added to those that came
 with-row-some : (list : List NumberedEvent) (presence : List Presence) (a : Awaited) (number : ℕ) (xid : Xid)
@@ -198,13 +177,7 @@ returned-so : (list : List NumberedEvent) (presence : List Presence) (a : Awaite
     → returned (noted list presence) a
     ≡ noted (list ++ record { number = a.number; told = Returns a.session (ShowsRows a.rows) } ∷ [])
     (slice_set presence a.session Presence.Idle)
-returned-so list presence a clean fits =
-    ap (λ (n : Notes). blamed_too n a.faults)
-    (noted-so _ list presence a.number (Returns a.session (ShowsRows a.rows))
-    (cause-shown (slice_get presence a.session) a.session (ShowsRows a.rows) (ShowsRows []) ∙ fits))
-    ∙ ap (λ (f : List ℕ). blamed_too (noted (list ++ record
-    { number = a.number; told = Returns a.session (ShowsRows a.rows) } ∷ [])
-    (slice_set presence a.session Presence.Idle)) f) clean
+returned-so list presence a clean fits = grind (arith, cause-shown, noted-so)
 
 -- if a return can happen, and no faulty line came, the lines of the rows that are missing are read as that return, with
 -- the rows that came and exactly these
@@ -302,8 +275,4 @@ lines-read lines list (gone_line before line front back session tells is ends_so
 pub text-told : (text : List ℕ) (list : List NumberedEvent) → Tells (lines_of text) list
     → ((notes_of text).faults ≡ []) × (list ≡ (notes_of text).told)
 unfolding notes_by
-text-told text list tells =
-    let read = lines-read (lines_of text) list tells in (
-      ap (λ (n : Notes). (ended_by n.awaited n).faults) read.is,
-      sym (ap (λ (n : Notes). (ended_by n.awaited n).told) read.is),
-    )
+text-told text list tells = grind (arith, lines-read)

@@ -15,11 +15,10 @@ use Rattle.xa_judge.specs.Explained.{observed, called, returned, lost, answered_
 use Rattle.xa_judge.{specs.Explained.LeadsThrough, proofs.Places.{same_number, get_written, get_apart, get_within}}
 use Rattle.xa_record.specs.declared.{allowance.Allowance.Allowance, statement_kind.StatementKind.StatementKind}
 use Rattle.xa_record.specs.{Lines.{Told, Calls, Returns, ReturnsUnknown, Leaves}, Reading.NumberedEvent}
-use Rattle.xa_record.specs.Allowances.{no_kinds, kinds_after}
+use Rattle.xa_record.specs.{Allowances.kinds_after, VerdictText.{call_text, text_of_call, with_call, no_calls}}
 use Rattle.xa_record.specs.Events.{request_read, request_called, IsEvent, AreEventsAfter, AreEvents}
-use Rattle.xa_record.specs.{VerdictText.{call_text, text_of_call, with_call, no_calls}, Replaying.HasNoFeed}
-use Rattle.xa_record.specs.Replaying.{effect_line, order_lines, open_request, IsEffectLine, AreEffects, IsWellCalled}
-use Rattle.xa_record.specs.Replaying.{IsWellTold, AreWellCalled}
+use Rattle.xa_record.specs.Replaying.{HasNoFeed, effect_line, order_lines, open_request, IsEffectLine, AreEffects}
+use Rattle.xa_record.specs.Replaying.{IsWellCalled, IsWellTold, AreWellCalled}
 use Rattle.xa_record.proofs.LinesBack.{line_back, line_feed, call_bare, call_feed, call_back}
 
 -- the list has, at the session's number, the text of this request, which is well called
@@ -46,31 +45,16 @@ length-kept (y ∷ list) (suc place) x = ap suc (length-kept list place x)
 kept_without : (calls : List (List ℕ)) (clients : List ClientState) (session : ℕ) (before next : ClientState)
     → slice_get clients session ≡ Some before
     → open_request (Some next) ≡ None → Kept calls clients → Kept calls (set clients session next)
-kept_without calls clients session before next found none kept = record {
-  long = kept.long ∙ sym (length-kept clients session next);
-  each = λ other request opened. elim (same_number session other) [
-    | inl same ↦ absurd (none-some request
-        (sym none ∙ ap open_request (sym (get_written clients session before next found))
-        ∙ ap (λ (n : ℕ). open_request (slice_get (set clients session next) n)) same ∙ opened))
-    | inr apart ↦ kept.each other request (sym (ap open_request (get_apart clients session other next apart)) ∙ opened)
-  ];
-}
+kept_without calls clients session before next found is kept =
+    grind (arith, get_apart, get_written, length-kept, none-some, same_number)
 
 -- the texts are still kept after a client is changed to one with the same open request
 kept_same : (calls : List (List ℕ)) (clients : List ClientState) (session : ℕ) (before next : ClientState)
     → slice_get clients session ≡ Some before
     → open_request (Some next) ≡ open_request (Some before) → Kept calls clients
     → Kept calls (set clients session next)
-kept_same calls clients session before next found same_open kept = record {
-  long = kept.long ∙ sym (length-kept clients session next);
-  each = λ other request opened. elim (same_number session other) [
-    | inl same ↦ subst (λ (n : ℕ). KeepsText calls n request) same
-        (kept.each session request
-        (ap open_request found ∙ sym same_open ∙ ap open_request (sym (get_written clients session before next found))
-        ∙ ap (λ (n : ℕ). open_request (slice_get (set clients session next) n)) same ∙ opened))
-    | inr apart ↦ kept.each other request (sym (ap open_request (get_apart clients session other next apart)) ∙ opened)
-  ];
-}
+kept_same calls clients session before next found same_open kept =
+    grind (arith, get_apart, get_written, length-kept, same_number)
 
 -- the texts are still kept after a session called for a text that is well called, and that is its open request now
 kept_call : (calls : List (List ℕ)) (clients : List ClientState) (session : ℕ) (text : List ℕ)
@@ -362,6 +346,4 @@ pub order_gives : (base : State) (allowances : List Allowance) (numbered : List 
     → AreWellCalled numbered → AreEvents allowances numbered events
     → LeadsThrough (opening_config base) events moves new
     → AreEffects (opening_config base) events moves (order_lines no_calls numbered moves)
-order_gives base allowances numbered events moves new well are runs =
-    are_effects allowances no_kinds no_calls numbered events moves (opening_config base) new well are
-    (none_kept base) runs
+order_gives base allowances numbered events moves new well are runs = grind (arith, are_effects, none_kept)

@@ -1,15 +1,13 @@
 -- What is told of a record of which no line is faulty.
-use Rattle.std.proofs.Common.{◌≡◌, ℕ, ◌==◌, true, false, Result, Ok, Err, IfOk, List, [], ◌∷◌, length, map, refl}
-use Rattle.std.proofs.{Common.arith, lemmas.{List.Elements.recursion_from_All, Grind.common_steps}}
-use Rattle.std.specs.List.{All}
+use Rattle.std.proofs.Common.{◌≡◌, ℕ, ◌==◌, true, false, Result, IfOk, List, [], ◌∷◌, length, map, arith}
+use Rattle.std.{proofs.lemmas.{List.Elements.recursion_from_All, Grind.common_steps}, specs.List.All}
 use Rattle.xa_server.specs.State.{State}
 use Rattle.xa_judge.specs.{declared.{event.Event.Event, verdict.Verdict.Verdict}, Verdicts.IsVerdict}
 use Rattle.xa_record.specs.declared.{allowance.Allowance.Allowance, asked.Asked.Asked}
 use Rattle.xa_record.specs.declared.line_event.NumberedEvent.{NumberedEvent as NumberedRead}
 use Rattle.xa_record.specs.{declared.report.Report.Report as ReportMade, Reading.NumberedEvent, Events.AreEvents}
 use Rattle.xa_record.specs.{Judged.{IsJudgement, IsReportedBy}, Kept.{numbered_kept, report_kept}}
-use Rattle.xa_record.specs.{Replaying.{AreBare, IsWrittenCall}, Reports.IsReportOf}
-use Rattle.xa_record.proofs.Replays.{bare_replayed}
+use Rattle.xa_record.{specs.{Replaying.{AreBare, IsWrittenCall}, Reports.IsReportOf}, proofs.Replays.bare_replayed}
 
 -- the report of a right verdict on the events that lines say is a judgement of these lines, if the texts of calls are
 -- bare, and supported statements among them are written back
@@ -20,17 +18,8 @@ pub judgement_of : {E : Type 0} (result : Result ReportMade E) (base : State) (a
     → IsVerdict base events asked.limit verdict
     → IfOk result (λ report. IsReportOf base allowances lines asked numbered events verdict (report_kept report))
     → IfOk result (λ report. IsJudgement base allowances lines numbered asked (report_kept report))
-judgement_of (Ok report) base allowances lines numbered asked events verdict bare are written right told =
-    record {
-      events = events;
-      verdict = verdict;
-      are = are;
-      right = right;
-      replayed = bare_replayed base allowances numbered events asked.limit verdict bare are
-          (recursion_from_All IsWrittenCall events written) right;
-      is = told;
-    }
-judgement_of (Err fault) base allowances lines numbered asked events verdict bare are written right told = tt
+judgement_of result base allowances lines numbered asked events verdict bare are written right told =
+    grind (arith, bare_replayed, recursion_from_All)
 
 -- if no line is faulty and there is an event, a judgement on the events is the report of what was read
 pub reported : {E : Type 0} (result : Result ReportMade E) (base : State) (allowances : List Allowance)
@@ -45,6 +34,4 @@ reported result base allowances lines [] (one ∷ numbered) asked none some is =
 
 -- a text whose length tests as 0 is empty: no line was faulty
 pub no_fault : (faults : List ℕ) → (length faults == 0) ≡ true → faults ≡ []
-no_fault [] empty = refl
-no_fault (byte ∷ faults) empty =
-    absurd (let none : length (byte ∷ faults) ≡ 0 = grind (arith, common_steps) in omega arith)
+no_fault faults empty = grind (arith, common_steps)

@@ -72,17 +72,8 @@ up_to_return-left whole session numbered last place one next within at is found 
     ∙ up_to_return-other session (map numbered_kept (take last numbered)) (numbered_kept one)
     (there-is session numbered last one at ∙ is)
 
--- among no events there is no return
-first_none : (session : ℕ) (numbered : List NumberedRead)
-    → up_to_return session (map numbered_kept (take 0 numbered)) ≡ 0
-unfolding up_to_return
-first_none session [] = refl
-first_none session (one ∷ numbered) = refl
-
 -- the loop from the last event down ends: no event is left, so the session has no return
 pub up_to_return-none : (whole session : ℕ) (numbered : List NumberedRead) (place : ℕ) → place ≡ 0
     → whole ≡ up_to_return session (map numbered_kept (take place numbered)) → 0 ≡ whole
 unfolding up_to_return
-up_to_return-none whole session numbered place none found =
-    sym (found ∙ ap (λ (n : ℕ). up_to_return session (map numbered_kept (take n numbered))) none
-    ∙ first_none session numbered)
+up_to_return-none whole session numbered place is found = cc

@@ -1,16 +1,15 @@
 -- The committed values of rows, before and after a statement.
 --     named_after, named_made     the same where the key was noted;  and after all rows and branches were made
-use Rattle.std.proofs.Common.{◌≡◌, ◌≢◌, ℕ, List, [], ◌∷◌, ◌++◌, ◌⊎◌, true, false, inl, inr, refl, ap, sym, ◌∙◌, subst}
-use Rattle.std.proofs.{Common.arith, lemmas.List.Elements.{Contains-append_left, Contains-append_right}}
-use Rattle.std.specs.{Prelude.{Option, Some, None}, List.Contains, Option.option_map_or, Ordering.eq_by_cmp}
-use Rattle.std.specs.FinMap.{get-empty}
+use Rattle.std.proofs.Common.{◌≡◌, ◌≢◌, ℕ, List, [], ◌∷◌, ◌++◌, ◌⊎◌, true, false, inl, inr, ap, sym, ◌∙◌, arith}
+use Rattle.std.{proofs.lemmas.List.Elements.{Contains-append_left, Contains-append_right}, specs.Prelude.{Some, None}}
+use Rattle.std.specs.{List.Contains, Ordering.eq_by_cmp, FinMap.get-empty}
 use mathlib.Core.Bool.{true≢false}
 use Rattle.xa_xid.specs.{declared.{xid.Xid.Xid, statement.Statement.Statement}, Xid.{Text, bytes_cmp}}
 use Rattle.xa_xid.proofs.Orders.{bytes_total, exact_texts}
 use Rattle.xa_server.specs.declared.{reply.Reply.Reply, xa_error.{XaError.XaError, BranchState.BranchState}}
 use Rattle.xa_server.specs.declared.association.Association.{Association}
 use Rattle.xa_server.specs.{State.{Branch, State, no_state, association_of}, Replies.{table, reply_to}}
-use Rattle.xa_server.specs.Step.{with_branch, with_changed, with_own_write, unless_refused, effect, after}
+use Rattle.xa_server.specs.Step.{with_changed, with_own_write, unless_refused, effect, after}
 use Rattle.xa_server.proofs.Maps.{same_or_apart, get_inserted_apart}
 use Rattle.xa_lines.specs.Listing.{listing}
 use Rattle.xa_record.specs.States.{NamesAllRows, IsStateOf, leaves_rows}
@@ -19,54 +18,26 @@ use Rattle.std.specs.FinMap as map
 -- changing a branch changes no committed value
 changed_rows : (state : State) (xid : Xid) (change : Branch → Branch)
     → (with_changed state xid change).rows ≡ state.rows
-changed_rows state xid change = by (map.get state.branches xid)
-  where
-    by : (found : Option Branch)
-        → (option_map_or (λ branch. with_branch state xid (change branch)) found state).rows ≡ state.rows
-    by None = refl
-    by (Some branch) = refl
+changed_rows state xid change = grind (arith)
 
 -- a statement that leaves rows (`leaves_rows`) has no effect on committed values
 effect_rows : (state : State) (session : ℕ) (association : Association) (statement : Statement)
     → leaves_rows association statement ≡ true
     → (effect state session association statement).rows ≡ state.rows
 unfolding effect
-effect_rows state session association (Statement.Start xid) is = refl
-effect_rows state session association (Statement.End xid) is = changed_rows state xid _
-effect_rows state session association (Statement.Prepare xid) is = changed_rows state xid _
-effect_rows state session association (Statement.Commit xid one_phase) is = absurd (true≢false (sym is))
-effect_rows state session association (Statement.Rollback xid) is = refl
-effect_rows state session association (Statement.Recover convert) is = refl
-effect_rows state session association Statement.Unsupported is = refl
-effect_rows state session Association.Free (Statement.Get key) is = refl
-effect_rows state session (Association.Active own) (Statement.Get key) is = changed_rows state own _
-effect_rows state session (Association.Idle own) (Statement.Get key) is = refl
-effect_rows state session Association.Free (Statement.Put key value) is = absurd (true≢false (sym is))
-effect_rows state session (Association.Active own) (Statement.Put key value) is = changed_rows state own _
-effect_rows state session (Association.Idle own) (Statement.Put key value) is = refl
-effect_rows state session Association.Free (Statement.Del key) is = absurd (true≢false (sym is))
-effect_rows state session (Association.Active own) (Statement.Del key) is = changed_rows state own _
-effect_rows state session (Association.Idle own) (Statement.Del key) is = refl
-effect_rows state session Association.Free Statement.Disconnect is = refl
-effect_rows state session (Association.Active own) Statement.Disconnect is = refl
-effect_rows state session (Association.Idle own) Statement.Disconnect is = refl
+effect_rows state session association statement is = grind (arith, changed_rows, true≢false)
 
 -- a statement that leaves committed values leaves them if it is refused, too
 unless_rows : (reply : Reply) (state new : State) → new.rows ≡ state.rows
     → (unless_refused reply state new).rows ≡ state.rows
-unless_rows Reply.Ok state new same = same
-unless_rows (Reply.Value value) state new same = same
-unless_rows (Reply.Recovered xids) state new same = same
-unless_rows (Reply.Refused error) state new same = refl
+unless_rows reply state new same = grind (arith)
 
 -- after a statement that leaves rows (`leaves_rows`) all committed values are as before
 pub rows_left : (state : State) (session : ℕ) (statement : Statement)
     → leaves_rows (association_of state session) statement ≡ true
     → (after state session statement).rows ≡ state.rows
 unfolding after
-rows_left state session statement is =
-    unless_rows (reply_to state session statement) state (effect state session (association_of state session) statement)
-    (effect_rows state session (association_of state session) statement is)
+rows_left state session statement is = grind (arith, effect_rows, unless_rows)
 
 -- keys with one more at the end contain that one
 at_end : (keys : List (List ℕ)) (key other : List ℕ) → other ≡ key → Contains (keys ++ key ∷ []) other
@@ -82,9 +53,7 @@ named_still state keys key all = record {
 -- whether keys name all rows depends on the rows alone
 pub named_by_rows : (state new : State) (keys : List (List ℕ)) → new.rows ≡ state.rows → NamesAllRows keys state
     → NamesAllRows keys new
-named_by_rows state new keys same all = record {
-  names = λ other has. all.names other (λ none. has (ap (λ rows. map.get rows other) same ∙ none));
-}
+named_by_rows state new keys same all = grind (arith)
 
 -- after a row was put in, a key that has a value, be it the row's or another, is among the keys with the row's own
 named_put : (state : State) (keys : List (List ℕ)) (key : List ℕ) (value : Text) (other : List ℕ)
@@ -115,20 +84,14 @@ named_by_effect state session (Association.Idle own) keys key value all = named_
 unless_named : (reply : Reply) (state new : State) (keys : List (List ℕ)) → NamesAllRows keys state
     → NamesAllRows keys new
     → NamesAllRows keys (unless_refused reply state new)
-unless_named Reply.Ok state new keys old after = after
-unless_named (Reply.Value value) state new keys old after = after
-unless_named (Reply.Recovered xids) state new keys old after = after
-unless_named (Reply.Refused error) state new keys old after = old
+unless_named reply state new keys old after = grind (arith)
 
 -- after a `PUT`, carried out or refused, the keys with its own name all rows
 pub row_named : (state : State) (session : ℕ) (keys : List (List ℕ)) (key : List ℕ) (value : Text)
     → NamesAllRows keys state
     → NamesAllRows (keys ++ key ∷ []) (after state session (Statement.Put key value))
 unfolding after
-row_named state session keys key value all =
-    unless_named (reply_to state session (Statement.Put key value)) state
-    (effect state session (association_of state session) (Statement.Put key value)) (keys ++ key ∷ [])
-    (named_still state keys key all) (named_by_effect state session (association_of state session) keys key value all)
+row_named state session keys key value all = grind (arith, named_by_effect, named_still, unless_named)
 
 -- any keys name all rows of a server that holds nothing
 pub none_named : (state : State) (keys : List (List ℕ)) → state ≡ no_state → NamesAllRows keys state
@@ -141,18 +104,14 @@ none_named state keys is = record {
 pub named_after : (state new : State) (session : ℕ) (keys longer : List (List ℕ)) (key : List ℕ) (value : Text)
     → longer ≡ keys ++ key ∷ [] → new ≡ after state session (Statement.Put key value)
     → NamesAllRows keys state → NamesAllRows longer new
-named_after state new session keys longer key value is done named =
-    subst (λ (s : State). NamesAllRows longer s) (sym done)
-    (subst (λ (l : List (List ℕ)). NamesAllRows l (after state session (Statement.Put key value))) (sym is)
-    (row_named state session keys key value named))
+named_after state new session keys longer key value is done named = grind (arith, row_named)
 
 -- if rows were made over a server that holds nothing, and then branches, which leave rows as they are, the noted keys
 -- name all rows
 pub named_made : (empty rows prepared made : State) (none keys : List (List ℕ)) → empty ≡ no_state
     → (NamesAllRows none empty → NamesAllRows keys rows) → prepared.rows ≡ rows.rows → made.rows ≡ prepared.rows
     → NamesAllRows keys made
-named_made empty rows prepared made none keys is taken one two =
-    named_by_rows prepared made keys two (named_by_rows rows prepared keys one (taken (none_named empty none is)))
+named_made empty rows prepared made none keys is taken one two = grind (arith, named_by_rows, none_named)
 
 -- a text that is a server's listing, of keys among which is each that has a value, is a text of its state
 pub is_listed : (text : List ℕ) (state : State) (keys : List (List ℕ)) → text ≡ listing state keys

@@ -1,5 +1,5 @@
 -- A text without the blanks at its end.
-use Rattle.std.proofs.Common.{◌≡◌, ℕ, true, false, List, [], ◌∷◌, ◌++◌, reverse, length, refl, ap, sym, ◌∙◌, arith}
+use Rattle.std.proofs.Common.{◌≡◌, ℕ, true, false, List, [], ◌∷◌, ◌++◌, reverse, length, refl, sym, ◌∙◌, arith}
 use Rattle.std.proofs.lemmas.List.{reverse-append, reverse-reverse}
 use Rattle.xa_xid.specs.{Bytes.{belongs, behind}, declared.byte_class.ByteClass.TheVariants.Blank}
 use Rattle.xa_record.specs.Lines.{trimmed}
@@ -23,8 +23,7 @@ trimmed_blank front last blank = rw (reversed front last, blank) refl
 pub trimmed_full : (front : List ℕ) (last : ℕ) → belongs Blank last ≡ false
     → trimmed (front ++ last ∷ []) ≡ front ++ last ∷ []
 unfolding trimmed behind
-trimmed_full front last full =
-    rw (reversed front last, full) (ap reverse (sym (reversed front last)) ∙ reverse-reverse (front ++ last ∷ []))
+trimmed_full front last full = grind (arith, reverse, reverse-reverse, reversed)
 
 -- if all was trimmed away, the trimmed text is empty
 pub trimmed_over : (text rest : List ℕ) → trimmed text ≡ trimmed rest → length rest ≡ 0 → rest ≡ trimmed text
