@@ -1,21 +1,22 @@
 -- Which statements calls add in the stores.
 use Rattle.std.proofs.Common.{◌≡◌, ◌⊎◌, ℕ, Bool, true, false, List, [], ◌∷◌, ◌++◌, map, refl, ap, sym, ◌∙◌, subst, inl}
-use Rattle.std.proofs.{Common.{inr, append-nil, append_assoc, Result, Ok, Err}, lemmas.List.map-append}
+use Rattle.std.proofs.{Common.{inr, append-nil, append_assoc, Result, Ok, Err, arith}, lemmas.List.map-append}
 use Rattle.std.proofs.lemmas.List.Elements.{All-nil, All-cons, All-append, All-head, All-tail, All-contains}
-use Rattle.std.proofs.lemmas.List.Elements.{Contains-append_left, Contains-append_cases}
+use Rattle.std.proofs.lemmas.{List.Elements.Contains-append_cases, Bool.Decides.nat_tests, Grind.common_steps}
 use Rattle.std.specs.Prelude.{slice_get, Option, All, Contains}
 use Rattle.xa_words.specs.Entry.{Entry}
 use Rattle.xa_xid.specs.declared.{xid.Xid.Xid, statement.Statement.Statement}
 use Rattle.xa_xid.specs.declared.statement.Statement.TheVariants.{Start, End, Prepare, Commit, Rollback, Disconnect}
 use Rattle.xa_server.specs.{Step.enters, declared.reply.Reply.Reply}
-use Rattle.xa_session.specs.{Answer.entry_of, Replay.state_at, View.SessionView}
+use Rattle.xa_session.specs.{Answer.{entry_of, IsAnswered}, Replay.state_at, View.SessionView}
+use Rattle.xa_session.specs.declared.answer.Answer.{Answer}
 use Rattle.xa_coordinator.specs.{Agreement.AddsStatements, Branch.IsBranchOf, Decisions.is_decided, Outcomes.branch_of}
 use Rattle.xa_coordinator.specs.Outcomes.{finish_statement, ends_in, lists_store, IsClosed, Settles, SettlesIn, IsVoted}
 use Rattle.xa_coordinator.specs.{Outcomes.{IsEnded, EndsAs, VotesAs}, Participants.takes_part, Recovery.IsDisconnected}
 use Rattle.xa_coordinator.specs.Recovery.{SettlesOne, foreign, committed, rolled_back, missing, Settled, nothing}
 use Rattle.xa_coordinator.specs.{Recovery.{one_more, IsRecovered}, Stores.{AtStore, EachStore, ChangesAt}}
 use Rattle.xa_coordinator.specs.Told.{IsUndone, IsUndoneBehind, IsStopped, IsMissing, IsUnfinished}
-use Rattle.xa_coordinator.specs.Work.{MayBe, MayStart, was_open, was_started, IsReplied, IsWorked, IsCut, WorksAs}
+use Rattle.xa_coordinator.specs.Work.{MayStart, was_open, was_started, IsWorked, IsCut, WorksAs}
 use Rattle.xa_coordinator.specs.declared.{branches.OpenBranch.OpenBranch, closing.Closing.Closing}
 use Rattle.xa_coordinator.specs.declared.{decisions.Decision.Decision, ending.Ending.Ending, fault.Cause.Cause}
 use Rattle.xa_coordinator.specs.declared.ending.Ending.TheVariants.{Committed, RolledBack, Hazard, Unfinished}
@@ -32,20 +33,22 @@ pub record AddsOnly (kind : Statement → Type 0) (old new : SessionView) : Type
 
 -- in these lemmas each statement that may have been added is of the kind; so the session added only such (`AddsOnly`)
 module _ (kind : Statement → Type 0) where
+  -- a session that knows what it knew has added nothing
+  pub adds_known : (old new : SessionView) → new.known ≡ old.known → AddsOnly kind old new
+  adds_known old new same = grind (arith, append-nil)
+
   -- a session, compared with itself, has added nothing
   pub adds_none : (session : SessionView) → AddsOnly kind session session
-  adds_none session =
-      record { statements = []; number = refl; mine = sym (append-nil session.known.mine); each = All-nil kind }
+  adds_none session = adds_known session session refl
 
   -- a session that is as it was has added nothing
-  adds_same : (old new : SessionView) → new ≡ old → AddsOnly kind old new
-  adds_same old new is = subst (λ s. AddsOnly kind old s) (sym is) (adds_none old)
+  pub adds_same : (old new : SessionView) → new ≡ old → AddsOnly kind old new
+  adds_same old new is = adds_known old new (ap (λ s. s.known) is)
 
   -- a session that added statements, each of the kind, added only such
   adds_these : (statements : List Statement) (old new : SessionView) → All kind statements
       → AddsStatements statements old new → AddsOnly kind old new
-  adds_these statements old new each adds =
-      record { statements = statements; number = adds.advances.number; mine = adds.mine; each = each }
+  adds_these statements old new each adds = grind (arith)
 
   -- a session that added one statement, of the kind, added only such
   adds_one : (statement : Statement) (old new : SessionView) → kind statement → AddsStatements (statement ∷ []) old new
@@ -93,16 +96,13 @@ module _ (kind : Statement → Type 0) where
   -- if a statement wasn't carried out, or the XA END before it wasn't, at most the XA END was added
   stopped : (ends : Bool) (statement : Statement) (xid : Xid) (cause : Cause) (old new : SessionView) → kind (End xid)
       → IsStopped ends statement xid cause old new → AddsOnly kind old new
-  stopped false statement xid cause old new may is = undone statement cause old new is
-  stopped true statement xid cause old new may (inl is) = undone (End xid) cause old new is
-  stopped true statement xid cause old new may (inr is) = undone_behind statement xid cause old new may is
+  stopped ends statement xid cause old new may is = grind (arith, undone, undone_behind)
 
   -- if a statement was answered XAER_NOTA, at most the XA END before it was added
   missed : (ends : Bool) (statement : Statement) (xid : Xid) (old new : SessionView) → kind (End xid)
       → IsMissing ends statement xid old new
       → AddsOnly kind old new
-  missed false statement xid old new may is = undone statement _ old new is
-  missed true statement xid old new may is = undone_behind statement xid _ old new may is
+  missed ends statement xid old new may is = grind (arith, undone, undone_behind)
 
   -- if a branch wasn't finished, at most the XA END was added
   unfinished : (ends : Bool) (statement : Statement) (xid : Xid) (cause : Cause) (old new : SessionView)
@@ -116,47 +116,42 @@ module _ (kind : Statement → Type 0) where
   closed : (ends : Bool) (statement : Statement) (xid : Xid) (old new : SessionView) → kind (End xid) → kind statement
       → IsClosed ends statement xid old new
       → AddsOnly kind old new
-  closed false statement xid old new may is adds = adds_one statement old new is adds.adds
-  closed true statement xid old new may is adds = adds_two (End xid) statement old new may is adds.adds
+  closed ends statement xid old new may is adds = grind (arith, adds_one, adds_two)
 
   -- a store that finishing reached added at most XA END and the finishing statement, and nothing if it takes no part
   settles : (ends : Bool) (statement : Statement) (xid : Xid) (takes listed : Bool) (old new : SessionView)
       → kind (End xid)
       → (takes ≡ true → kind statement) → Settles ends statement xid takes listed old new → AddsOnly kind old new
-  settles ends statement xid false listed old new may is same = adds_same old new same
-  settles ends statement xid true false old new may is closes = closed ends statement xid old new may (is refl) closes
-  settles ends statement xid true true old new may is misses = missed ends statement xid old new may misses
+  settles ends statement xid takes listed old new may is same = grind (arith, adds_same, closed, missed)
 
   -- a store that preparing reached added XA END and XA PREPARE, or nothing if it takes no part
   voted : (xid : Xid) (takes : Bool) (old new : SessionView) → kind (End xid) → kind (Prepare xid)
       → IsVoted xid takes old new → AddsOnly kind old new
-  voted xid false old new may is same = adds_same old new same
-  voted xid true old new may is adds = adds_two (End xid) (Prepare xid) old new may is adds.adds
+  voted xid takes old new may is same = grind (arith, adds_same, adds_two)
 
   -- after a vote of One Phase the only participant added XA END, and any other store nothing
   ended : (xid : Xid) (takes : Bool) (old new : SessionView) → kind (End xid) → IsEnded xid takes old new
       → AddsOnly kind old new
-  ended xid false old new may same = adds_same old new same
-  ended xid true old new may adds = adds_one (End xid) old new may adds.adds
+  ended xid takes old new may same = grind (arith, adds_one, adds_same)
 
-  -- a row statement that was answered, which is of the kind, was added or not
-  replied : (row : Statement) (reply : Reply) (xid : Xid) (old new : SessionView) → kind row
-      → IsReplied row reply xid old new → AddsOnly kind old new
-  replied row reply xid old new may is =
-      by (enters (state_at old.base new.known.seen is.place) old.known.number row) refl
+  -- a statement that was answered, which is of the kind, was added or not
+  pub answered : (statement : Statement) (answer : Answer) (old new : SessionView) → kind statement
+      → IsAnswered old.base statement answer old.known new.known → AddsOnly kind old new
+  answered statement answer old new may is =
+      by (enters (state_at old.base new.known.seen answer.place) old.known.number statement) refl
     where
-      by : (b : Bool) → enters (state_at old.base new.known.seen is.place) old.known.number row ≡ b
+      by : (b : Bool) → enters (state_at old.base new.known.seen answer.place) old.known.number statement ≡ b
           → AddsOnly kind old new
       by true entering = record {
-        statements = row ∷ [];
-        number = is.answered.advances.number;
-        mine = (is.answered.entered entering).mine;
-        each = All-cons kind row [] may (All-nil kind);
+        statements = statement ∷ [];
+        number = is.advances.number;
+        mine = (is.entered entering).mine;
+        each = All-cons kind statement [] may (All-nil kind);
       }
       by false outside = record {
         statements = [];
-        number = is.answered.advances.number;
-        mine = (is.answered.outside outside).mine ∙ sym (append-nil old.known.mine);
+        number = is.advances.number;
+        mine = (is.outside outside).mine ∙ sym (append-nil old.known.mine);
         each = All-nil kind;
       }
 
@@ -171,14 +166,7 @@ module _ (kind : Statement → Type 0) where
   -- ---- recovery
   -- of DISCONNECT, which is of the kind, one or none was added
   disconnected : (old new : SessionView) → kind Disconnect → IsDisconnected old new → AddsOnly kind old new
-  disconnected old new may is = by is.statements is.is is.adds
-    where
-      by : (statements : List Statement) → MayBe Disconnect statements → AddsStatements statements old new
-          → AddsOnly kind old new
-      by statements (inl none) adds =
-          adds_these [] old new (All-nil kind) (subst (λ list. AddsStatements list old new) none adds)
-      by statements (inr one) adds =
-          adds_one Disconnect old new may (subst (λ list. AddsStatements list old new) one adds)
+  disconnected old new may is = grind (arith, adds_one, adds_these)
 
   -- the kind has XA COMMIT of each decided branch of the coordinator's naming, and XA ROLLBACK of each undecided one
   module _ (decisions : List Decision) (name : List ℕ) (store : ℕ)
@@ -243,9 +231,7 @@ added_or_there kind old new entry adds there =
 pub stays_there : (kind : Statement → Type 0) (old new : SessionView) (entry : Entry) → AddsOnly kind old new
     → Contains old.known.mine entry
     → Contains new.known.mine entry
-stays_there kind old new entry adds there =
-    subst (λ list. Contains list entry) (sym adds.mine) (Contains-append_left old.known.mine
-    (map (entry_of old.known.number) adds.statements) entry there)
+stays_there kind old new entry adds there = grind (arith, common_steps, nat_tests)
 
 -- ---- in each store
 module _ {S : Type 0} (view : S → SessionView) (kind : ℕ → Statement → Type 0) where
@@ -304,9 +290,7 @@ module _ {S : Type 0} (view : S → SessionView) (kind : ℕ → Statement → T
       (λ a b left. stopped (kind last) true (Prepare (branch_of transaction last))
       (branch_of transaction last) cause a b (ends last) left)
       (λ other a. adds_none (kind other) a) store
-  vote_adds transaction Vote.Nothing old new ends prepares is store =
-      at_same view store (AddsOnly (kind store)) (λ a. adds_none (kind store) a) old new
-      (ap (λ list. slice_get list store) is.1)
+  vote_adds transaction Vote.Nothing old new ends prepares is store = grind (arith, adds_none, at_same)
 
   -- work adds in each store only statements of its kind, if that of the store that works has the row statement and,
   -- where that store takes part then, the branch's XA START
@@ -334,7 +318,8 @@ module _ {S : Type 0} (view : S → SessionView) (kind : ℕ → Statement → T
           at_weaker view store _ (AddsOnly (kind store))
           (λ (a b : SessionView) (worked : IsWorked row reply xid a b). started (kind store) xid a worked.mid b
           (starts is.0) worked.opened
-          (replied (kind store) row reply xid worked.mid b may worked.replied)) old new is.2
+          (answered (kind store) row (record { place = worked.replied.place; reply = reply }) worked.mid b may
+          worked.replied.answered)) old new is.2
       by (Err (Session fault)) (inl is) = at_weaker view store _ (AddsOnly (kind store)) (cut _ is.0) old new is.2
       by (Err (Session fault)) (inr is) =
           at_weaker view store _ (AddsOnly (kind store)) (undone (kind store) _ _) old new is.3
@@ -349,11 +334,4 @@ pub work_keeps : {S : Type 0} (view : S → SessionView) (marks marks' : List (O
     (answer : Result Reply WorkFault) (old new : List S) → WorksAs view marks marks' before after store row answer old
     new
     → takes_part before.participants store ≡ true → takes_part after.participants store ≡ true
-work_keeps view marks marks' before after store row (Ok reply) old new is takes = is.0
-work_keeps view marks marks' before after store row (Err (Session fault)) old new (inl is) takes = is.0
-work_keeps view marks marks' before after store row (Err (Session fault)) old new (inr is) takes =
-    ap (λ (t : Transaction). takes_part t.participants store) is.0 ∙ takes
-work_keeps view marks marks' before after store row (Err (Refused error)) old new is takes =
-    ap (λ (t : Transaction). takes_part t.participants store) is.0 ∙ takes
-work_keeps view marks marks' before after store row (Err Lost) old new is takes =
-    ap (λ (t : Transaction). takes_part t.participants store) is.0 ∙ takes
+work_keeps view marks marks' before after store row answer old new is takes = grind (arith)

@@ -1,6 +1,6 @@
 -- A manager whose sessions hold the other clients' beside them: its calls leave those alone, but for AT and SHOW.
-use Rattle.std.proofs.Common.{◌≡◌, ◌∙◌, ◌+◌, ℕ, suc, List, [], ◌∷◌, ◌++◌, length, map, refl, ap, sym, subst, Result, Ok}
-use Rattle.std.{proofs.Common.{Err, inl, inr, ⊎_elim, arith}, specs.Prelude.{true, IfOk}}
+use Rattle.std.proofs.Common.{◌≡◌, ◌∙◌, ◌+◌, ℕ, suc, List, [], ◌∷◌, ◌++◌, length, map, refl, ap, sym, subst, Result}
+use Rattle.std.{proofs.Common.{inl, inr, ⊎_elim, arith}, specs.Prelude.{true, IfOk}}
 use Rattle.xa_xid.specs.declared.statement.Statement.{Statement, TheVariants.Recover as RecoverStatement}
 use Rattle.xa_server.specs.declared.reply.Reply.{Reply}
 use Rattle.xa_session.specs.{View.{SessionView, StaysOfLog}, declared.{answer.Answer.Answer, fault.Fault.Fault}}
@@ -93,40 +93,15 @@ module _ {S : Type 0} (view other : S → SessionView) (steady : (old new : S) �
 pub given_so : (statement : Statement) (answered : Result Answer Fault) (old new : SessionView)
     → IsAnsweredSo statement answered old new
     → IsGiven statement (reply_of answered) old new
-given_so statement (Ok answer) old new is = record { log = is.log; replies = (answer.place, is.answers) }
-given_so statement (Err fault) old new is = record { log = is.log; replies = is.answers }
+given_so statement answered old new is = grind (arith)
 
 -- a session to which nothing is said is left alone
 alone_itself : (a : SessionView) → IsLeftAlone a a
-alone_itself a = record {
-  identity = refl;
-  turns = refl;
-  base = refl;
-  known = refl;
-  left = refl;
-  starved = λ starved. starved;
-}
+alone_itself a = grind (arith)
 
 -- a session that two calls leave alone is left alone by both together
 alone_then : (a b c : SessionView) → IsLeftAlone a b → IsLeftAlone b c → IsLeftAlone a c
-alone_then a b c first second = record {
-  identity = second.identity ∙ first.identity;
-  turns = second.turns ∙ first.turns;
-  base = second.base ∙ first.base;
-  known = second.known ∙ first.known;
-  left = second.left ∙ first.left;
-  starved = λ starved. second.starved (first.starved starved);
-}
-
--- what was refused or carried out for a call was so for an equal one, as the call that a line says
-pub performed_said : {S T : Type 0} (view other : S → SessionView) (nobody : T → SessionView)
-    (old new : WholeManager (Fused S) T) (call said : Call)
-    (response : Response)
-    → call ≡ said → PerformsBeside view other nobody old call response new
-    → PerformsBeside view other nobody old said response new
-performed_said {S} {T} view other nobody old new call said response same performs =
-    let P : Call → Type 0 = λ c. PerformsBeside view other nobody old c response new in
-    subst P same performs
+alone_then a b c first second = grind (arith)
 
 -- the loop over stores: the other client of one more has listed what is prepared there
 pub listed_beside : {S : Type 0} (view : S → SessionView) (answers : List (Result Reply Fault))
@@ -154,11 +129,7 @@ listed_beside view answers answered answer place old now next count reply so_far
 module _ {S : Type 0} (view : S → SessionView) where
   -- none of the sessions got a statement, and each passes on as many calls as before, if they are as they were
   pub leaves_none : (sessions : List (Fused S)) → LeavesAlone view sessions sessions
-  leaves_none sessions =
-      record {
-        alone = λ store. at_same (within view) store IsLeftAlone alone_itself sessions sessions refl;
-        left = refl;
-      }
+  leaves_none sessions = grind (arith, alone_itself, at_same)
 
   -- if the coordinator's sessions were left alone so far, and then another client's session of one store got a
   -- statement, which left the coordinator's there alone, they were left alone in all
@@ -177,5 +148,4 @@ module _ {S : Type 0} (view : S → SessionView) where
 -- if `P` of a value gives `Q` of it, and `P` holds of a result's value, if it is Ok, so does `Q`
 pub if_ok_map : {A E : Type 0} (P Q : A → Type 0) (result : Result A E) → ((a : A) → P a → Q a) → IfOk result P
     → IfOk result Q
-if_ok_map P Q (Ok a) more is = more a is
-if_ok_map P Q (Err e) more is = is
+if_ok_map P Q result more is = grind (arith)

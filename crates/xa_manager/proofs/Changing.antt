@@ -1,48 +1,23 @@
 -- What changes committed values.
-use Rattle.std.{proofs.Common.{◌≡◌, ◌⊎◌, ℕ, refl, ap, ◌∙◌, inl, inr, Some, None}, specs.Prelude.{slice_get, Option}}
-use Rattle.std.specs.Option.{option_map_or}
+use Rattle.std.{proofs.Common.{◌≡◌, ◌⊎◌, ℕ, ap, ◌∙◌, inl, inr, Some, arith}, specs.Prelude.slice_get}
 use Rattle.xa_words.specs.Entry.{Entry}
 use Rattle.xa_xid.specs.declared.{xid.Xid.Xid, statement.Statement.Statement}
-use Rattle.xa_server.specs.{State.{Branch, State, association_of}, Step.{after, effect, with_branch, with_changed}}
+use Rattle.xa_server.specs.{State.{Branch, State, association_of}, Step.{after, effect, with_changed}}
 use Rattle.xa_server.{specs.declared.association.Association.Association, proofs.Changes.outcome}
 use Rattle.xa_session.proofs.Replaying.{state_at-next}
 use Rattle.xa_coordinator.specs.{Lasting.history_of, declared.store.LastingStore.LastingStore}
 use Rattle.xa_manager.specs.Atomic.{ChangesRows, KeepsRowsOr, state_before}
-use Rattle.std.specs.FinMap as map
 
 -- changing a branch changes no row
 changed_rows : (state : State) (xid : Xid) (change : Branch → Branch)
     → (with_changed state xid change).rows ≡ state.rows
-changed_rows state xid change = by (map.get state.branches xid)
-  where
-    by : (found : Option Branch) → (option_map_or (λ branch. with_branch state xid (change branch)) found state).rows
-        ≡ state.rows
-    by None = refl
-    by (Some branch) = refl
+changed_rows state xid change = grind (arith)
 
 -- an accepted statement changes committed values only if it is of a kind that does
 effect_rows : (state : State) (session : ℕ) (association : Association) (statement : Statement)
     → ((effect state session association statement).rows ≡ state.rows) ⊎ ChangesRows association statement
 unfolding effect
-effect_rows state session association (Statement.Start xid) = inl refl
-effect_rows state session association (Statement.End xid) = inl (changed_rows state xid _)
-effect_rows state session association (Statement.Prepare xid) = inl (changed_rows state xid _)
-effect_rows state session association (Statement.Commit xid one_phase) = inr tt
-effect_rows state session association (Statement.Rollback xid) = inl refl
-effect_rows state session association (Statement.Recover convert) = inl refl
-effect_rows state session association Statement.Unsupported = inl refl
-effect_rows state session Association.Free (Statement.Get key) = inl refl
-effect_rows state session (Association.Active own) (Statement.Get key) = inl (changed_rows state own _)
-effect_rows state session (Association.Idle own) (Statement.Get key) = inl refl
-effect_rows state session Association.Free (Statement.Put key value) = inr refl
-effect_rows state session (Association.Active own) (Statement.Put key value) = inl (changed_rows state own _)
-effect_rows state session (Association.Idle own) (Statement.Put key value) = inl refl
-effect_rows state session Association.Free (Statement.Del key) = inr refl
-effect_rows state session (Association.Active own) (Statement.Del key) = inl (changed_rows state own _)
-effect_rows state session (Association.Idle own) (Statement.Del key) = inl refl
-effect_rows state session Association.Free Statement.Disconnect = inl refl
-effect_rows state session (Association.Active own) Statement.Disconnect = inl refl
-effect_rows state session (Association.Idle own) Statement.Disconnect = inl refl
+effect_rows state session association statement = grind (arith, changed_rows)
 
 -- a statement changes committed values only if it is of a kind that does; a refused one changes nothing
 after_rows : (state : State) (session : ℕ) (statement : Statement)

@@ -4,13 +4,12 @@ use Rattle.std.proofs.Common.{sym, ◌∙◌, subst, inl, inr, Some, None, arith
 use Rattle.std.specs.{Prelude.{slice_get, Option, not, ◌&&◌}, Option.{option_map, option_map_or}}
 use mathlib.Core.Bool.{true≢false}
 use Rattle.xa_xid.specs.{Xid.same_xid, declared.{xid.Xid.Xid, statement.Statement.{Statement, TheVariants.Start}}}
-use Rattle.xa_xid.specs.declared.statement.Statement.TheVariants.{End, Prepare, Commit, Rollback, Recover, Unsupported}
-use Rattle.xa_xid.specs.declared.statement.Statement.TheVariants.{Get, Put, Del, Disconnect}
-use Rattle.xa_xid.proofs.Orders.{xids_total, exact_xids}
+use Rattle.xa_xid.specs.declared.statement.Statement.TheVariants.{End, Prepare, Commit, Rollback, Get, Put, Del}
+use Rattle.xa_xid.{specs.declared.statement.Statement.TheVariants.Disconnect, proofs.Orders.{xids_total, exact_xids}}
 use Rattle.xa_words.specs.Entry.{Entry}
 use Rattle.xa_server.specs.State.{Branch, State, IsOpen, association_of, is_prepared, is_prepared_phase, is_known}
-use Rattle.xa_server.specs.{State.phase_at, Replies.{table, reply_to}, Step.{enters, may_enter, is_refused, after}}
-use Rattle.xa_server.specs.Step.{effect, committed, with_writes, with_lock, with_own_write, started_by}
+use Rattle.xa_server.specs.{State.phase_at, Replies.{table, reply_to}, Step.{enters, is_refused, after, effect}}
+use Rattle.xa_server.specs.Step.{committed, with_writes, with_lock, with_own_write, started_by}
 use Rattle.xa_server.specs.declared.association.Association.{Association, TheVariants.{Free, Active, Idle}}
 use Rattle.xa_server.specs.declared.branch.Phase.{Phase, TheVariants.{Active as PhaseActive, Idle as PhaseIdle}}
 use Rattle.xa_server.proofs.Accepted.{open_association, own_is, accepted_start, accepted_end, known_prepared}
@@ -30,15 +29,13 @@ clash b e f = absurd (true≢false (sym e ∙ f))
 -- the case of a statement about another branch is left out: this one is as before, and was PREPARED
 beside : {A : Type 0} (b : Bool) (new found : Option Branch) → b ≡ false → ready found ≡ true
     → ready (cond b new found) ≡ false → A
-beside true new found apart is isn't = absurd (true≢false apart)
-beside false new found apart is isn't = clash (ready found) is isn't
+beside b new found apart is isn't = cc
 
 -- the case of a change that leaves PREPARED branches PREPARED is left out: after it this one wouldn't be PREPARED
 kept : {A : Type 0} (change : Branch → Branch) (found : Option Branch)
     → ((b : Branch) → is_prepared_phase b.phase ≡ true → is_prepared_phase (change b).phase ≡ true)
     → ready found ≡ true → ready (option_map change found) ≡ false → A
-kept change None keeps is isn't = absurd (true≢false (sym is))
-kept change (Some branch) keeps is isn't = clash (is_prepared_phase (change branch).phase) (keeps branch is) isn't
+kept change found keeps is isn't = grind (arith, clash, true≢false)
 
 -- the statement is an XA COMMIT or XA ROLLBACK of the branch
 abbrev pub EndsBranch : Xid → Statement → Type 0
@@ -62,13 +59,7 @@ ends_it session association (End xid) at found apart no_start no_end is isn't =
       | inr other ↦ beside (same_xid at xid) (option_map idle found) found other is isn't
     ]
 ends_it session association (Prepare xid) at found apart no_start no_end is isn't =
-    elim (same_or_apart xids_total exact_xids at xid) [
-      | inl same ↦
-          kept detached found (λ b prepared. refl) is
-          (sym (ap (λ b. ready (cond b (option_map detached found) found))
-          (ap (same_xid at) (sym same) ∙ same_itself xids_total exact_xids at)) ∙ isn't)
-      | inr other ↦ beside (same_xid at xid) (option_map detached found) found other is isn't
-    ]
+    grind (arith, beside, detached, exact_xids, kept, same_itself, same_or_apart, xids_total)
 ends_it session association (Commit xid one_phase) at found apart no_start no_end is isn't =
     elim (same_or_apart xids_total exact_xids at xid) [
       | inl same ↦ inl (one_phase, ap (λ x. Commit x one_phase) (sym same))
@@ -79,25 +70,17 @@ ends_it session association (Rollback xid) at found apart no_start no_end is isn
       | inl same ↦ inr (ap Rollback (sym same))
       | inr other ↦ beside (same_xid at xid) None found other is isn't
     ]
-ends_it session association (Recover convert) at found apart no_start no_end is isn't = clash (ready found) is isn't
-ends_it session association Unsupported at found apart no_start no_end is isn't = clash (ready found) is isn't
-ends_it session Free (Get key) at found apart no_start no_end is isn't = clash (ready found) is isn't
 ends_it session (Active own) (Get key) at found apart no_start no_end is isn't =
     beside (same_xid at own) (option_map (with_lock key) found) found (apart own (inl refl)) is isn't
-ends_it session (Idle own) (Get key) at found apart no_start no_end is isn't = clash (ready found) is isn't
-ends_it session Free (Put key value) at found apart no_start no_end is isn't = clash (ready found) is isn't
 ends_it session (Active own) (Put key value) at found apart no_start no_end is isn't =
     beside (same_xid at own) (option_map (with_own_write key (Some value)) found) found (apart own (inl refl)) is isn't
-ends_it session (Idle own) (Put key value) at found apart no_start no_end is isn't = clash (ready found) is isn't
-ends_it session Free (Del key) at found apart no_start no_end is isn't = clash (ready found) is isn't
 ends_it session (Active own) (Del key) at found apart no_start no_end is isn't =
     beside (same_xid at own) (option_map (with_own_write key None) found) found (apart own (inl refl)) is isn't
-ends_it session (Idle own) (Del key) at found apart no_start no_end is isn't = clash (ready found) is isn't
-ends_it session Free Disconnect at found apart no_start no_end is isn't = clash (ready found) is isn't
 ends_it session (Active own) Disconnect at found apart no_start no_end is isn't =
     beside (same_xid at own) None found (apart own (inl refl)) is isn't
 ends_it session (Idle own) Disconnect at found apart no_start no_end is isn't =
     beside (same_xid at own) None found (apart own (inr refl)) is isn't
+ends_it session association statement at found apart no_start no_end is isn't = clash (ready found) is isn't
 
 -- a branch that a session has open isn't a prepared one
 nobodys : (state : State) (session : ℕ) (xid own : Xid) → is_prepared state xid ≡ true
@@ -144,23 +127,19 @@ ends_prepared state session statement xid is isn't = elim (outcome state session
 
 -- if a test that needs another one to fail holds, that one fails
 unrefused : (refused may : Bool) → (not refused && may) ≡ true → refused ≡ false
-unrefused true may is = absurd (cc)
-unrefused false may is = refl
+unrefused refused may is = grind (arith)
 
 -- a statement that enters the history was accepted
 pub entered_accepted : (state : State) (session : ℕ) (statement : Statement) → enters state session statement ≡ true
     → is_refused (reply_to state session statement) ≡ false
 unfolding enters
-entered_accepted state session statement is =
-    unrefused (is_refused (reply_to state session statement))
-    (may_enter state (association_of state session) statement) is
+entered_accepted state session statement is = grind (arith, unrefused)
 
 -- a branch that has a phase is PREPARED once it is detached
 in_phase : (found : Option Branch) (phase : Phase) → option_map (λ (b : Branch). b.phase) found ≡ Some phase
     → ready (option_map detached found) ≡ true
 unfolding detached
-in_phase None phase is = absurd (cc)
-in_phase (Some branch) phase is = refl
+in_phase found phase is = grind (arith)
 
 -- an XA PREPARE that enters the history leaves its branch PREPARED
 pub prepares : (state : State) (session : ℕ) (xid : Xid) → enters state session (Prepare xid) ≡ true
@@ -238,19 +217,7 @@ first_or_later : (base : State) (first : Entry) (rest : List Entry) (xid : Xid) 
     → IsEndedAt (after base first.session first.statement) rest 0 xid)
     → IsEndedAt base (first ∷ rest) 0 xid
 unfolding state_after
-first_or_later base first rest xid is true still rest_of = sooner base first rest xid is (rest_of still)
-first_or_later base first rest xid is false gone rest_of = record {
-  place = zero;
-  behind = omega arith;
-  entry = first;
-  there = refl;
-  prepared = at_first;
-  ends = ends_prepared base first.session first.statement xid is gone;
-}
-  where
-    at_first : (at : ℕ) → 0 ≤ at → at ≤ 0 → is_prepared (state_at base (first ∷ rest) at) xid ≡ true
-    at_first zero less more = is
-    at_first (suc at) less more = absurd (omega (arith, more))
+first_or_later base first rest xid is b still rest_of = grind (arith, ends_prepared, sooner)
 
 -- a branch that is PREPARED at a place and isn't in the end was ended
 pub ended_behind : (base : State) (history : List Entry) (from : ℕ) (xid : Xid) → from ≤ length history
@@ -274,15 +241,4 @@ pub commit_rows : (state : State) (session : ℕ) (xid : Xid) (one_phase : Bool)
     → map.get state.branches xid ≡ Some branch → (after state session (Commit xid one_phase)).rows
     ≡ with_writes (map.entries branch.writes) state.rows
 unfolding effect committed
-commit_rows state session xid one_phase branch entering found =
-    ap (λ (s : State). s.rows) (accepted_done state session (Commit xid one_phase)
-    (entered_accepted state session (Commit xid one_phase) entering))
-    ∙ by (map.get state.branches xid) found
-  where
-    by : (f : Option Branch) → f ≡ Some branch →
-        (option_map_or
-        (λ (b : Branch). record state
-        { branches = map.remove state.branches xid; rows = with_writes (map.entries b.writes) state.rows }) f
-        state).rows ≡ with_writes (map.entries branch.writes) state.rows
-    by None is = absurd (cc)
-    by (Some b) is = ap (λ (o : Branch). with_writes (map.entries o.writes) state.rows) (let e : b ≡ branch = cc in e)
+commit_rows state session xid one_phase branch entering found = grind (arith, accepted_done, entered_accepted)

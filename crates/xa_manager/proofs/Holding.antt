@@ -1,15 +1,14 @@
 -- What holds of a manager before any recovery: what the coordinator added goes with how far each transaction has come.
-use Rattle.std.proofs.Common.{◌≡◌, ◌⊎◌, ◌<◌, ◌^◌, ℕ, true, false, List, length, ap, sym, ◌∙◌, subst, inl, inr, Some}
-use Rattle.std.proofs.{Common.{None, arith}, lemmas.Option.{slice_get-get_or, slice_get_within}}
+use Rattle.std.proofs.Common.{◌≡◌, ◌⊎◌, ◌<◌, ◌^◌, ℕ, true, false, List, length, inl, inr, Some, None, arith}
+use Rattle.std.proofs.lemmas.{Option.{slice_get-get_or, slice_get_within}, Bool.Decides.nat_tests, Grind.common_steps}
 use Rattle.std.specs.Prelude.{slice_get, Option, codes}
-use Rattle.xa_xid.specs.declared.statement.Statement.{Statement, TheVariants.{Start, End, Prepare, Commit, Rollback}}
-use Rattle.xa_xid.specs.declared.statement.Statement.TheVariants.{Recover, Unsupported, Get, Put, Del, Disconnect}
-use Rattle.xa_session.specs.Answer.{entry_of}
+use Rattle.xa_xid.specs.declared.statement.Statement.{Statement, TheVariants.{Start, Prepare, Commit, Rollback}}
+use Rattle.xa_session.specs.{Answer.entry_of, View.SessionView}
 use Rattle.xa_coordinator.specs.{Branch.IsBranchOf, Decisions.is_decided, Participants.{takes_part, OnlyTakesPart}}
-use Rattle.xa_coordinator.specs.{Stores.EachStore, Fusing.limited, Lasting.own_view}
-use Rattle.xa_coordinator.specs.declared.{fused.Fused.Fused, store.LastingStore.LastingStore}
-use Rattle.xa_coordinator.specs.declared.transaction.{Prepared.Prepared, VoteKind.VoteKind}
-use Rattle.xa_manager.specs.{Ledger.{stage_of, IsTransactionOf}, declared.stage.Stage.Stage, Runs.Managing}
+use Rattle.xa_coordinator.specs.{Stores.EachStore, Fusing.limited, Lasting.own_view, declared.fused.Fused.Fused}
+use Rattle.xa_coordinator.specs.declared.{store.LastingStore.LastingStore, transaction.Prepared.Prepared}
+use Rattle.xa_coordinator.specs.declared.{transaction.VoteKind.VoteKind, branches.OpenBranch.OpenBranch}
+use Rattle.xa_manager.specs.{Ledger.stage_of, declared.stage.Stage.Stage, Runs.Managing}
 use Rattle.xa_manager.{specs.Atomic.{branch_in, HasAdded, IsAlone}, proofs.Stages.{Kept, AllReady}}
 use Rattle.xa_manager.proofs.Added.{AddsOnly, adds_none, added_or_there, stays_there}
 
@@ -83,20 +82,30 @@ pub record Holds (manager : Managing) : Type 0 where
 
 -- ---- what sessions add
 
--- the store had a session before, which is this one now, and added only statements of the store's kind since
-pub record Grew (kind : ℕ → Statement → Type 0) (store : ℕ) (old : List Session) (after : Session) : Type 0 where
+-- the store had a session before, which is this one now, and as `view` sees it only statements of the store's kind
+-- were added since
+pub record GrewAs (view : Session → SessionView) (kind : ℕ → Statement → Type 0) (store : ℕ) (old : List Session)
+    (after : Session) : Type 0 where
   pub before : Session
   pub there : slice_get old store ≡ Some before
-  pub adds : AddsOnly (kind store) (limited own_view before) (limited own_view after)
+  pub adds : AddsOnly (kind store) (view before) (view after)
 
--- each store's session of `new` was there in `old`, and added statements of its kind since
+-- each store's session of `new` was there in `old`, and statements of its kind were added since
+abbrev pub GrowsAs : (Session → SessionView) → (ℕ → Statement → Type 0) → List Session → List Session → Type 0
+GrowsAs view kind old new = (store : ℕ) (after : Session) → slice_get new store ≡ Some after
+    → GrewAs view kind store old after
+
+-- the coordinator's session added these statements
+abbrev pub Grew : (ℕ → Statement → Type 0) → ℕ → List Session → Session → Type 0
+Grew kind store old after = GrewAs (limited own_view) kind store old after
+
 abbrev pub Grows : (ℕ → Statement → Type 0) → List Session → List Session → Type 0
-Grows kind old new = (store : ℕ) (after : Session) → slice_get new store ≡ Some after → Grew kind store old after
+Grows kind old new = GrowsAs (limited own_view) kind old new
 
 -- if each store's session added only statements of its kind, the sessions grew by that
-pub grows_each : (kind : ℕ → Statement → Type 0) (old new : List Session) → length new ≡ length old
-    → EachStore (limited own_view) (λ store. AddsOnly (kind store)) old new → Grows kind old new
-grows_each kind old new count each store after is =
+pub grows_each : (view : Session → SessionView) (kind : ℕ → Statement → Type 0) (old new : List Session)
+    → length new ≡ length old → EachStore view (λ store. AddsOnly (kind store)) old new → GrowsAs view kind old new
+grows_each view kind old new count each store after is =
     let below : store < length old = let there = slice_get_within new store after is in omega (arith, there, count) in
     let was = slice_get-get_or old store after below in
     record { before = _; there = was; adds = each store _ after was is }
@@ -119,9 +128,7 @@ grew_cases kind store old after statement grew added =
 pub grew_stays : (kind : ℕ → Statement → Type 0) (store : ℕ) (old : List Session) (after : Session)
     (statement : Statement)
     → (grew : Grew kind store old after) → HasAdded grew.before statement → HasAdded after statement
-grew_stays kind store old after statement grew added =
-    stays_there (kind store) (limited own_view grew.before) (limited own_view after) (entry_of 1 statement)
-    grew.adds added
+grew_stays kind store old after statement grew added = grind (arith, common_steps, nat_tests, stays_there)
 
 -- ---- what goes on going
 
@@ -153,15 +160,7 @@ goes_still kind old new store (Commit xid false) on is = (is.0, is.1, on.decided
 goes_still kind old new store (Commit xid true) on is =
     (is.0, is.1, on.over is.0 is.2, still_alone kind old new is.0 store is.1.fits on is.2 is.3)
 goes_still kind old new store (Rollback xid) on is = (is.0, is.1, on.over is.0 is.2)
-goes_still kind old new store (Start xid) on is = tt
-goes_still kind old new store (End xid) on is = tt
-goes_still kind old new store (Prepare xid) on is = tt
-goes_still kind old new store (Recover convert) on is = tt
-goes_still kind old new store Unsupported on is = tt
-goes_still kind old new store (Get key) on is = tt
-goes_still kind old new store (Put key value) on is = tt
-goes_still kind old new store (Del key) on is = tt
-goes_still kind old new store Disconnect on is = tt
+goes_still kind old new store statement on is = tt
 
 -- if all that was added goes with how far transactions had come, and what is added now goes with how far they are,
 -- then so does all that was added
@@ -196,41 +195,33 @@ abbrev pub Never : ℕ → Statement → Type 0
 Never store statement = ⊥
 
 -- a call that adds nothing and changes neither stages nor decisions keeps what holds
-pub quiet : (old new : Managing) → new.stores ≡ old.stores → new.stages ≡ old.stages → new.decisions ≡ old.decisions
-    → Grows Never old.sessions new.sessions
-    → Holds old → Holds new
-quiet old new stores stages decisions grows holds =
-    let on : GoesOn Never old new = record {
+pub quiet : (old : Managing) (branches : List (Option OpenBranch)) (sessions : List Session)
+    → Grows Never old.sessions sessions
+    → Holds old → Holds (record old { branches = branches; sessions = sessions })
+quiet old branches sessions grows holds =
+    let next : Managing = record old { branches = branches; sessions = sessions } in
+    let on : GoesOn Never old next = record {
       grows = grows;
-      over = λ number is. record {
-        undecided = ap (λ d. is_decided d number) decisions ∙ is.undecided;
-        over = ap (λ s. stage_of s number) stages ∙ is.over;
-      };
-      decided = λ number is. ap (λ d. is_decided d number) decisions ∙ is;
+      over = λ number is. record { undecided = is.undecided; over = is.over };
+      decided = λ number is. is;
       begins = λ number store fits over never. never;
     } in
     record {
-      kept = λ number stage transaction is in_it.
-          subst (λ count. IsTransactionOf count number transaction) (sym stores)
-          (holds.kept number stage transaction (sym (ap (λ s. stage_of s number) stages) ∙ is) in_it);
-      ready = λ number prepared is. holds.ready number prepared (sym (ap (λ s. stage_of s number) stages) ∙ is);
-      count = ap length stages ∙ holds.count ∙ sym (ap length decisions);
-      alone = λ number prepared is one. holds.alone number prepared (sym (ap (λ s. stage_of s number) stages) ∙ is) one;
-      decided = λ number is.
-          subst (λ s. MayStandDecided (stage_of s number)) (sym stages)
-          (holds.decided number (sym (ap (λ d. is_decided d number) decisions) ∙ is));
+      kept = holds.kept;
+      ready = holds.ready;
+      count = holds.count;
+      alone = holds.alone;
+      decided = holds.decided;
       began = λ number store session fits is added.
           let grew = grows store session is in
-          subst (λ s. TookPart store (stage_of s number)) (sym stages)
-          (elim (grew_cases Never store old.sessions session (Start (branch_in number store)) grew added) [
+          elim (grew_cases Never store old.sessions session (Start (branch_in number store)) grew added) [
             | inl before ↦ holds.began number store grew.before fits grew.there before
             | inr never ↦ absurd never
-          ]);
+          ];
       prepared_ready = λ number prepared fits is.
-          still_prepared Never old new number grows (λ store never. never)
-          (holds.prepared_ready number prepared fits (sym (ap (λ s. stage_of s number) stages) ∙ is));
+          still_prepared Never old next number grows (λ store never. never)
+          (holds.prepared_ready number prepared fits is);
       prepared_decided = λ number fits is.
-          still_prepared Never old new number grows (λ store never. never)
-          (holds.prepared_decided number fits (sym (ap (λ d. is_decided d number) decisions) ∙ is));
-      goes = all_go Never old new holds on (λ store statement never. absurd never);
+          still_prepared Never old next number grows (λ store never. never) (holds.prepared_decided number fits is);
+      goes = all_go Never old next holds on (λ store statement never. absurd never);
     }

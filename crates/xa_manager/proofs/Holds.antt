@@ -1,68 +1,44 @@
 -- What holds of a manager through calls of which none is RECOVER.
-use Rattle.std.proofs.Common.{◌≡◌, ◌⊎◌, ◌<◌, ◌^◌, ℕ, Bool, true, false, List, [], ◌∷◌, length, map, refl, ap, sym, ◌∙◌}
-use Rattle.std.proofs.{Common.{subst, inl, inr, ⊎_elim, Some, arith}, lemmas.{Bool.Decides.eqb_tells, List.length-map}}
-use Rattle.std.{proofs.lemmas.List.Elements.Contains-append_right, specs.Prelude.{slice_get, Contains, codes}}
-use Rattle.std.proofs.lemmas.Option.{slice_get-get_or, slice_get_within, slice_get-map, same_Some}
-use Rattle.std.specs.Option.{option_map}
-use Rattle.xa_words.specs.Entry.{Entry}
-use Rattle.xa_xid.specs.declared.{xid.Xid.Xid, statement.Statement.{Statement, TheVariants.{Start, End, Prepare}}}
-use Rattle.xa_xid.specs.declared.statement.Statement.TheVariants.{Commit, Rollback, Recover as RecoverStatement}
-use Rattle.xa_xid.specs.declared.statement.Statement.TheVariants.{Unsupported, Get, Put, Del, Disconnect}
+use Rattle.std.proofs.Common.{◌≡◌, ◌⊎◌, ◌<◌, ◌^◌, ℕ, Bool, true, false, List, length, map, refl, ap, sym, ◌∙◌, subst}
+use Rattle.std.proofs.{Common.{inl, inr, ⊎_elim, Some, arith}, lemmas.Bool.Decides.{eqb_tells, nat_tests}}
+use Rattle.std.proofs.lemmas.{Option.{slice_get-get_or, slice_get_within}, Grind.common_steps}
+use Rattle.std.specs.Prelude.{slice_get, Contains, codes}
+use Rattle.xa_xid.specs.declared.{xid.Xid.Xid, statement.Statement.Statement}
+use Rattle.xa_xid.specs.declared.statement.Statement.TheVariants.{Start, Prepare, Commit, Rollback}
 use Rattle.xa_session.specs.{Answer.entry_of, View.SessionView}
-use Rattle.xa_coordinator.specs.{Branch.{branch_xid, IsBranchOf}, Decisions.is_decided}
+use Rattle.xa_coordinator.specs.{Branch.IsBranchOf, Decisions.is_decided, Participants.{takes_part, OnlyTakesPart}}
 use Rattle.xa_coordinator.specs.Outcomes.{branch_of, finish_statement, finish_for, VotesAs, IsVoted}
-use Rattle.xa_coordinator.specs.{Participants.{takes_part, OnlyTakesPart}, declared.closing.Closing.Closing}
-use Rattle.xa_coordinator.specs.declared.closing.Closing.TheVariants.{InTwoPhases, InOnePhase, RollBack}
+use Rattle.xa_coordinator.specs.declared.closing.Closing.{Closing, TheVariants.{InTwoPhases, InOnePhase, RollBack}}
 use Rattle.xa_coordinator.specs.declared.transaction.{Prepared.Prepared, Transaction.Transaction, VoteKind.VoteKind}
-use Rattle.xa_coordinator.specs.{declared.vote.Vote.Vote, Lasting.{own_view, other_alone}, Fusing.limited}
-use Rattle.xa_coordinator.specs.declared.store.LastingStore.{LastingStore}
-use Rattle.xa_coordinator.proofs.Listed.{number_behind_is}
+use Rattle.xa_coordinator.specs.declared.{vote.Vote.Vote, store.LastingStore.LastingStore}
+use Rattle.xa_coordinator.{specs.{Lasting.{own_view, other_alone}, Fusing.limited}, proofs.Listed.number_behind_is}
 use Rattle.xa_manager.specs.{Beside.{CarriesBeside, LeavesAlone}, Calls.takes_rows, declared.response.Response.Response}
+use Rattle.xa_manager.specs.declared.{call.Call.Call, stage.Stage.{Stage, TheVariants.{Working, Ready, Voted, Over}}}
 use Rattle.xa_manager.specs.Carried.{HasWorked, HasVoted, IsFinished, IsAbandoned, HasEnded, stage_after}
-use Rattle.xa_manager.specs.{Ledger.{stage_of, with_stage, IsTransactionOf}, declared.call.Call.Call}
-use Rattle.xa_manager.specs.declared.stage.Stage.{Stage, TheVariants.{Working, Ready, Voted, Over}}
-use Rattle.xa_manager.specs.{Runs.{Managing, IsAnswered}, Atomic.{branch_in, HasAdded, IsPlain, IsAlone}}
-use Rattle.xa_manager.proofs.{Stages.kept_voted, States.{worked_kept, voted_kept, voted_ready}}
-use Rattle.xa_manager.proofs.Added.{AddsOnly, adds_none, ending_adds, vote_adds, work_adds, work_keeps}
-use Rattle.xa_manager.proofs.Holding.{Session, MayStandDecided, TookPart, IsUndecidedOver, Goes, Holds, Grows}
-use Rattle.xa_manager.proofs.Holding.{grows_each, grew_cases, Never, quiet}
-use Rattle.xa_manager.proofs.Moving.{acts, begins, decides_one, stage_put}
+use Rattle.xa_manager.specs.{Ledger.{stage_of, IsTransactionOf}, Runs.{Managing, IsAnswered}}
+use Rattle.xa_manager.{specs.Atomic.{branch_in, HasAdded, IsPlain, IsAlone}, proofs.Stages.kept_voted}
+use Rattle.xa_manager.proofs.States.{worked_kept, voted_kept, voted_ready}
+use Rattle.xa_manager.proofs.{Added.{ending_adds, vote_adds, work_adds, work_keeps, adds_known}, Holding.Session}
+use Rattle.xa_manager.proofs.Holding.{MayStandDecided, TookPart, IsUndecidedOver, Goes, Holds, Grows, grows_each}
+use Rattle.xa_manager.proofs.Holding.{grew_cases, Never, quiet}
+use Rattle.xa_manager.proofs.{Moving.{acts, begins, decides_one, stage_put, with_acts}, Said.{as_many, same_seen}}
 
 -- ---- sessions that weren't spoken to
-
--- a session that knows what it knew has added nothing, so whatever it added is of any kind
-adds_known : (kind : Statement → Type 0) (old new : SessionView) → new.known ≡ old.known → AddsOnly kind old new
-adds_known kind old new same = record {
-  statements = (adds_none kind old).statements;
-  number = ap (λ k. k.number) same;
-  mine = ap (λ k. k.mine) same ∙ (adds_none kind old).mine;
-  each = (adds_none kind old).each;
-}
 
 -- sessions that are the same but for their limits have added nothing
 pub grows_within : (old new : List Session) → map (λ (s : Session). s.inner) new ≡ map (λ (s : Session). s.inner) old
     → Grows Never old new
-grows_within old new same store after is =
+grows_within old new same =
     let inner : Session → LastingStore = λ s. s.inner in
-    let count : length new ≡ length old = sym (length-map new inner) ∙ ap length same ∙ length-map old inner in
-    let below : store < length old = let there = slice_get_within new store after is in omega (arith, there, count) in
-    let was = slice_get-get_or old store after below in
-    record {
-      before = _;
-      there = was;
-      adds = adds_known (Never store) _ _
-          (ap (λ (c : LastingStore). (own_view c).known)
-          (same_Some _ _
-          (sym (ap (option_map inner) is) ∙ sym (slice_get-map inner new store) ∙ ap (λ list. slice_get list store) same
-          ∙ slice_get-map inner old store
-          ∙ ap (option_map inner) was)));
-    }
+    grows_each (limited own_view) Never old new (as_many inner old new same)
+    (λ store before after was is.
+    adds_known (Never store) (limited own_view before) (limited own_view after)
+    (ap (λ (c : LastingStore). (own_view c).known) (same_seen inner old new store before after same was is)))
 
 -- sessions that a call left alone have added nothing
 pub grows_alone : (old new : List Session) → LeavesAlone own_view old new → Grows Never old new
 grows_alone old new is =
-    let left : Session → ℕ = λ s. s.left in
-    grows_each Never old new (sym (length-map new left) ∙ ap length is.left ∙ length-map old left)
+    grows_each (limited own_view) Never old new (as_many (λ (s : Session). s.left) old new is.left)
     (λ store before after is_before is_after.
     adds_known (Never store) (limited own_view before) (limited own_view after)
     (is.alone store before after is_before is_after).known)
@@ -79,8 +55,7 @@ one_number number other store fits fits' same =
 -- the branch of a kept transaction is the one that its number and the manager's name `c` make
 named_branch : (stores number : ℕ) (transaction : Transaction) (store : ℕ) → IsTransactionOf stores number transaction
     → branch_of transaction store ≡ branch_in number store
-named_branch stores number transaction store is =
-    ap (λ name. branch_xid name transaction.number store) is.name ∙ ap (λ n. branch_xid (codes "c") n store) is.number
+named_branch stores number transaction store is = cc
 
 -- the number of a transaction that is kept fits into 64 bits
 fits_number : (stores number : ℕ) (transaction : Transaction) → IsTransactionOf stores number transaction
@@ -99,36 +74,11 @@ Harmless statement = Unit {0}
 -- `Goes` holds of any harmless statement, whatever holds of the manager
 harmless_goes : (manager : Managing) (store : ℕ) (statement : Statement) → Harmless statement
     → Goes manager store statement
-harmless_goes manager store (Start xid) is = tt
-harmless_goes manager store (End xid) is = tt
-harmless_goes manager store (Prepare xid) is = tt
-harmless_goes manager store (Commit xid true) is = absurd is
-harmless_goes manager store (Commit xid false) is = absurd is
-harmless_goes manager store (Rollback xid) is = absurd is
-harmless_goes manager store (RecoverStatement convert) is = tt
-harmless_goes manager store Unsupported is = tt
-harmless_goes manager store (Get key) is = tt
-harmless_goes manager store (Put key value) is = tt
-harmless_goes manager store (Del key) is = tt
-harmless_goes manager store Disconnect is = tt
+harmless_goes manager store statement is = grind (arith)
 
 -- GET, PUT and DEL are harmless
 row_harmless : (row : Statement) → takes_rows row ≡ true → Harmless row
-row_harmless (Start xid) is = absurd (cc)
-row_harmless (End xid) is = tt
-row_harmless (Prepare xid) is = tt
-row_harmless (Commit xid one_phase) is = absurd (cc)
-row_harmless (Rollback xid) is = absurd (cc)
-row_harmless (RecoverStatement convert) is = tt
-row_harmless Unsupported is = tt
-row_harmless (Get key) is = tt
-row_harmless (Put key value) is = tt
-row_harmless (Del key) is = tt
-row_harmless Disconnect is = tt
-
--- equal XA START have equal identifiers
-start_same : (xid other : Xid) → Start xid ≡ Start other → xid ≡ other
-start_same xid other is = cc
+row_harmless row is = grind (arith)
 
 -- ---- WORK
 
@@ -141,20 +91,17 @@ Begins before after store statement =
 begins_goes : (manager : Managing) (before after : Transaction) (store : ℕ) (statement : Statement)
     → Begins before after store statement
     → Goes manager store statement
-begins_goes manager before after store statement (inl is) = harmless_goes manager store statement is
-begins_goes manager before after store statement (inr is) = subst (Goes manager store) (sym is.0) tt
+begins_goes manager before after store statement is = grind (arith, harmless_goes)
 
 -- a call of WORK keeps what holds of the manager
 pub works : (number store : ℕ) (row : Statement) (old new : Managing) (response : Response) → takes_rows row ≡ true
     → HasWorked (limited own_view) number store row old response new → Holds old → Holds new
 works number store row old new response rows is holds =
-    acts (Begins is.before is.after) number (Working is.before) (Working is.after) old new (record {
-      stores = ap (λ (m : Managing). m.stores) is.alone.stands;
-      decisions = ap (λ (m : Managing). m.decisions) is.alone.stands;
-      stages = ap (λ (m : Managing). m.stages) is.alone.stands;
+    subst Holds (sym is.alone.stands)
+    (acts (Begins is.before is.after) number (Working is.before) (Working is.after) old new.branches new.sessions (record {
       before = is.working;
       opened = λ e. absurd (cc);
-      grows = grows_each (Begins is.before is.after) old.sessions new.sessions is.alone.count
+      grows = grows_each (limited own_view) (Begins is.before is.after) old.sessions new.sessions is.alone.count
           (work_adds (limited own_view) (Begins is.before is.after) old.branches new.branches is.before is.after store
           row is.answer old.sessions new.sessions
           (λ takes. inr (refl, takes)) (inl (row_harmless row rows)) is.others is.works);
@@ -167,14 +114,15 @@ works number store row old new response rows is holds =
         | inl harmless ↦ absurd harmless
         | inr started ↦ (
           one_number other number there fits (fits_number old.stores number is.before named)
-              (start_same _ _ started.0 ∙ named_branch old.stores number is.before there named),
+              (let same : branch_in other there ≡ branch_of is.before there = let e = started.0 in cc in
+              same ∙ named_branch old.stores number is.before there named),
           started.1,
           λ decided. undecided decided,
         )
       ];
       prepares = λ prepared e. absurd (cc);
-      goes = begins_goes new is.before is.after;
-    }) holds
+      goes = begins_goes (with_acts old number (Working is.after) new.branches new.sessions) is.before is.after;
+    }) holds)
   where
     named : IsTransactionOf old.stores number is.before
     named = holds.kept number (Working is.before) is.before is.working refl
@@ -205,38 +153,18 @@ vote_alone : (before : Transaction) (vote : Vote) (old new : List Session)
     → (prepared : Prepared)
     → stage_after vote ≡ Voted prepared → prepared.vote_kind ≡ VoteKind.OnePhase
     → (store : ℕ) × OnlyTakesPart prepared.transaction.participants store
-vote_alone before (Vote.Ready p) old new is prepared stage one = absurd (cc)
-vote_alone before (Vote.OnePhase p) old new is prepared stage one =
-    let same : p ≡ prepared = cc in
-    let whole : prepared ≡ record { transaction = before; vote_kind = VoteKind.OnePhase } = sym same ∙ is.0 in
-    subst (λ (q : Prepared). (store : ℕ) × OnlyTakesPart q.transaction.participants store) (sym whole) is.1
-vote_alone before (Vote.No p store cause) old new is prepared stage one =
-    let same : p ≡ prepared = cc in
-    let kind : p.vote_kind ≡ VoteKind.No = ap (λ (q : Prepared). q.vote_kind) is.0 in
-    absurd (let e = ap (λ (q : Prepared). q.vote_kind) same in cc)
-vote_alone before Vote.Nothing old new is prepared stage one = absurd (cc)
+vote_alone before vote old new is prepared stage one = grind (arith)
 
 -- after a vote each participant still counts as one
 vote_took : (before : Transaction) (vote : Vote) (old new : List Session)
     → VotesAs (limited own_view) before vote old new → (store : ℕ)
     → takes_part before.participants store ≡ true → TookPart store (Some (stage_after vote))
-vote_took before (Vote.Ready p) old new is store takes =
-    ap (λ (q : Prepared). takes_part q.transaction.participants store) is.0 ∙ takes
-vote_took before (Vote.OnePhase p) old new is store takes =
-    ap (λ (q : Prepared). takes_part q.transaction.participants store) is.0 ∙ takes
-vote_took before (Vote.No p last cause) old new is store takes =
-    ap (λ (q : Prepared). takes_part q.transaction.participants store) is.0 ∙ takes
-vote_took before Vote.Nothing old new is store takes = tt
+vote_took before vote old new is store takes = grind (arith)
 
 -- a branch of which the store voted yes was prepared: its XA PREPARE is among the session's entries
 two_added : (xid : Xid) (takes : Bool) (old new : SessionView) → takes ≡ true → IsVoted xid takes old new
     → Contains new.known.mine (entry_of old.known.number (Prepare xid))
-two_added xid false old new is adds = absurd (cc)
-two_added xid true old new is adds =
-    subst (λ (list : List Entry). Contains list (entry_of old.known.number (Prepare xid))) (sym adds.adds.mine)
-    (Contains-append_right old.known.mine (entry_of old.known.number (End xid) ∷ entry_of old.known.number
-    (Prepare xid) ∷ [])
-    (entry_of old.known.number (Prepare xid)) (1, omega arith, refl))
+two_added xid takes old new is adds = grind (arith, common_steps, nat_tests)
 
 -- each participant of a vote of Ready was prepared
 vote_prepares : (before : Transaction) (vote : Vote) (old new : List Session) → length new ≡ length old
@@ -251,18 +179,14 @@ vote_prepares before (Vote.Ready p) old new count is prepared stage store sessio
     let was = slice_get-get_or old store session below in
     two_added (branch_of before store) (takes_part before.participants store) _ (limited own_view session) takes
     (is.2 store _ session was there)
-vote_prepares before (Vote.OnePhase p) old new count is prepared stage store session there takes = absurd (cc)
-vote_prepares before (Vote.No p last cause) old new count is prepared stage store session there takes = absurd (cc)
-vote_prepares before Vote.Nothing old new count is prepared stage store session there takes = absurd (cc)
+vote_prepares before vote old new count is prepared stage store session there takes = absurd (cc)
 
 -- a call of PREPARE keeps what holds of the manager
 pub votes : (number : ℕ) (old new : Managing) (response : Response)
     → HasVoted (limited own_view) number old response new → Holds old → Holds new
 votes number old new response is holds =
-    acts Votes number (Working is.before) (stage_after is.vote) old new (record {
-      stores = ap (λ (m : Managing). m.stores) is.alone.stands;
-      decisions = ap (λ (m : Managing). m.decisions) is.alone.stands;
-      stages = ap (λ (m : Managing). m.stages) is.alone.stands;
+    subst Holds (sym is.alone.stands)
+    (acts Votes number (Working is.before) (stage_after is.vote) old new.branches new.sessions (record {
       before = is.working;
       opened = λ e. absurd (cc);
       grows = grows;
@@ -283,14 +207,14 @@ votes number old new response is holds =
                 session there takes)
             | inr now ↦ absurd now
           ];
-      goes = λ store statement harmless. harmless_goes new store statement harmless;
-    }) holds
+      goes = harmless_goes (with_acts old number (stage_after is.vote) new.branches new.sessions);
+    }) holds)
   where
     named : IsTransactionOf old.stores number is.before
     named = holds.kept number (Working is.before) is.before is.working refl
 
     grows : Grows Votes old.sessions new.sessions
-    grows = grows_each Votes old.sessions new.sessions is.alone.count
+    grows = grows_each (limited own_view) Votes old.sessions new.sessions is.alone.count
         (vote_adds (limited own_view) Votes is.before is.vote old.sessions new.sessions (λ store. tt)
         (λ store. tt) is.votes)
 
@@ -305,10 +229,7 @@ Ends transaction closing store statement =
 -- no statement that ends a transaction begins a branch
 no_start : (transaction : Transaction) (closing : Closing) (store : ℕ) (xid : Xid)
     → Ends transaction closing store (Start xid) → ⊥
-no_start transaction closing store xid (inl harmless) = harmless
-no_start transaction InTwoPhases store xid (inr is) = absurd (let e = is.0 in cc)
-no_start transaction InOnePhase store xid (inr is) = absurd (let e = is.0 in cc)
-no_start transaction RollBack store xid (inr is) = absurd (let e = is.0 in cc)
+no_start transaction closing store xid is = grind (arith)
 
 -- how a transaction may be finished: in two phases if it is decided; else by a rollback, or in one phase if only one
 -- store takes part
@@ -326,10 +247,8 @@ pub ends : (number : ℕ) (was : Stage) (transaction : Transaction) (closing : C
     → May old number transaction closing
     → HasEnded (limited own_view) number transaction closing old response new → Holds old → Holds new
 ends number was transaction closing old new response there opened named takes may is holds =
-    acts kind number was Over old new (record {
-      stores = ap (λ (m : Managing). m.stores) is.alone.stands;
-      decisions = same;
-      stages = stages;
+    subst Holds (sym is.alone.stands)
+    (acts kind number was Over old new.branches new.sessions (record {
       before = there;
       opened = opened;
       grows = grows;
@@ -341,28 +260,25 @@ ends number was transaction closing old new response there opened named takes ma
       starts = λ other store fits begun. absurd (no_start transaction closing store (branch_in other store) begun);
       prepares = λ prepared e. absurd (cc);
       goes = goes;
-    }) holds
+    }) holds)
   where
     kind : ℕ → Statement → Type 0
     kind = Ends transaction closing
 
-    same : new.decisions ≡ old.decisions
-    same = ap (λ (m : Managing). m.decisions) is.alone.stands
-
-    stages : new.stages ≡ with_stage old.stages number Over
-    stages = ap (λ (m : Managing). m.stages) is.alone.stands
+    next : Managing
+    next = with_acts old number Over new.branches new.sessions
 
     grows : Grows (Ends transaction closing) old.sessions new.sessions
-    grows = grows_each (Ends transaction closing) old.sessions new.sessions is.alone.count
+    grows = grows_each (limited own_view) (Ends transaction closing) old.sessions new.sessions is.alone.count
         (ending_adds (limited own_view) (Ends transaction closing) old.branches transaction closing is.ending
         old.sessions new.sessions (λ store. inl tt)
         (λ store part. inr (refl, part)) is.ends)
 
-    over : stage_of new.stages number ≡ Some Over
-    over = ap (λ s. stage_of s number) stages ∙ (elim (stage_put old.stages number number was Over there) [
+    over : stage_of next.stages number ≡ Some Over
+    over = elim (stage_put old.stages number number was Over there) [
       | inl put ↦ put.1
       | inr apart ↦ absurd (apart.0 refl)
-    ])
+    ]
 
     branch : (store : ℕ) → IsBranchOf (codes "c") number store (branch_of transaction store)
     branch store =
@@ -372,8 +288,8 @@ ends number was transaction closing old new response there opened named takes ma
               store named;
         }
 
-    undecided : is_decided old.decisions number ≡ false → IsUndecidedOver new number
-    undecided is_not = record { undecided = ap (λ d. is_decided d number) same ∙ is_not; over = over }
+    undecided : is_decided old.decisions number ≡ false → IsUndecidedOver next number
+    undecided is_not = record { undecided = is_not; over = over }
 
     alone : (one store : ℕ) → OnlyTakesPart transaction.participants one
         → takes_part transaction.participants store ≡ true
@@ -391,56 +307,43 @@ ends number was transaction closing old new response there opened named takes ma
 
     finish_goes : (c : Closing) → May old number transaction c → (store : ℕ)
         → takes_part transaction.participants store ≡ true
-        → Goes new store (finish_statement c (branch_of transaction store))
-    finish_goes InTwoPhases allowed store part = (number, branch store, ap (λ d. is_decided d number) same ∙ allowed)
+        → Goes next store (finish_statement c (branch_of transaction store))
+    finish_goes InTwoPhases allowed store part = (number, branch store, allowed)
     finish_goes InOnePhase allowed store part =
         (number, branch store, undecided allowed.0, alone allowed.1.0 store allowed.1.1 part)
     finish_goes RollBack allowed store part = (number, branch store, undecided allowed)
 
-    goes : (store : ℕ) (statement : Statement) → Ends transaction closing store statement → Goes new store statement
-    goes store statement (inl harmless) = harmless_goes new store statement harmless
-    goes store statement (inr finish) = subst (Goes new store) (sym finish.0) (finish_goes closing may store finish.1)
+    goes : (store : ℕ) (statement : Statement) → Ends transaction closing store statement → Goes next store statement
+    goes store statement (inl harmless) = harmless_goes next store statement harmless
+    goes store statement (inr finish) = subst (Goes next store) (sym finish.0) (finish_goes closing may store finish.1)
 
 -- a transaction that was voted on may be finished as its decision and its vote say
 may_finish : (old : Managing) (number : ℕ) (prepared : Prepared) → Holds old
     → (stage_of old.stages number ≡ Some (Ready prepared)) ⊎ (stage_of old.stages number ≡ Some (Voted prepared))
     → May old number prepared.transaction (finish_for (is_decided old.decisions number) prepared.vote_kind)
-may_finish old number prepared holds voted = by (is_decided old.decisions number) prepared.vote_kind refl refl voted
-  where
-    by : (b : Bool) (kind : VoteKind) → is_decided old.decisions number ≡ b → prepared.vote_kind ≡ kind
-        → (stage_of old.stages number ≡ Some (Ready prepared)) ⊎ (stage_of old.stages number ≡ Some (Voted prepared))
-        → May old number prepared.transaction (finish_for b kind)
-    by true kind decided is stage = decided
-    by false VoteKind.OnePhase decided is (inl stage) = absurd (let e = holds.ready number prepared stage in cc)
-    by false VoteKind.OnePhase decided is (inr stage) = (decided, holds.alone number prepared stage is)
-    by false VoteKind.Ready decided is stage = decided
-    by false VoteKind.No decided is stage = decided
+may_finish old number prepared holds voted = grind (arith)
 
 -- a call of FINISH keeps what holds of the manager
 pub finishes : (number : ℕ) (old new : Managing) (response : Response)
     → IsFinished (limited own_view) number old response new → Holds old → Holds new
-finishes number old new response is holds = by is.voted
+finishes number old new response is holds =
+    ⊎_elim (λ there. finished (Ready is.prepared) there (λ e. absurd (cc)) (λ store took. took))
+    (λ there. finished (Voted is.prepared) there (λ e. absurd (cc)) (λ store took. took)) is.voted
   where
     named : IsTransactionOf old.stores number is.prepared.transaction
     named = kept_voted old.stores old.stages number is.prepared holds.kept is.voted
 
-    by : (stage_of old.stages number ≡ Some (Ready is.prepared))
-        ⊎ (stage_of old.stages number ≡ Some (Voted is.prepared)) → Holds new
-    by (inl there) =
-        ends number (Ready is.prepared) is.prepared.transaction
-        (finish_for (is_decided old.decisions number) is.prepared.vote_kind) old new response there
-        (λ e. absurd (cc)) named (λ store took. took) (may_finish old number is.prepared holds
-        (inl there)) is.ends holds
-    by (inr there) =
-        ends number (Voted is.prepared) is.prepared.transaction
-        (finish_for (is_decided old.decisions number) is.prepared.vote_kind) old new response there
-        (λ e. absurd (cc)) named (λ store took. took) (may_finish old number is.prepared holds
-        (inr there)) is.ends holds
+    finished : (was : Stage) → stage_of old.stages number ≡ Some was → (was ≡ Over → ⊥)
+        → ((store : ℕ) → TookPart store (Some was) → takes_part is.prepared.transaction.participants store ≡ true)
+        → Holds new
+    finished was there opened takes =
+        ends number was is.prepared.transaction
+        (finish_for (is_decided old.decisions number) is.prepared.vote_kind) old new response there opened named takes
+        (may_finish old number is.prepared holds is.voted) is.ends holds
 
 -- a test that can't hold fails
 not_decided : (b : Bool) → (b ≡ true → ⊥) → b ≡ false
-not_decided true none = absurd (none refl)
-not_decided false none = refl
+not_decided b is = grind (arith)
 
 -- a call of ABANDON keeps what holds of the manager
 pub abandons : (number : ℕ) (old new : Managing) (response : Response)
@@ -471,22 +374,20 @@ carried_holds old new (Call.Decide number) response plain is holds =
 carried_holds old new (Call.Finish number) response plain is holds = finishes number old new response is.0 holds
 carried_holds old new (Call.Abandon number) response plain is holds = abandons number old new response is.0 holds
 carried_holds old new (Call.Fail store calls) response plain is holds =
-    quiet old new (ap (λ (m : Managing). m.stores) is.0.stands) (ap (λ (m : Managing). m.stages) is.0.stands)
-    (ap (λ (m : Managing). m.decisions) is.0.stands) (grows_within old.sessions new.sessions is.0.limited.within) holds
+    subst Holds (sym is.0.stands)
+    (quiet old old.branches new.sessions (grows_within old.sessions new.sessions is.0.limited.within) holds)
 carried_holds old new Call.Stop response plain is holds =
-    quiet old new (ap (λ (m : Managing). m.stores) is.0.stands) (ap (λ (m : Managing). m.stages) is.0.stands)
-    (ap (λ (m : Managing). m.decisions) is.0.stands) (grows_within old.sessions new.sessions is.0.within) holds
+    subst Holds (sym is.0.stands)
+    (quiet old new.branches new.sessions (grows_within old.sessions new.sessions is.0.within) holds)
 carried_holds old new Call.Recover response plain is holds = absurd plain
 carried_holds old new (Call.At store statement) response plain is holds =
-    quiet old new (ap (λ (m : Managing). m.stores) is.stands) (ap (λ (m : Managing). m.stages) is.stands)
-    (ap (λ (m : Managing). m.decisions) is.stands) (grows_alone old.sessions new.sessions is.alone) holds
+    subst Holds (sym is.stands)
+    (quiet old old.branches new.sessions (grows_alone old.sessions new.sessions is.alone) holds)
 carried_holds old new Call.Show response plain is holds =
-    quiet old new (ap (λ (m : Managing). m.stores) is.stands) (ap (λ (m : Managing). m.stages) is.stands)
-    (ap (λ (m : Managing). m.decisions) is.stands) (grows_alone old.sessions new.sessions is.alone) holds
+    subst Holds (sym is.stands)
+    (quiet old old.branches new.sessions (grows_alone old.sessions new.sessions is.alone) holds)
 
 -- each call but RECOVER keeps what holds of the manager: one that is refused changes nothing
 pub answered_holds : (old new : Managing) (call : Call) (response : Response) → IsPlain call
     → IsAnswered old call response new → Holds old → Holds new
-answered_holds old new call response plain is holds =
-    ⊎_elim (λ refused. subst Holds (sym refused.stands) holds)
-    (λ carried. carried_holds old new call response plain carried holds) is
+answered_holds old new call response plain is holds = grind (arith, carried_holds)

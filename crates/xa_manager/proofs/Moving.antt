@@ -1,19 +1,21 @@
 -- Calls keep what holds of a manager (`Holds`): one that moves a transaction to another stage, BEGIN, and DECIDE.
-use Rattle.std.proofs.Common.{◌≡◌, ◌≢◌, ◌⊎◌, ◌<◌, ◌+◌, ◌-◌, ◌^◌, ℕ, zero, suc, Bool, true, false, cond, List, [], ◌∷◌}
-use Rattle.std.proofs.Common.{◌++◌, length, refl, ap, sym, ◌∙◌, subst, inl, inr, Some, None, arith, length-append}
-use Rattle.std.proofs.lemmas.{Bool.{eqb-false, eqb-true, Decides.eqb_tells}, List.length-set}
-use Rattle.std.{proofs.lemmas.Option.{slice_get_within, same_Some}, specs.Prelude.{slice_get, slice_set, Option, ◌==◌}}
-use Rattle.xa_xid.specs.declared.statement.Statement.{Statement, TheVariants.{Start, Prepare}}
+use Rattle.std.proofs.Common.{◌≡◌, ◌≢◌, ◌⊎◌, ◌<◌, ◌+◌, ◌-◌, ◌^◌, ℕ, zero, suc, true, List, [], ◌∷◌, ◌++◌, length, refl}
+use Rattle.std.proofs.Common.{ap, sym, ◌∙◌, subst, inl, inr, Some, None, arith, length-append}
+use Rattle.std.proofs.lemmas.{Bool.Decides.{eqb_tells, nat_tests}, Option.{slice_get_within, same_Some}}
+use Rattle.std.specs.Prelude.{slice_get, Option}
+use Rattle.xa_xid.specs.declared.statement.Statement.{Statement, TheVariants.Start}
 use Rattle.xa_coordinator.specs.{Decisions.{decision_of, is_decided, decides, with_decided}, Participants.OnlyTakesPart}
-use Rattle.xa_coordinator.specs.declared.decisions.Decision.{Decision, TheVariants.{Undecided, Decided}}
+use Rattle.xa_coordinator.specs.declared.decisions.Decision.{Decision, TheVariants.Undecided}
 use Rattle.xa_coordinator.specs.declared.transaction.{Prepared.Prepared, Transaction.Transaction, VoteKind.VoteKind}
-use Rattle.xa_coordinator.proofs.{Places.{get_set_same, get_set_other}, DecisionsOf.decided_kept}
+use Rattle.xa_coordinator.{specs.declared.branches.OpenBranch.OpenBranch, proofs.Places.{get_set_same, get_set_other}}
+use Rattle.xa_coordinator.proofs.DecisionsOf.{decided_kept}
 use Rattle.xa_manager.specs.{Ledger.{stage_of, with_stage, transaction_in, IsTransactionOf}, declared.stage.Stage.Stage}
 use Rattle.xa_manager.specs.{declared.stage.Stage.TheVariants.{Working, Ready, Voted, Over}, Runs.Managing}
-use Rattle.xa_manager.{specs.Atomic.{branch_in, HasAdded}, proofs.Stages.{kept_with, ready_with, kept_more, ready_more}}
-use Rattle.xa_manager.proofs.{Stages.{stage_of-with, stage_of-append, with_stage-length}, States.working_kept}
-use Rattle.xa_manager.proofs.Holding.{Session, MayStandDecided, TookPart, Goes, PreparesAll, Holds, Grows, grows_same}
-use Rattle.xa_manager.proofs.Holding.{grew_cases, GoesOn, Never, all_go, still_prepared}
+use Rattle.xa_manager.{specs.Atomic.branch_in, proofs.Stages.{kept_with, ready_with, kept_more, ready_more}}
+use Rattle.xa_manager.proofs.Stages.{stage_of-with, stage_of-append, with_stage-length}
+use Rattle.xa_manager.proofs.{States.{working_kept, decided-length}, Holding.{Session, MayStandDecided, TookPart, Goes}}
+use Rattle.xa_manager.proofs.Holding.{PreparesAll, Holds, Grows, grows_same, grew_cases, GoesOn, Never, all_go}
+use Rattle.xa_manager.proofs.{Holding.still_prepared, Said.get_before}
 
 -- ---- another stage in the place of one
 
@@ -22,47 +24,16 @@ pub stage_put : (stages : List Stage) (number other : ℕ) (was stage : Stage) �
     → ((other ≡ number) × (stage_of (with_stage stages number stage) other ≡ Some stage))
     ⊎ ((other ≢ number) × (stage_of (with_stage stages number stage) other ≡ stage_of stages other))
 unfolding stage_of with_stage
-stage_put stages number other was stage is = by (number == 0) (other == 0) refl refl is
-  where
-    Wanted : Bool → Bool → Type 0
-    Wanted b e =
-        ((other ≡ number) × (cond e None (slice_get (cond b stages (slice_set stages (number - 1) stage)) (other - 1))
-        ≡ Some stage))
-        ⊎ ((other ≢ number)
-        × (cond e None (slice_get (cond b stages (slice_set stages (number - 1) stage)) (other - 1))
-        ≡ cond e None (slice_get stages (other - 1))))
+stage_put stages number other was stage is = grind (arith, get_set_other, get_set_same, nat_tests, slice_get_within)
 
-    by : (b e : Bool) → (number == 0) ≡ b → (other == 0) ≡ e → cond b None (slice_get stages (number - 1)) ≡ Some was
-        → Wanted b e
-    by true e nb ne there = absurd (cc)
-    by false true nb ne there =
-        let none : other ≡ 0 = eqb-true other 0 ne in
-        let some : number ≢ 0 = eqb-false number 0 nb in
-        inr ((λ same. some (sym same ∙ none)), refl)
-    by false false nb ne there = elim (eqb_tells other number) [
-      | inl (_, here) ↦
-          let P : ℕ → Type 0 = λ at. slice_get (slice_set stages (number - 1) stage) (at - 1) ≡ Some stage in
-          inl (
-            here,
-            subst P (sym here) (get_set_same stages (number - 1) stage
-                (slice_get_within stages (number - 1) was there)),
-          )
-      | inr (_, apart) ↦
-          let first : number ≢ 0 = eqb-false number 0 nb in
-          let second : other ≢ 0 = eqb-false other 0 ne in
-          inr (
-            apart,
-            get_set_other stages (number - 1) (other - 1) stage
-                (λ same. apart (omega (arith, same, first, second))),
-          )
-    ]
+-- the manager, after one transaction came to another stage, with these branches open and these sessions
+abbrev pub with_acts : Managing → ℕ → Stage → List (Option OpenBranch) → List Session → Managing
+with_acts old number stage branches sessions =
+    record old { stages = with_stage old.stages number stage; branches = branches; sessions = sessions }
 
 -- a transaction that wasn't over came to another stage, which fits it and the decisions, and the statements that were
 -- added are of this kind, which goes with the new stage
 pub record Acts (kind : ℕ → Statement → Type 0) (number : ℕ) (was stage : Stage) (old new : Managing) : Type 0 where
-  pub stores : new.stores ≡ old.stores
-  pub decisions : new.decisions ≡ old.decisions
-  pub stages : new.stages ≡ with_stage old.stages number stage
   pub before : stage_of old.stages number ≡ Some was
   pub opened : was ≡ Over → ⊥
   pub grows : Grows kind old.sessions new.sessions
@@ -75,9 +46,7 @@ pub record Acts (kind : ℕ → Statement → Type 0) (number : ℕ) (was stage 
   pub took : (store : ℕ) → TookPart store (Some was) → TookPart store (Some stage)
   pub starts : (other store : ℕ) → other < 2 ^ 64 → kind store (Start (branch_in other store))
       → (other ≡ number) × TookPart store (Some stage) × (is_decided old.decisions number ≡ true → ⊥)
-  pub prepares : (prepared : Prepared) → stage ≡ Ready prepared
-      → ((store : ℕ) (session : Session) → slice_get new.sessions store ≡ Some session
-      → HasAdded session (Start (branch_in number store)) → HasAdded session (Prepare (branch_in number store)))
+  pub prepares : (prepared : Prepared) → stage ≡ Ready prepared → PreparesAll new number
   pub goes : (store : ℕ) (statement : Statement) → kind store statement → Goes new store statement
 
 -- a stage that isn't over isn't the stage of one that is
@@ -85,31 +54,24 @@ some_over : (was : Stage) → (was ≡ Over → ⊥) → Some was ≡ Some Over 
 some_over was apart is = apart (same_Some was Over is)
 
 -- a call that moves one transaction to another stage, as `Acts` says, keeps what holds of the manager
-pub acts : (kind : ℕ → Statement → Type 0) (number : ℕ) (was stage : Stage) (old new : Managing)
-    → Acts kind number was stage old new → Holds old → Holds new
-acts kind number was stage old new act holds =
+pub acts : (kind : ℕ → Statement → Type 0) (number : ℕ) (was stage : Stage) (old : Managing)
+    (branches : List (Option OpenBranch)) (sessions : List Session)
+    → Acts kind number was stage old (with_acts old number stage branches sessions)
+    → Holds old → Holds (with_acts old number stage branches sessions)
+acts kind number was stage old branches sessions act holds =
     record {
-      kept = λ other found transaction is in_it.
-          subst (λ count. IsTransactionOf count other transaction) (sym act.stores)
-          (kept_with old.stores old.stages number stage holds.kept act.kept other found transaction
-          (sym (stage_now other) ∙ is) in_it);
-      ready = λ other prepared is. ready_with old.stages number stage holds.ready act.ready other prepared
-          (sym (stage_now other) ∙ is);
-      count = ap length act.stages ∙ with_stage-length old.stages number stage ∙ holds.count
-          ∙ sym (ap length act.decisions);
-      alone = λ other prepared is one. elim (stage_of-with old.stages number other stage (Voted prepared)
-          (sym (stage_now other) ∙ is)) [
-            | inl same ↦ act.alone prepared same.1 one
-            | inr before ↦ holds.alone other prepared before one
-          ];
-      decided = λ other is.
-          let was_decided : is_decided old.decisions other ≡ true = sym (decided_same other) ∙ is in
-          elim (stage_is other) [
-            | inl same ↦
-                subst MayStandDecided (sym same.1) (act.decided
-                (subst (λ n. is_decided old.decisions n ≡ true) same.0 was_decided))
-            | inr apart ↦ subst MayStandDecided (sym apart.1) (holds.decided other was_decided)
-          ];
+      kept = kept_with old.stores old.stages number stage holds.kept act.kept;
+      ready = ready_with old.stages number stage holds.ready act.ready;
+      count = with_stage-length old.stages number stage ∙ holds.count;
+      alone = λ other prepared is one. elim (stage_of-with old.stages number other stage (Voted prepared) is) [
+        | inl same ↦ act.alone prepared same.1 one
+        | inr before ↦ holds.alone other prepared before one
+      ];
+      decided = λ other is. elim (stage_is other) [
+        | inl same ↦ subst MayStandDecided (sym same.1)
+            (act.decided (subst (λ n. is_decided old.decisions n ≡ true) same.0 is))
+        | inr apart ↦ subst MayStandDecided (sym apart.1) (holds.decided other is)
+      ];
       began = λ other store session fits is added.
           let grew = act.grows store session is in
           elim (grew_cases kind store old.sessions session (Start (branch_in other store)) grew added) [
@@ -130,27 +92,20 @@ acts kind number was stage old new act holds =
             (holds.prepared_ready other prepared fits (sym apart.1 ∙ is))
       ];
       prepared_decided = λ other fits is.
-          let was_decided : is_decided old.decisions other ≡ true = sym (decided_same other) ∙ is in
           still_prepared kind old new other act.grows
           (λ store now.
           let started = act.starts other store fits now in
-          started.2 (subst (λ n. is_decided old.decisions n ≡ true) started.0 was_decided))
-          (holds.prepared_decided other fits was_decided);
+          started.2 (subst (λ n. is_decided old.decisions n ≡ true) started.0 is))
+          (holds.prepared_decided other fits is);
       goes = all_go kind old new holds on act.goes;
     }
   where
-    stage_now : (other : ℕ) → stage_of new.stages other ≡ stage_of (with_stage old.stages number stage) other
-    stage_now other = ap (λ s. stage_of s other) act.stages
-
-    decided_same : (other : ℕ) → is_decided new.decisions other ≡ is_decided old.decisions other
-    decided_same other = ap (λ d. is_decided d other) act.decisions
+    new : Managing
+    new = with_acts old number stage branches sessions
 
     stage_is : (other : ℕ) → ((other ≡ number) × (stage_of new.stages other ≡ Some stage))
         ⊎ ((other ≢ number) × (stage_of new.stages other ≡ stage_of old.stages other))
-    stage_is other = elim (stage_put old.stages number other was stage act.before) [
-      | inl same ↦ inl (same.0, stage_now other ∙ same.1)
-      | inr apart ↦ inr (apart.0, stage_now other ∙ apart.1)
-    ]
+    stage_is other = stage_put old.stages number other was stage act.before
 
     took_still : (other store : ℕ) → TookPart store (stage_of old.stages other)
         → TookPart store (stage_of new.stages other)
@@ -170,8 +125,8 @@ acts kind number was stage old new act holds =
     on : GoesOn kind old new
     on = record {
       grows = act.grows;
-      over = λ other is. record { undecided = decided_same other ∙ is.undecided; over = over_still other is.over };
-      decided = λ other is. decided_same other ∙ is;
+      over = λ other is. record { undecided = is.undecided; over = over_still other is.over };
+      decided = λ other is. is;
       begins = λ other store fits over now.
           let started = act.starts other store fits now in
           some_over was act.opened (sym act.before ∙ ap (stage_of old.stages) (sym started.0) ∙ over);
@@ -179,23 +134,11 @@ acts kind number was stage old new act holds =
 
 -- ---- a transaction that begins
 
--- a list with one element more has the same at the old places
-get_still : (stages : List Stage) (last found : Stage) (place : ℕ) → slice_get stages place ≡ Some found
-    → slice_get (stages ++ last ∷ []) place ≡ Some found
-get_still [] last found place is = absurd (cc)
-get_still (y ∷ ys) last found zero is = is
-get_still (y ∷ ys) last found (suc n) is = get_still ys last found n is
-
 -- a transaction that is begun changes no other one's stage
 pub stage_still : (stages : List Stage) (last found : Stage) (other : ℕ) → stage_of stages other ≡ Some found
     → stage_of (stages ++ last ∷ []) other ≡ Some found
 unfolding stage_of
-stage_still stages last found other is = by (other == 0) is
-  where
-    by : (e : Bool) → cond e None (slice_get stages (other - 1)) ≡ Some found
-        → cond e None (slice_get (stages ++ last ∷ []) (other - 1)) ≡ Some found
-    by true there = there
-    by false there = get_still stages last found (other - 1) there
+stage_still stages last found other is = grind (arith, nat_tests, get_before {A = Stage})
 
 -- an undecided number behind the others leaves at each place whether it is decided
 decides_more : (decisions : List Decision) (place : ℕ)
@@ -209,25 +152,12 @@ decides_more (d ∷ ds) (suc n) = decides_more ds n
 pub decided_more : (decisions : List Decision) (number : ℕ)
     → is_decided (decisions ++ Undecided ∷ []) number ≡ is_decided decisions number
 unfolding decision_of
-decided_more decisions number = by (number == 0)
-  where
-    by : (b : Bool) → decides (cond b None (slice_get (decisions ++ Undecided ∷ []) (number - 1)))
-        ≡ decides (cond b None (slice_get decisions (number - 1)))
-    by true = refl
-    by false = decides_more decisions (number - 1)
+decided_more decisions number = grind (arith, nat_tests, decides_more)
 
--- a stage that isn't None is one that was found
-some_stage : (stage : Option Stage) → (stage ≡ None → ⊥) → (found : Stage) × (stage ≡ Some found)
-some_stage None none = absurd (none refl)
-some_stage (Some stage) none = (stage, refl)
-
--- a store took part only in a transaction that was begun
-took_some : (store : ℕ) (stage : Option Stage) → TookPart store stage → stage ≡ None → ⊥
-took_some store stage took none = subst (TookPart store) none took
-
--- only a transaction that was begun can be decided
-decided_some : (stage : Option Stage) → MayStandDecided stage → stage ≡ None → ⊥
-decided_some stage may none = subst MayStandDecided none may
+-- what holds of a stage that was found, and not of none, holds of the same stage found again
+still_found : (P : Option Stage → Type 0) (old new : Option Stage) → (P None → ⊥)
+    → ((found : Stage) → old ≡ Some found → new ≡ Some found) → P old → P new
+still_found P old new also forward is = grind (arith)
 
 -- BEGIN keeps what holds: the new transaction has no participant, and isn't decided
 pub begins : (transaction : Transaction) (old new : Managing)
@@ -270,13 +200,11 @@ begins transaction old new is stands holds = subst Holds (sym stands) (begun)
         | inr before ↦ holds.alone number prepared before one
       ];
       decided = λ number it.
-          let may = holds.decided number (sym (same_decided number) ∙ it) in
-          let some = some_stage (stage_of old.stages number) (decided_some (stage_of old.stages number) may) in
-          subst MayStandDecided (some.1 ∙ sym (forward number some.0 some.1)) may;
+          still_found MayStandDecided (stage_of old.stages number) (stage_of next.stages number) (λ none. none)
+          (forward number) (holds.decided number (sym (same_decided number) ∙ it));
       began = λ number store session fits there added.
-          let took = holds.began number store session fits there added in
-          let some = some_stage (stage_of old.stages number) (took_some store (stage_of old.stages number) took) in
-          subst (TookPart store) (some.1 ∙ sym (forward number some.0 some.1)) took;
+          still_found (TookPart store) (stage_of old.stages number) (stage_of next.stages number) (λ none. none)
+          (forward number) (holds.began number store session fits there added);
       prepared_ready =
           λ number prepared fits there. elim (stage_of-append old.stages last (Ready prepared) number there) [
             | inl same ↦ absurd (let e = same.1 in cc)
@@ -292,16 +220,7 @@ begins transaction old new is stands holds = subst Holds (sym stands) (begun)
 pub decided_other : (decisions : List Decision) (number other : ℕ) → number ≢ 0 → other ≢ number
     → is_decided (with_decided decisions number) other ≡ is_decided decisions other
 unfolding decision_of with_decided
-decided_other decisions number other some apart = by (other == 0) refl
-  where
-    by : (b : Bool) → (other == 0) ≡ b
-        → decides (cond b None (slice_get (slice_set decisions (number - 1) Decided) (other - 1)))
-        ≡ decides (cond b None (slice_get decisions (other - 1)))
-    by true none = refl
-    by false there =
-        let second : other ≢ 0 = eqb-false other 0 there in
-        ap decides (get_set_other decisions (number - 1) (other - 1) Decided
-        (λ same. apart (omega (arith, same, some, second))))
+decided_other decisions number other some apart = grind (arith, nat_tests, get_set_other {A = Decision})
 
 -- deciding one number leaves decided what was decided
 still_decided : (decisions : List Decision) (number other : ℕ) → is_decided decisions other ≡ true
@@ -312,13 +231,7 @@ still_decided decisions number other is = decided_kept decisions (number - 1) ot
 -- numbers begin at 1, so no transaction that was begun has 0
 stage_some : (stages : List Stage) (number : ℕ) (found : Stage) → stage_of stages number ≡ Some found → number ≢ 0
 unfolding stage_of
-stage_some stages number found is none =
-    absurd (let e : None ≡ Some found = sym (ap (λ n. stage_of stages n) none) ∙ is in cc)
-
--- deciding gives no new number
-decided_count : (decisions : List Decision) (number : ℕ) → length (with_decided decisions number) ≡ length decisions
-unfolding with_decided
-decided_count decisions number = length-set decisions (number - 1) Decided
+stage_some stages number found is also = cc
 
 -- DECIDE keeps what holds, of a transaction whose vote was Ready
 pub decides_one : (number : ℕ) (prepared : Prepared) (old new : Managing)
@@ -349,7 +262,7 @@ decides_one number prepared old new there stands holds = subst Holds (sym stands
     made = record {
       kept = holds.kept;
       ready = holds.ready;
-      count = holds.count ∙ sym (decided_count old.decisions number);
+      count = holds.count ∙ sym (decided-length old.decisions number);
       alone = holds.alone;
       decided = λ other it. elim (eqb_tells other number) [
         | inl (_, here) ↦ subst (λ n. MayStandDecided (stage_of old.stages n)) (sym here)

@@ -1,7 +1,7 @@
 -- Passes of stores, one of each, at their places, and sessions of them.
-use Rattle.std.proofs.Common.{◌≡◌, ◌∙◌, ℕ, ◌<◌, ◌+◌, Bool, List, [], ◌∷◌, ◌++◌, take, zero, suc, length, get_or, map}
-use Rattle.std.proofs.{Common.{subst, sym, ap, refl, arith, None, true}, lemmas.List.{take_more, take_all}}
-use Rattle.std.{proofs.lemmas.Slice.Zip.all_zipped_more, specs.List.{AllZip, AllByRecursion}}
+use Rattle.std.proofs.Common.{◌≡◌, ℕ, ◌<◌, ◌+◌, Bool, List, [], ◌∷◌, ◌++◌, take, zero, suc, length, get_or, map, ap}
+use Rattle.std.proofs.{Common.{refl, arith, None, true}, lemmas.{List.{take_more, take_all}, Slice.Zip.all_zipped_more}}
+use Rattle.std.{proofs.lemmas.{Bool.Decides.nat_tests, Grind.common_steps}, specs.List.{AllZip, AllByRecursion}}
 use Rattle.decision_log.specs.Known.{newcomer}
 use Rattle.xa_server.specs.State.{State, no_state}
 use Rattle.xa_session.specs.View.{SessionView}
@@ -20,10 +20,7 @@ at_place : (stores : List Store) (passes : List Pass) (place : ℕ) (store : Sto
 at_place [] [] place store pass all below is is' = absurd (omega arith)
 at_place [] (p ∷ ps) place store pass all below is is' = absurd all
 at_place (s ∷ ss) [] place store pass all below is is' = absurd all
-at_place (s ∷ ss) (p ∷ ps) zero store pass all below is is' =
-    let P : Pass → Type 0 = λ q. IsOwn s q in
-    let Q : Store → Type 0 = λ t. IsOwn t pass in
-    subst Q (sym is) (subst P (sym is') all.0)
+at_place (s ∷ ss) (p ∷ ps) zero store pass all below is is' = grind (arith)
 at_place (s ∷ ss) (p ∷ ps) (suc place) store pass all below is is' =
     at_place ss ps place store pass all.1 (omega arith) is is'
 
@@ -32,9 +29,7 @@ pub own_at : (stores : List Store) (passes : List Pass) (place other : ℕ) (sto
     → AllZip IsOwn stores passes
     → place < length passes
     → store ≡ get_or stores other store → pass ≡ get_or passes place pass → IsOwn store pass
-own_at stores passes place other store pass same all below is is' =
-    let P : ℕ → Type 0 = λ k. store ≡ get_or stores k store in
-    at_place stores passes place store pass all below (subst P (sym same) is) is'
+own_at stores passes place other store pass same all below is is' = grind (arith, at_place)
 
 -- a session of a pass, whose history begins in this state
 abbrev pub seen_as : Bool → Pass → State → SessionView
@@ -66,16 +61,8 @@ pairs_of turns [] [] (t ∷ ts) pass base pass' base' own own' bases bases' empt
 pairs_of turns [] (s ∷ ss) others pass base pass' base' own own' bases bases' empty first second = absurd bases
 pairs_of turns (x ∷ xs) [] others pass base pass' base' own own' bases bases' empty first second = absurd bases
 pairs_of turns (x ∷ xs) (s ∷ ss) [] pass base pass' base' own own' bases bases' empty first second = absurd bases'
-pairs_of turns (x ∷ xs) (s ∷ ss) (t ∷ ts) pass base pass' base' own own' bases bases' empty first second = (
-  record {
-    log = own'.0 ∙ sym own.0;
-    first_base = bases.0 ∙ empty.0;
-    second_base = bases'.0 ∙ empty.0;
-    first_known = first.0;
-    second_known = second.0;
-  },
-  pairs_of turns xs ss ts pass base pass' base' own.1 own'.1 bases.1 bases'.1 empty.1 first.1 second.1,
-)
+pairs_of turns (x ∷ xs) (s ∷ ss) (t ∷ ts) pass base pass' base' own own' bases bases' empty first second =
+    grind (arith, pairs_of turns xs ss ts pass base pass' base' own.1 own'.1 bases.1 bases'.1 empty.1 first.1 second.1)
 
 -- if a list mapped by `within` is related to another list, place by place, so is the list itself, by what is within
 -- each element
@@ -99,12 +86,7 @@ pub fused_pairs : {S T : Type 0} (sessions : List S) (others others' : List T) (
     → map (λ (session : Fused S). session.inner) fused ≡ sessions → fused' ≡ fused → others' ≡ others
     → AllZip R sessions others
     → AllZip (λ session other. R session.inner other) fused' others'
-fused_pairs {S} {T} sessions others others' fused fused' R within same same' all =
-    let P : List (Fused S) → Type 0 = λ list. AllZip (λ session other. R session.inner other) list others' in
-    let Q : List T → Type 0 = λ list. AllZip (λ session other. R session.inner other) fused list in
-    let O : List S → Type 0 = λ list. AllZip R list others in
-    subst P (sym same) (subst Q (sym same') (zip_within (λ (session : Fused S). session.inner) R fused others
-    (subst O (sym within) all)))
+fused_pairs {S} {T} sessions others others' fused fused' R within same same' all = grind (arith, zip_within)
 
 -- the loop over stores: the session of one more begins with that store's base
 pub bases_more : {S : Type 0} (base : S → State) (stores : List Store) (sessions now : List S) (session : S)
@@ -114,21 +96,10 @@ pub bases_more : {S : Type 0} (base : S → State) (stores : List Store) (sessio
     → AllZip (λ x s. base s ≡ x.base) (take count stores) sessions
     → AllZip (λ x s. base s ≡ x.base) (take (count + 1) stores) now
 bases_more {S} base stores sessions now session count place store same below items is all =
-    let R : Store → S → Type 0 = λ x s. base s ≡ x.base in
-    let within : count < length stores = omega (arith, same, below) in
-    let cut : take (count + 1) stores ≡ take count stores ++ get_or stores count store ∷ [] =
-    take_more stores count store within in
-    let here : base session ≡ (get_or stores count store).base =
-    is ∙ ap (λ k. (get_or stores k store).base) (sym same) in
-    let P : List Store → Type 0 = λ list. AllZip R list now in
-    let Q : List S → Type 0 = λ list. AllZip R (take count stores ++ get_or stores count store ∷ []) list in
-    subst P (sym cut) (subst Q (sym items) (all_zipped_more R (take count stores) sessions
-    (get_or stores count store) session all here))
+    grind (arith, common_steps, nat_tests, all_zipped_more, take_more)
 
 -- the loop over stores ends: the session of each store begins with that store's base
 pub bases_all : {S : Type 0} (base : S → State) (stores : List Store) (sessions : List S) (count : ℕ)
     → count ≡ length stores
     → AllZip (λ x s. base s ≡ x.base) (take count stores) sessions → AllZip (λ x s. base s ≡ x.base) stores sessions
-bases_all {S} base stores sessions count whole all =
-    let P : List Store → Type 0 = λ list. AllZip (λ x s. base s ≡ x.base) list sessions in
-    subst P (take_all count stores (omega (arith, whole))) all
+bases_all {S} base stores sessions count whole all = grind (arith, take_all)

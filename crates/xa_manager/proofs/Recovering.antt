@@ -1,51 +1,27 @@
 -- Calls of which none is RECOVER, and a recovery that came to its end.
-use Rattle.std.proofs.Common.{◌≡◌, ◌<◌, ◌-◌, ℕ, Bool, true, false, cond, List, [], ◌∷◌, ◌++◌, length, refl, ap, sym}
-use Rattle.std.proofs.Common.{◌∙◌, subst, inl, inr, Some, None, Ok, arith, length-append}
-use Rattle.std.proofs.lemmas.List.{get_or_append_left, Elements.{All-contains, Contains-push}}
-use Rattle.std.proofs.lemmas.Option.{slice_get_within, get_or_from_slice_get}
-use Rattle.std.specs.Prelude.{slice_get, Contains, codes, All, ◌==◌, IfOk}
-use Rattle.decision_log.specs.declared.known.Known.{Known}
-use Rattle.xa_words.specs.Entry.{Entry}
+use Rattle.std.proofs.Common.{◌≡◌, ◌<◌, ℕ, true, false, List, [], ◌∷◌, ◌++◌, length, refl, ap, sym, ◌∙◌, inl, inr, Some}
+use Rattle.std.proofs.{Common.{Ok, arith, length-append}, lemmas.List.get_or_append_left}
+use Rattle.std.proofs.lemmas.{List.Elements.{All-contains, Contains-push}, Grind.common_steps}
+use Rattle.std.proofs.lemmas.{Option.{slice_get_within, get_or_from_slice_get}, Bool.Decides.nat_tests}
+use Rattle.std.specs.Prelude.{slice_get, Contains, codes, All}
 use Rattle.xa_xid.specs.declared.statement.Statement.{Statement}
-use Rattle.xa_session.specs.Answer.{entry_of}
-use Rattle.xa_coordinator.specs.{Branch.IsBranchOf, Decisions.{decision_of, decides, is_decided}, Recovery.Recovers}
+use Rattle.xa_coordinator.specs.{Branch.IsBranchOf, Decisions.is_decided, Recovery.Recovers}
 use Rattle.xa_coordinator.specs.{declared.{decisions.Decision.Decision, report.Report.Report}, Fusing.limited}
-use Rattle.xa_coordinator.specs.Lasting.{own_view, other_alone}
-use Rattle.xa_coordinator.proofs.DecisionsOf.{closed_decides}
+use Rattle.xa_coordinator.{specs.Lasting.{own_view, other_alone}, proofs.DecisionsOf.closed_decides}
 use Rattle.xa_manager.specs.{Carried.HasRecovered, Ledger.stage_of, Whole.IsPair, declared.call.Call.Call}
 use Rattle.xa_manager.specs.declared.{call.Call.TheVariants.Recover, response.Response.Response}
 use Rattle.xa_manager.specs.declared.{response.Response.TheVariants.Recovered, stage.Stage.Stage}
-use Rattle.xa_manager.proofs.Added.{recovered}
 use Rattle.xa_manager.specs.Runs.{Managing, IsAnswered, CarriesOut, none_yet, one_more, IsFresh, IsRun}
 use Rattle.xa_manager.specs.Atomic.{branch_in, HasAdded, IsPlain, IsAlone, GoesWith, KeepsToDecisions}
+use Rattle.xa_manager.proofs.{Added.recovered, Holds.answered_holds, Nothing.{none_begun, none_decided}}
 use Rattle.xa_manager.proofs.Holding.{Session, IsUndecidedOver, Goes, Holds, Grows, grows_each, grew_cases}
-use Rattle.xa_manager.proofs.Holds.{answered_holds}
 
 -- ---- a manager with which nothing has begun
-
--- before the first BEGIN no number has a stage
-no_stage : (number : ℕ) (stage : Stage) → stage_of [] number ≡ Some stage → ⊥
-unfolding stage_of
-no_stage number stage is = by (number == 0) is
-  where
-    by : (b : Bool) → cond b None (slice_get {X = Stage} [] (number - 1)) ≡ Some stage → ⊥
-    by true is = absurd (cc)
-    by false is = absurd (cc)
-
--- before the first BEGIN no number is decided
-none_decided : (number : ℕ) → is_decided [] number ≡ true → ⊥
-unfolding decision_of
-none_decided number is = by (number == 0) is
-  where
-    by : (b : Bool) → decides (cond b None (slice_get {X = Decision} [] (number - 1))) ≡ true → ⊥
-    by true is = absurd (cc)
-    by false is = absurd (cc)
 
 -- what holds of each element holds of the one at a place
 pub one_of : {A : Type 0} (P : A → Type 0) (xs : List A) (place : ℕ) (x : A) → All P xs → slice_get xs place ≡ Some x
     → P x
-one_of P xs place x each is =
-    subst P (get_or_from_slice_get xs place x x is) (each place x (slice_get_within xs place x is))
+one_of P xs place x each is = grind (arith, get_or_from_slice_get, slice_get_within)
 
 -- nothing is in an empty list
 pub nothing_in : {A : Type 0} (x : A) → Contains [] x → ⊥
@@ -54,18 +30,19 @@ nothing_in x there = let below : there.0 < 0 = there.1 in absurd (omega (arith, 
 -- a session that was just opened has added nothing
 none_added : (session : Session) (statement : Statement) → IsPair (own_view session.inner) (other_alone session.inner)
     → HasAdded session statement → ⊥
-none_added session statement pair added =
-    nothing_in (entry_of 1 statement)
-    (subst (λ (list : List Entry). Contains list (entry_of 1 statement))
-    (ap (λ (k : Known). k.mine) pair.first_known) added)
+none_added session statement pair added = grind (arith, nothing_in)
 
 -- a manager that just began has everything that holds before any recovery
 pub fresh_holds : (stores : ℕ) (first : Managing) → IsFresh stores first → Holds first
 fresh_holds stores first fresh =
     let no : (number : ℕ) (stage : Stage) → stage_of first.stages number ≡ Some stage → ⊥ =
-    λ number stage is. no_stage number stage (sym (ap (λ s. stage_of s number) fresh.begins.stages) ∙ is) in
+    λ number stage is.
+    let none = none_begun number in
+    let same = ap (λ s. stage_of s number) fresh.begins.stages in absurd (cc) in
     let undecided : (number : ℕ) → is_decided first.decisions number ≡ true → ⊥ =
-    λ number is. none_decided number (sym (ap (λ d. is_decided d number) fresh.begins.decisions) ∙ is) in
+    λ number is.
+    let none = none_decided number in
+    let same = ap (λ d. is_decided d number) fresh.begins.decisions in absurd (cc) in
     let empty : (store : ℕ) (session : Session) (statement : Statement) → slice_get first.sessions store ≡ Some session
     → HasAdded session statement → ⊥ =
     λ store session statement is added.
@@ -88,9 +65,7 @@ fresh_holds stores first fresh =
 
 -- what holds of several and a last one holds of the several
 pub front_all : {A : Type 0} (P : A → Type 0) (xs : List A) (x : A) → All P (xs ++ x ∷ []) → All P xs
-front_all P xs x each place d within =
-    subst P (get_or_append_left xs (x ∷ []) d place within)
-    (each place d (omega (arith, within, length-append xs (x ∷ []))))
+front_all P xs x each place d within = grind (arith, get_or_append_left, length-append)
 
 -- what holds of several and a last one holds of the last one
 pub last_all : {A : Type 0} (P : A → Type 0) (xs : List A) (x : A) → All P (xs ++ x ∷ []) → P x
@@ -112,15 +87,11 @@ snoc_same [] (b ∷ []) x y is = absurd (cc)
 snoc_same [] (b ∷ c ∷ ys) x y is = absurd (cc)
 snoc_same (a ∷ []) [] x y is = absurd (cc)
 snoc_same (a ∷ c ∷ xs) [] x y is = absurd (cc)
-snoc_same (a ∷ xs) (b ∷ ys) x y is =
-    let rest = snoc_same xs ys x y (cc) in
-    let first : a ≡ b = cc in
-    (ap (λ f. f ∷ xs) first ∙ ap (λ list. b ∷ list) rest.0, rest.1)
+snoc_same (a ∷ xs) (b ∷ ys) x y is = grind (arith, snoc_same xs ys x y (cc))
 
 -- a list with a last element isn't empty
 not_empty : {A : Type 0} (xs : List A) (x : A) → [] ≡ xs ++ x ∷ [] → ⊥
-not_empty [] x is = absurd (cc)
-not_empty (y ∷ ys) x is = absurd (cc)
+not_empty xs x is = grind (arith, common_steps, nat_tests)
 
 -- carrying out calls is carrying out all but the last one, and then the last one
 pub last_call : (old new : Managing) (all : List Call) (answers : List Response) → CarriesOut old all answers new
@@ -129,13 +100,7 @@ pub last_call : (old new : Managing) (all : List Call) (answers : List Response)
     → (mid : Managing) × CarriesOut old told responses mid × IsAnswered mid call response new
 last_call old new all answers none_yet told call responses response is are = absurd (not_empty told call is)
 last_call old new all answers (one_more cs rs mid so_far c r n answered) told call responses response is are =
-    let calls = snoc_same cs told c call is in
-    let replies = snoc_same rs responses r response are in (
-      mid,
-      subst (λ list. CarriesOut old list responses mid) calls.0
-          (subst (λ list. CarriesOut old cs list mid) replies.0 so_far),
-      subst (λ it. IsAnswered mid it response n) calls.1 (subst (λ it. IsAnswered mid c it n) replies.1 answered),
-    )
+    grind (arith, snoc_same)
 
 -- ---- a recovery that came to its end
 
@@ -154,18 +119,7 @@ Recovering decisions store statement = Unit {0}
 recovering_goes : (decisions : List Decision) (sessions : List Session) (store : ℕ) (statement : Statement)
     → Recovering decisions store statement
     → GoesWith decisions sessions store statement
-recovering_goes decisions sessions store (Statement.Start xid) is = tt
-recovering_goes decisions sessions store (Statement.End xid) is = tt
-recovering_goes decisions sessions store (Statement.Prepare xid) is = tt
-recovering_goes decisions sessions store (Statement.Commit xid true) is = absurd is
-recovering_goes decisions sessions store (Statement.Commit xid false) is = is
-recovering_goes decisions sessions store (Statement.Rollback xid) is = is
-recovering_goes decisions sessions store (Statement.Recover convert) is = tt
-recovering_goes decisions sessions store Statement.Unsupported is = tt
-recovering_goes decisions sessions store (Statement.Get key) is = tt
-recovering_goes decisions sessions store (Statement.Put key value) is = tt
-recovering_goes decisions sessions store (Statement.Del key) is = tt
-recovering_goes decisions sessions store Statement.Disconnect is = tt
+recovering_goes decisions sessions store statement is = grind (arith)
 
 -- a recovery returned a report: it recovered by the decisions, the same numbers are decided, and what it added is of
 -- its kind
@@ -177,10 +131,7 @@ pub record HasEndedWell (mid last : Managing) (report : Report) : Type 0 where
 -- a RECOVER that was answered with this report recovered by the decisions, with it
 same_report : (mid last : Managing) (report : Report) → HasRecovered (limited own_view) mid (Recovered (Ok report)) last
     → Recovers (limited own_view) last.decisions (codes "c") report mid.sessions last.sessions
-same_report mid last report is =
-    let outcome : is.outcome ≡ Ok report = let e = is.told in cc in
-    subst (λ o. IfOk o (λ (r : Report). Recovers (limited own_view) last.decisions
-    (codes "c") r mid.sessions last.sessions)) outcome is.done
+same_report mid last report is = grind (arith)
 
 -- a RECOVER that was answered with a report ended well, as `HasEndedWell` says
 pub ended_well : (mid last : Managing) (report : Report) → IsAnswered mid Recover (Recovered (Ok report)) last
@@ -194,7 +145,7 @@ ended_well mid last report (inr carried) =
       decisions = λ number.
           ap (λ d. is_decided d number) (ap (λ (m : Managing). m.decisions) is.alone.stands)
           ∙ closed_decides mid.decisions number;
-      grows = grows_each (Recovering last.decisions) mid.sessions last.sessions is.alone.count
+      grows = grows_each (limited own_view) (Recovering last.decisions) mid.sessions last.sessions is.alone.count
           (λ store before after is_before is_after.
           let by = recovers.each store before after is_before is_after in
           recovered (Recovering last.decisions store) last.decisions (codes "c") store
@@ -221,19 +172,11 @@ module _ (mid last : Managing) (report : Report) (holds : Holds mid) (well : Has
   -- a statement that went with how far transactions had come goes with the decisions after the recovery
   goes_last : (store : ℕ) (statement : Statement) → Goes mid store statement
       → GoesWith last.decisions last.sessions store statement
-  goes_last store (Statement.Start xid) is = tt
-  goes_last store (Statement.End xid) is = tt
-  goes_last store (Statement.Prepare xid) is = tt
   goes_last store (Statement.Commit xid false) is = (is.0, is.1, well.decisions is.0 ∙ is.2)
   goes_last store (Statement.Commit xid true) is =
       (is.0, is.1, record { undecided = undecided is.0 is.2; alone = alone is.0 store is.3 })
   goes_last store (Statement.Rollback xid) is = (is.0, is.1, undecided is.0 is.2)
-  goes_last store (Statement.Recover convert) is = tt
-  goes_last store Statement.Unsupported is = tt
-  goes_last store (Statement.Get key) is = tt
-  goes_last store (Statement.Put key value) is = tt
-  goes_last store (Statement.Del key) is = tt
-  goes_last store Statement.Disconnect is = tt
+  goes_last store statement is = tt
 
   -- all that was added, before the recovery and in it, goes with the decisions, and no branch of the coordinator's is
   -- prepared

@@ -1,32 +1,36 @@
 -- What sessions answered: their replies without places in the history, and the list of what each other client
 -- answered.
 use Rattle.std.proofs.Common.{◌≡◌, ◌∙◌, ◌+◌, ℕ, zero, suc, true, List, [], ◌∷◌, ◌++◌, length, take, get_or, map, ap}
-use Rattle.std.proofs.{Common.{refl, sym, subst, Result, Ok, Err, Some, arith}, lemmas.List.length-map}
-use Rattle.std.{proofs.Math.Seq.take-append_seam, specs.Prelude.{IfOk, IfErr, slice_get, slice_set}}
+use Rattle.std.proofs.{Common.{refl, sym, subst, Result, Some, arith}, lemmas.List.length-map}
+use Rattle.std.proofs.{lemmas.Option.{slice_get-map, same_Some}, Math.Seq.take-append_seam}
+use Rattle.std.specs.{Prelude.{IfOk, IfErr, slice_get, slice_set}, Option.option_map}
 use Rattle.xa_xid.specs.declared.statement.Statement.{Statement, TheVariants.Recover}
 use Rattle.xa_server.specs.declared.reply.Reply.{Reply}
-use Rattle.xa_coordinator.specs.{declared.{decisions.Decision.Decision, fused.Fused.Fused}, Agreement.Agrees}
-use Rattle.xa_coordinator.{specs.Stores.EachStore, proofs.Walk.{Reached, reached_next, reached_weaker}}
-use Rattle.xa_coordinator.proofs.Keeping.{at_place, changes_at}
+use Rattle.xa_coordinator.specs.{declared.decisions.Decision.Decision, Agreement.Agrees, Stores.EachStore}
+use Rattle.xa_coordinator.proofs.{Walk.{Reached, reached_next, reached_weaker}, Keeping.{at_place, changes_at}}
 use Rattle.xa_session.specs.{declared.{answer.Answer.Answer, fault.Fault.Fault}, Answer.{IsAnswered, Fails}}
 use Rattle.xa_session.specs.View.{SessionView, StaysOfLog}
-use Rattle.xa_manager.specs.{declared.{call.Call.Call, response.Response.Response}, Whole.Performs}
-use Rattle.xa_manager.specs.{Carried.WholeManager, Said.{RepliesAs, IsGiven, IsListed, reply_of}}
+use Rattle.xa_manager.specs.Said.{RepliesAs, IsGiven, IsListed, reply_of}
 
--- sessions that are the same within are as many
-pub as_many : {S : Type 0} (old new : List (Fused S)) → map (λ (session : Fused S). session.inner) new
-    ≡ map (λ (session : Fused S). session.inner) old
-    → length new ≡ length old
-as_many {S} old new same = sym (length-map new (λ (session : Fused S). session.inner)) ∙ ap length same
-    ∙ length-map old (λ (session : Fused S). session.inner)
+-- lists that are the same as a function sees them are as long
+pub as_many : {A B : Type 0} (f : A → B) (old new : List A) → map f new ≡ map f old → length new ≡ length old
+as_many f old new same = sym (length-map new f) ∙ ap length same ∙ length-map old f
+
+-- lists that are the same as a function sees them are so at each place
+pub same_seen : {A B : Type 0} (f : A → B) (old new : List A) (place : ℕ) (before after : A) → map f new ≡ map f old
+    → slice_get old place ≡ Some before → slice_get new place ≡ Some after → f after ≡ f before
+same_seen f old new place before after same was is =
+    same_Some _ _
+    (sym (ap (option_map f) is) ∙ sym (slice_get-map f new place) ∙ ap (λ list. slice_get list place) same
+    ∙ slice_get-map f old place
+    ∙ ap (option_map f) was)
 
 -- what holds of a session's answer or fault holds of the reply alone, without its place in the history
 pub replied_as : (statement : Statement) (answered : Result Answer Fault) (old new : SessionView)
     → IfOk answered (λ answer. IsAnswered old.base statement answer old.known new.known)
     → IfErr answered (λ fault. Fails old.turns old.identity.capacity old.base statement fault old.known new.known)
     → RepliesAs statement (reply_of answered) old new
-replied_as statement (Ok answer) old new answers fails = (answer.place, answers)
-replied_as statement (Err fault) old new answers fails = fails
+replied_as statement answered old new answers fails = grind (arith)
 
 -- sessions to which only statements were added that agree with decisions are each of the log that they were of
 pub agreed_logs : {S : Type 0} (view : S → SessionView) (decisions : List Decision) (name : List ℕ) (old new : List S)
@@ -74,17 +78,4 @@ pub each_lent : {T : Type 0} (view : T → SessionView) (fact : ℕ → SessionV
     (items was now rest : List T) (count : ℕ)
     → was ≡ items → count ≡ length items → length now ≡ length was → EachStore view fact was now
     → EachStore view fact items (take count (now ++ rest))
-each_lent {T} view fact items was now rest count all whole same each =
-    let as_long : count ≡ length now = whole ∙ sym (ap length all) ∙ sym same in
-    let back : take count (now ++ rest) ≡ now = ap (λ n. take n (now ++ rest)) as_long ∙ take-append_seam now rest in
-    let P : List T → Type 0 = λ list. EachStore view fact items list in
-    let Q : List T → Type 0 = λ list. EachStore view fact list now in
-    subst P (sym back) (subst Q all each)
-
--- what was refused or carried out for a call was so for an equal one, as the call that a line says
-pub performed : {S T : Type 0} (view : S → SessionView) (view' : T → SessionView) (old new : WholeManager (Fused S) T)
-    (call said : Call) (response : Response)
-    → call ≡ said → Performs view view' old call response new → Performs view view' old said response new
-performed view view' old new call said response same performs =
-    let P : Call → Type 0 = λ c. Performs view view' old c response new in
-    subst P same performs
+each_lent {T} view fact items was now rest count all whole same each = grind (arith, take-append_seam)

@@ -1,39 +1,24 @@
 -- How far transactions have come, in a list.
-use Rattle.std.proofs.Common.{◌≡◌, ◌≢◌, ◌≤◌, ℕ, ◌<◌, ◌+◌, ◌-◌, ◌⊎◌, List, [], ◌∷◌, ◌++◌, zero, suc, length, arith, sym}
-use Rattle.std.proofs.Common.{refl, ap, subst, ◌∙◌, inl, inr, Some, None, Bool, true, false, cond}
-use Rattle.std.proofs.lemmas.{Bool.{eqb-false, eqb-true, Decides.eqb_tells}, List.{set_past, length-set}}
-use Rattle.std.{proofs.Math.Seq.set-append_seam, specs.Prelude.{◌==◌, slice_get, slice_set}}
+use Rattle.std.proofs.Common.{◌≡◌, ℕ, ◌<◌, ◌+◌, ◌-◌, ◌⊎◌, List, [], ◌∷◌, ◌++◌, zero, suc, length, arith, sym, refl, ap}
+use Rattle.std.proofs.{Common.{inl, inr, Some, true}, lemmas.{List.{set_past, length-set}, Bool.Decides.nat_tests}}
+use Rattle.std.{proofs.Math.Seq.set-append_seam, specs.Prelude.{slice_get, slice_set}}
 use Rattle.xa_xid.specs.declared.statement.Statement.{Statement}
 use Rattle.xa_coordinator.specs.{Work.IsRow, declared.transaction.{Transaction.Transaction, Prepared.Prepared}}
 use Rattle.xa_coordinator.{specs.declared.transaction.VoteKind.VoteKind, proofs.Places.{get_set_is, get_set_other}}
 use Rattle.xa_manager.specs.{declared.stage.Stage.{Stage, TheVariants.{Ready, Voted, Over}}, Calls.takes_rows}
 use Rattle.xa_manager.specs.Ledger.{stage_of, with_stage, transaction_in, IsTransactionOf}
 
--- a number that wasn't begun has a place past the list
-absent_past : (count number : ℕ) → (number ≡ 0) ⊎ (count < number) → number ≢ 0 → count ≤ number - 1
-absent_past count number (inl none) apart = absurd (apart none)
-absent_past count number (inr past) apart = omega arith
-
 -- setting the stage of a number that was never given changes nothing
 pub with_stage-absent : (stages : List Stage) (number : ℕ) (stage : Stage) → (number ≡ 0) ⊎ (length stages < number)
     → stages ≡ with_stage stages number stage
 unfolding with_stage
-with_stage-absent stages number stage absent = by (number == 0) refl
-  where
-    by : (b : Bool) → (number == 0) ≡ b → stages ≡ cond b stages (slice_set stages (number - 1) stage)
-    by true none = refl
-    by false some =
-        sym (set_past stages (number - 1) stage (absent_past (length stages) number absent (eqb-false number 0 some)))
+with_stage-absent stages number stage absent = grind (arith, nat_tests, set_past)
 
 -- setting a stage leaves how many stages there are
 pub with_stage-length : (stages : List Stage) (number : ℕ) (stage : Stage)
     → length (with_stage stages number stage) ≡ length stages
 unfolding with_stage
-with_stage-length stages number stage = by (number == 0)
-  where
-    by : (b : Bool) → length (cond b stages (slice_set stages (number - 1) stage)) ≡ length stages
-    by true = refl
-    by false = length-set stages (number - 1) stage
+with_stage-length stages number stage = grind (arith, length-set {A = Stage})
 
 -- of two settings of one place the second counts
 set-twice : {A : Type 0} (xs : List A) (place : ℕ) (x y : A)
@@ -46,14 +31,7 @@ set-twice (z ∷ zs) (suc n) x y = ap (λ rest. z ∷ rest) (set-twice zs n x y)
 pub with_stage-twice : (stages : List Stage) (number : ℕ) (before after : Stage)
     → with_stage (with_stage stages number before) number after ≡ with_stage stages number after
 unfolding with_stage
-with_stage-twice stages number before after = by (number == 0)
-  where
-    by : (b : Bool) →
-        cond b (cond b stages (slice_set stages (number - 1) before))
-        (slice_set (cond b stages (slice_set stages (number - 1) before)) (number - 1) after)
-        ≡ cond b stages (slice_set stages (number - 1) after)
-    by true = refl
-    by false = set-twice stages (number - 1) before after
+with_stage-twice stages number before after = grind (arith, set-twice {A = Stage})
 
 -- writing again what stands at a place changes nothing
 set-same : {A : Type 0} (xs : List A) (place : ℕ) (x : A) → slice_get xs place ≡ Some x → slice_set xs place x ≡ xs
@@ -65,50 +43,27 @@ set-same (y ∷ ys) (suc n) x is = ap (λ rest. y ∷ rest) (set-same ys n x is)
 pub with_stage-same : (stages : List Stage) (number : ℕ) (stage : Stage) → stage_of stages number ≡ Some stage
     → with_stage stages number stage ≡ stages
 unfolding stage_of with_stage
-with_stage-same stages number stage is = by (number == 0) is
-  where
-    by : (b : Bool) → cond b None (slice_get stages (number - 1)) ≡ Some stage
-        → cond b stages (slice_set stages (number - 1) stage) ≡ stages
-    by true none = refl
-    by false there = set-same stages (number - 1) stage there
+with_stage-same stages number stage is = grind (arith, set-same {A = Stage})
 
 -- a stage that was taken out for a call is put back: the stages are as before
 pub put_back : (stages : List Stage) (number : ℕ) (between stage : Stage) (taken now : List Stage)
     → stage_of stages number ≡ Some stage
     → taken ≡ with_stage stages number between → now ≡ with_stage taken number stage
     → now ≡ stages
-put_back stages number between stage taken now is out back =
-    back ∙ ap (λ list. with_stage list number stage) out ∙ with_stage-twice stages number between stage
-    ∙ with_stage-same stages number stage is
+put_back stages number between stage taken now is out back = grind (arith, with_stage-same, with_stage-twice)
 
 -- in place of a stage that was taken out for a call another is put: that is setting it
 pub put_on : (stages : List Stage) (number : ℕ) (between stage : Stage) (taken now : List Stage)
     → taken ≡ with_stage stages number between
     → now ≡ with_stage taken number stage → now ≡ with_stage stages number stage
-put_on stages number between stage taken now out back =
-    back ∙ ap (λ list. with_stage list number stage) out ∙ with_stage-twice stages number between stage
+put_on stages number between stage taken now out back = grind (arith, with_stage-twice)
 
 -- a stage that is found after one was set is that one, under its number, or was found before
 pub stage_of-with : (stages : List Stage) (number other : ℕ) (stage found : Stage)
     → stage_of (with_stage stages number stage) other ≡ Some found
     → ((other ≡ number) × (stage ≡ found)) ⊎ (stage_of stages other ≡ Some found)
 unfolding stage_of with_stage
-stage_of-with stages number other stage found is = by (number == 0) (other == 0) refl refl is
-  where
-    by : (b e : Bool) → (number == 0) ≡ b → (other == 0) ≡ e
-        → cond e None (slice_get (cond b stages (slice_set stages (number - 1) stage)) (other - 1)) ≡ Some found
-        → ((other ≡ number) × (stage ≡ found)) ⊎ (cond e None (slice_get stages (other - 1)) ≡ Some found)
-    by true true nb ne there = absurd (cc)
-    by false true nb ne there = absurd (cc)
-    by true false nb ne there = inr there
-    by false false nb ne there = elim (eqb_tells (other - 1) (number - 1)) [
-      | inl (_, here) ↦
-          let P : ℕ → Type 0 = λ at. slice_get (slice_set stages (number - 1) stage) at ≡ Some found in
-          let first = eqb-false number 0 nb in
-          let second = eqb-false other 0 ne in
-          inl (omega arith, get_set_is stages (number - 1) stage found (subst P here there))
-      | inr (_, apart) ↦ inr (sym (get_set_other stages (number - 1) (other - 1) stage apart) ∙ there)
-    ]
+stage_of-with stages number other stage found is = grind (arith, get_set_is, get_set_other, nat_tests)
 
 -- what is found in a list with a last element is that one, at its end, or was found before
 get-append : (stages : List Stage) (last found : Stage) (place : ℕ) → slice_get (stages ++ last ∷ []) place ≡ Some found
@@ -116,41 +71,23 @@ get-append : (stages : List Stage) (last found : Stage) (place : ℕ) → slice_
 get-append [] last found zero is = inl (refl, cc)
 get-append [] last found (suc n) is = absurd (cc)
 get-append (y ∷ ys) last found zero is = inr is
-get-append (y ∷ ys) last found (suc n) is = elim (get-append ys last found n is) [
-  | inl same ↦ inl (ap suc same.0, same.1)
-  | inr there ↦ inr there
-]
+get-append (y ∷ ys) last found (suc n) is = grind (arith, get-append ys last found n is)
 
 -- a stage that is found after one transaction more is the new one's, or was found before
 pub stage_of-append : (stages : List Stage) (last found : Stage) (other : ℕ)
     → stage_of (stages ++ last ∷ []) other ≡ Some found
     → ((other ≡ length stages + 1) × (last ≡ found)) ⊎ (stage_of stages other ≡ Some found)
 unfolding stage_of
-stage_of-append stages last found other is = by (other == 0) refl is
-  where
-    by : (e : Bool) → (other == 0) ≡ e → cond e None (slice_get (stages ++ last ∷ []) (other - 1)) ≡ Some found
-        → ((other ≡ length stages + 1) × (last ≡ found)) ⊎ (cond e None (slice_get stages (other - 1)) ≡ Some found)
-    by true ne there = absurd (cc)
-    by false ne there = elim (get-append stages last found (other - 1) there) [
-      | inl same ↦
-          let some = eqb-false other 0 ne in
-          let at = same.0 in
-          inl (omega arith, same.1)
-      | inr before ↦ inr before
-    ]
+stage_of-append stages last found other is = grind (arith, nat_tests, get-append)
 
 -- setting the stage of the last transaction puts it in the place of the last stage
 pub with_stage-last : (stages : List Stage) (before after : Stage) (number : ℕ) → number ≡ length stages + 1
     → with_stage (stages ++ before ∷ []) number after ≡ stages ++ after ∷ []
 unfolding with_stage
-with_stage-last stages before after number is = by (number == 0) refl
-  where
-    by : (b : Bool) → (number == 0) ≡ b → cond b (stages ++ before ∷ [])
-        (slice_set (stages ++ before ∷ []) (number - 1) after) ≡ stages ++ after ∷ []
-    by true none = let zeroth : number ≡ 0 = eqb-true number 0 none in absurd (omega arith)
-    by false some =
-        let place : number - 1 ≡ length stages = omega arith in
-        ap (λ at. slice_set (stages ++ before ∷ []) at after) place ∙ set-append_seam stages before [] after
+with_stage-last stages before after number is =
+    let place : number - 1 ≡ length stages = omega arith in
+    let put = ap (λ at. slice_set (stages ++ before ∷ []) at after) place in
+    grind (arith, nat_tests, put, set-append_seam stages before [] after)
 
 -- each transaction that a stage in the list keeps is the one of its number, of the coordinator `c` over so many
 -- stores
@@ -170,44 +107,26 @@ pub kept_with : (count : ℕ) (stages : List Stage) (number : ℕ) (stage : Stag
     → ((transaction : Transaction) → transaction_in stage ≡ Some transaction → IsTransactionOf count number transaction)
     → Kept count (with_stage stages number stage)
 kept_with count stages number stage kept is other found transaction there keeps =
-    elim (stage_of-with stages number other stage found there) [
-      | inl same ↦
-          let P : ℕ → Type 0 = λ n. IsTransactionOf count n transaction in
-          subst P (sym same.0) (is transaction (ap transaction_in same.1 ∙ keeps))
-      | inr before ↦ kept other found transaction before keeps
-    ]
+    grind (arith, stage_of-with)
 
 -- setting a stage keeps `AllReady`, if the new stage, where it is Ready, keeps a vote of Ready
 pub ready_with : (stages : List Stage) (number : ℕ) (stage : Stage) → AllReady stages
     → ((prepared : Prepared) → stage ≡ Ready prepared → prepared.vote_kind ≡ VoteKind.Ready)
     → AllReady (with_stage stages number stage)
-ready_with stages number stage ready is other prepared there =
-    elim (stage_of-with stages number other stage (Ready prepared) there) [
-      | inl same ↦ is prepared same.1
-      | inr before ↦ ready other prepared before
-    ]
+ready_with stages number stage ready is other prepared there = grind (arith, stage_of-with)
 
 -- one stage more keeps `Kept`, if its transaction is the one of the next number
 pub kept_more : (count : ℕ) (stages : List Stage) (last : Stage) → Kept count stages
     → ((transaction : Transaction) → transaction_in last ≡ Some transaction
     → IsTransactionOf count (length stages + 1) transaction)
     → Kept count (stages ++ last ∷ [])
-kept_more count stages last kept is other found transaction there keeps =
-    elim (stage_of-append stages last found other there) [
-      | inl same ↦
-          let P : ℕ → Type 0 = λ n. IsTransactionOf count n transaction in
-          subst P (sym same.0) (is transaction (ap transaction_in same.1 ∙ keeps))
-      | inr before ↦ kept other found transaction before keeps
-    ]
+kept_more count stages last kept is other found transaction there keeps = grind (arith, stage_of-append)
 
 -- one stage more keeps `AllReady`, if it, where it is Ready, keeps a vote of Ready
 pub ready_more : (stages : List Stage) (last : Stage) → AllReady stages
     → ((prepared : Prepared) → last ≡ Ready prepared → prepared.vote_kind ≡ VoteKind.Ready)
     → AllReady (stages ++ last ∷ [])
-ready_more stages last ready is other prepared there = elim (stage_of-append stages last (Ready prepared) other there) [
-  | inl same ↦ is prepared same.1
-  | inr before ↦ ready other prepared before
-]
+ready_more stages last ready is other prepared there = grind (arith, stage_of-append)
 
 -- setting the stage Over keeps `Kept`: it keeps no transaction, so nothing has to hold of it
 pub kept_over : (count : ℕ) (stages : List Stage) (number : ℕ) → Kept count stages
@@ -227,14 +146,4 @@ kept_voted count stages number prepared kept (inr voted) = kept number (Voted pr
 
 -- GET, PUT and DEL are row statements
 pub row : (statement : Statement) → takes_rows statement ≡ true → IsRow statement
-row (Statement.Start xid) is = absurd (cc)
-row (Statement.End xid) is = absurd (cc)
-row (Statement.Prepare xid) is = absurd (cc)
-row (Statement.Commit xid one_phase) is = absurd (cc)
-row (Statement.Rollback xid) is = absurd (cc)
-row (Statement.Recover convert) is = absurd (cc)
-row Statement.Unsupported is = absurd (cc)
-row (Statement.Get key) is = tt
-row (Statement.Put key value) is = tt
-row (Statement.Del key) is = tt
-row Statement.Disconnect is = absurd (cc)
+row statement is = grind (arith)

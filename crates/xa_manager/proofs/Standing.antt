@@ -2,7 +2,7 @@
 -- a branch of the coordinator's.
 use Rattle.std.proofs.Common.{◌≡◌, ◌⊎◌, ◌<◌, ◌≤◌, ◌+◌, ◌^◌, ℕ, zero, suc, Bool, true, false, cond, List, [], ◌∷◌, ◌++◌}
 use Rattle.std.proofs.Common.{length, take, refl, ap, sym, ◌∙◌, subst, inl, inr, Some, Ok, arith}
-use Rattle.std.proofs.lemmas.{Bool.Decides.eqb_tells, Option.slice_get_within}
+use Rattle.std.proofs.lemmas.{Option.slice_get_within, Bool.Decides.nat_tests}
 use Rattle.std.specs.Prelude.{slice_get, slice_index_or, Contains, All, codes, nat_eq}
 use mathlib.Core.Bool.{true≢false}
 use Rattle.xa_words.specs.Entry.{Entry}
@@ -13,13 +13,13 @@ use Rattle.xa_server.specs.{State.{State, is_prepared}, Step.enters}
 use Rattle.xa_session.specs.{Answer.entry_of, Replay.{state_after, state_at}}
 use Rattle.xa_session.proofs.Replaying.{state_at-next, state_at-begins}
 use Rattle.xa_coordinator.specs.{Branch.IsBranchOf, Decisions.is_decided, declared.report.Report.Report}
-use Rattle.xa_coordinator.specs.{Lasting.{own_view, history_of}, declared.store.LastingStore.LastingStore}
+use Rattle.xa_coordinator.specs.{declared.store.LastingStore.LastingStore, Lasting.{own_view, history_of}}
 use Rattle.xa_manager.specs.declared.{call.Call.{Call, TheVariants.Recover}, response.Response.Response}
-use Rattle.xa_manager.specs.declared.response.Response.TheVariants.{Recovered}
-use Rattle.xa_manager.specs.{Runs.{Managing, IsRun}, Atomic.{branch_in, HasAdded, IsPlain, IsAlone}}
-use Rattle.xa_manager.specs.Atomic.{GoesWith, KeepsToDecisions, EndsNone, LeavesBranches, WasCommitted, AllOrNone}
-use Rattle.xa_manager.proofs.{Holding.{Session, Holds, grew_cases, grew_stays}, Holds.one_number, Recovering.Recovering}
-use Rattle.xa_manager.proofs.Recovering.{HasEndedWell, ended_well, keeps, last_call, calls_hold, fresh_holds}
+use Rattle.xa_manager.specs.{declared.response.Response.TheVariants.Recovered, Runs.{Managing, IsRun}, Atomic.branch_in}
+use Rattle.xa_manager.specs.Atomic.{HasAdded, IsPlain, IsAlone, GoesWith, KeepsToDecisions, EndsNone, LeavesBranches}
+use Rattle.xa_manager.{specs.Atomic.{WasCommitted, AllOrNone}, proofs.Holding.{Session, Holds, grew_cases, grew_stays}}
+use Rattle.xa_manager.proofs.{Holds.one_number, Recovering.{Recovering, HasEndedWell, ended_well, keeps, last_call}}
+use Rattle.xa_manager.proofs.Recovering.{calls_hold, fresh_holds}
 use Rattle.xa_manager.proofs.Finding.{EndsBranch, IsEndedAt, ended_behind, prepares, commit_rows}
 use Rattle.xa_manager.proofs.Others.{OthersLeave, OtherAdded, calls_leave, answered_leave, fresh_leave}
 
@@ -38,13 +38,7 @@ pub is_among : (number : ℕ) (history : List Entry) (place : ℕ) (entry : Entr
     → is_of number entry ≡ true
     → Contains (entries_of number history) entry
 is_among number [] place entry is own = absurd (cc)
-is_among number (first ∷ rest) zero entry is own =
-    let same : first ≡ entry = cc in
-    let mine : is_of number first ≡ true = ap (is_of number) same ∙ own in
-    subst (λ (list : List Entry). Contains list entry) (ap
-    (λ b. cond b (first ∷ entries_of number rest) (entries_of number rest)) (sym mine))
-    (subst (λ (e : Entry). Contains (first ∷ entries_of number rest) e) same
-    (first_there first (entries_of number rest)))
+is_among number (first ∷ rest) zero entry is own = grind (arith, entries_of, first_there, is_of)
 is_among number (first ∷ rest) (suc place) entry is own =
     by (is_of number first) (is_among number rest place entry is own)
   where
@@ -87,10 +81,7 @@ begins_take (suc count) (x ∷ xs) = ap (λ rest. x ∷ rest) (begins_take count
 
 -- a number from 1 to 2 is 1 or 2
 one_or_two : (number : ℕ) → (1 ≤ number) × (number ≤ 2) → (number ≡ 1) ⊎ (number ≡ 2)
-one_or_two number within = elim (eqb_tells number 1) [
-  | inl (_, one) ↦ inl one
-  | inr (_, apart) ↦ inr (omega (arith, apart, within.0, within.1))
-]
+one_or_two number within = grind (arith, nat_tests)
 
 -- an entry of a session is made of that session's number and its statement
 entry_is : (entry : Entry) (number : ℕ) → entry.session ≡ number → entry ≡ entry_of number entry.statement
