@@ -103,6 +103,14 @@ alone_itself a = grind (arith)
 alone_then : (a b c : SessionView) → IsLeftAlone a b → IsLeftAlone b c → IsLeftAlone a c
 alone_then a b c first second = grind (arith)
 
+-- what was refused or carried out for a call was so for an equal one, as the call that a line says
+pub performed_said : {S T : Type 0} (view other : S → SessionView) (nobody : T → SessionView)
+    (old new : WholeManager (Fused S) T) (call said : Call)
+    (response : Response)
+    → call ≡ said → PerformsBeside view other nobody old call response new
+    → PerformsBeside view other nobody old said response new
+performed_said view other nobody old new call said response same performs = grind arith
+
 -- the loop over stores: the other client of one more has listed what is prepared there
 pub listed_beside : {S : Type 0} (view : S → SessionView) (answers : List (Result Reply Fault))
     (answered : Result Answer Fault) (answer : Result Reply Fault)

@@ -21,7 +21,7 @@ use Rattle.xa_manager.proofs.States.{worked_kept, voted_kept, voted_ready}
 use Rattle.xa_manager.proofs.{Added.{ending_adds, vote_adds, work_adds, work_keeps, adds_known}, Holding.Session}
 use Rattle.xa_manager.proofs.Holding.{MayStandDecided, TookPart, IsUndecidedOver, Goes, Holds, Grows, grows_each}
 use Rattle.xa_manager.proofs.Holding.{grew_cases, Never, quiet}
-use Rattle.xa_manager.proofs.{Moving.{acts, begins, decides_one, stage_put, with_acts}, Said.{as_many, same_seen}}
+use Rattle.xa_manager.proofs.{Moving.{acts, begins, decides_one, stage_put, with_acts}, Said.{as_long, same_seen}}
 
 -- ---- sessions that weren't spoken to
 
@@ -30,7 +30,7 @@ pub grows_within : (old new : List Session) → map (λ (s : Session). s.inner) 
     → Grows Never old new
 grows_within old new same =
     let inner : Session → LastingStore = λ s. s.inner in
-    grows_each (limited own_view) Never old new (as_many inner old new same)
+    grows_each (limited own_view) Never old new (as_long inner old new same)
     (λ store before after was is.
     adds_known (Never store) (limited own_view before) (limited own_view after)
     (ap (λ (c : LastingStore). (own_view c).known) (same_seen inner old new store before after same was is)))
@@ -38,7 +38,7 @@ grows_within old new same =
 -- sessions that a call left alone have added nothing
 pub grows_alone : (old new : List Session) → LeavesAlone own_view old new → Grows Never old new
 grows_alone old new is =
-    grows_each (limited own_view) Never old new (as_many (λ (s : Session). s.left) old new is.left)
+    grows_each (limited own_view) Never old new (as_long (λ (s : Session). s.left) old new is.left)
     (λ store before after is_before is_after.
     adds_known (Never store) (limited own_view before) (limited own_view after)
     (is.alone store before after is_before is_after).known)
@@ -98,7 +98,8 @@ pub works : (number store : ℕ) (row : Statement) (old new : Managing) (respons
     → HasWorked (limited own_view) number store row old response new → Holds old → Holds new
 works number store row old new response rows is holds =
     subst Holds (sym is.alone.stands)
-    (acts (Begins is.before is.after) number (Working is.before) (Working is.after) old new.branches new.sessions (record {
+    (acts (Begins is.before is.after) number (Working is.before) (Working is.after) old new.branches
+    new.sessions (record {
       before = is.working;
       opened = λ e. absurd (cc);
       grows = grows_each (limited own_view) (Begins is.before is.after) old.sessions new.sessions is.alone.count

@@ -14,7 +14,7 @@ use Rattle.xa_manager.specs.{Whole.IsPair, declared.{call.Call.Call, response.Re
 use Rattle.xa_manager.{specs.Atomic.{EndsNone, LeavesBranches}, proofs.Holding.{Session, Never, GrowsAs, grows_each}}
 use Rattle.xa_manager.specs.Runs.{Managing, IsAnswered, CarriesOut, none_yet, one_more, IsFresh}
 use Rattle.xa_manager.proofs.Added.{AddsOnly, added_or_there, answered, adds_same}
-use Rattle.xa_manager.proofs.{Recovering.{one_of, nothing_in, front_all, last_all}, Said.{as_many, same_seen}}
+use Rattle.xa_manager.proofs.{Recovering.{one_of, nothing_in, front_all, last_all}, Said.{as_long, same_seen}}
 
 -- the other client's session added the statement
 abbrev pub OtherAdded : Session → Statement → Type 0
@@ -54,7 +54,7 @@ same_leave : (old new : Managing)
 same_leave old new same =
     let other : Session → SessionView = within other_alone in
     still_leave Never old new (λ store statement never. absurd never)
-    (grows_each other Never old.sessions new.sessions (as_many other old.sessions new.sessions same)
+    (grows_each other Never old.sessions new.sessions (as_long other old.sessions new.sessions same)
     (λ store before after was is.
     adds_same (Never store) (other before) (other after)
     (same_seen other old.sessions new.sessions store before after same was is)))
@@ -84,7 +84,7 @@ shown_leave : (old new : Managing) (response : Response) → IsShownBeside own_v
 shown_leave old new response is =
     still_leave EndsNone old new (λ there it leaves. leaves)
     (grows_each (within other_alone) EndsNone old.sessions new.sessions
-    (as_many (λ (s : Session). s.left) old.sessions new.sessions is.alone.left)
+    (as_long (λ (s : Session). s.left) old.sessions new.sessions is.alone.left)
     (λ there before after is_before is_after.
     let listed = is.each there before after is_before is_after in
     given_adds (EndsNone there) (RecoverStatement true) listed.answer (other_alone before.inner)

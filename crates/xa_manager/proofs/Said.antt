@@ -6,15 +6,23 @@ use Rattle.std.proofs.{lemmas.Option.{slice_get-map, same_Some}, Math.Seq.take-a
 use Rattle.std.specs.{Prelude.{IfOk, IfErr, slice_get, slice_set}, Option.option_map}
 use Rattle.xa_xid.specs.declared.statement.Statement.{Statement, TheVariants.Recover}
 use Rattle.xa_server.specs.declared.reply.Reply.{Reply}
-use Rattle.xa_coordinator.specs.{declared.decisions.Decision.Decision, Agreement.Agrees, Stores.EachStore}
+use Rattle.xa_coordinator.specs.{declared.{decisions.Decision.Decision, fused.Fused.Fused}, Agreement.Agrees}
+use Rattle.xa_coordinator.specs.Stores.{EachStore}
 use Rattle.xa_coordinator.proofs.{Walk.{Reached, reached_next, reached_weaker}, Keeping.{at_place, changes_at}}
 use Rattle.xa_session.specs.{declared.{answer.Answer.Answer, fault.Fault.Fault}, Answer.{IsAnswered, Fails}}
 use Rattle.xa_session.specs.View.{SessionView, StaysOfLog}
-use Rattle.xa_manager.specs.Said.{RepliesAs, IsGiven, IsListed, reply_of}
+use Rattle.xa_manager.specs.{declared.{call.Call.Call, response.Response.Response}, Whole.Performs}
+use Rattle.xa_manager.specs.{Carried.WholeManager, Said.{RepliesAs, IsGiven, IsListed, reply_of}}
 
 -- lists that are the same as a function sees them are as long
-pub as_many : {A B : Type 0} (f : A → B) (old new : List A) → map f new ≡ map f old → length new ≡ length old
-as_many f old new same = sym (length-map new f) ∙ ap length same ∙ length-map old f
+pub as_long : {A B : Type 0} (f : A → B) (old new : List A) → map f new ≡ map f old → length new ≡ length old
+as_long f old new same = sym (length-map new f) ∙ ap length same ∙ length-map old f
+
+-- sessions that are the same within are as many
+pub as_many : {S : Type 0} (old new : List (Fused S)) → map (λ (session : Fused S). session.inner) new
+    ≡ map (λ (session : Fused S). session.inner) old
+    → length new ≡ length old
+as_many {S} old new same = as_long (λ (session : Fused S). session.inner) old new same
 
 -- lists that are the same as a function sees them are so at each place
 pub same_seen : {A B : Type 0} (f : A → B) (old new : List A) (place : ℕ) (before after : A) → map f new ≡ map f old
@@ -79,3 +87,9 @@ pub each_lent : {T : Type 0} (view : T → SessionView) (fact : ℕ → SessionV
     → was ≡ items → count ≡ length items → length now ≡ length was → EachStore view fact was now
     → EachStore view fact items (take count (now ++ rest))
 each_lent {T} view fact items was now rest count all whole same each = grind (arith, take-append_seam)
+
+-- what was refused or carried out for a call was so for an equal one, as the call that a line says
+pub performed : {S T : Type 0} (view : S → SessionView) (view' : T → SessionView) (old new : WholeManager (Fused S) T)
+    (call said : Call) (response : Response)
+    → call ≡ said → Performs view view' old call response new → Performs view view' old said response new
+performed view view' old new call said response same performs = grind arith

@@ -41,7 +41,8 @@ pub ready_as : (s t : List Stage) → t ≡ s → AllReady s → AllReady t
 ready_as s t stages ready = let P : List Stage → Type 0 = λ list. AllReady list in subst P (sym stages) ready
 
 -- a decision changes how a number stands, not how many there are
-pub decided-length : (decisions : List Decision) (number : ℕ) → length (with_decided decisions number) ≡ length decisions
+pub decided-length : (decisions : List Decision) (number : ℕ)
+    → length (with_decided decisions number) ≡ length decisions
 unfolding with_decided
 decided-length decisions number = length-set decisions (number - 1) Decision.Decided
 

@@ -6,7 +6,7 @@ pub returns : goal.returns
 returns g c =
     let was = c.args.self.now.coordinator.stores in
     let now = c.allow.new.self.stores in
-    let count : vec_len now ≡ vec_len was = now.ok.0 ∙ as_many _ _ _ c.allow.ensures.sessions ∙ sym was.ok.0 in
+    let count : vec_len now ≡ vec_len was = now.ok.0 ∙ as_many _ _ c.allow.ensures.sessions ∙ sym was.ok.0 in
     inr (record {
       known = search rules;
       told = refl;

@@ -10,5 +10,5 @@ returns g c =
     let within =
     ap (λ (stores : Vec (Fused g.row.S.Denot) Global). map
     (λ session. session.inner) stores.items) c.restart.ensures.stores ∙ c.allow_all.ensures.sessions in
-    let count : vec_len now ≡ vec_len was = now.ok.0 ∙ as_many _ _ _ within ∙ sym was.ok.0 in
+    let count : vec_len now ≡ vec_len was = now.ok.0 ∙ as_many _ _ within ∙ sym was.ok.0 in
     record { told = refl; anew = search rules; within = within; stands = same_whole _ _ _ _ _ _ _ _ _ count refl refl }
