@@ -1,17 +1,17 @@
--- A step of a session's branch commutes with a statement of another session that has nothing to do with it.
+-- Statements of two sessions that have nothing to do with each other come to the same in either order.
 --     held_alike, locked_alike     whether a row is held against a session, in two states;  exclusively
 --     IsAsked, reply_same          a statement has the same reply in both states
+--     bars_after, unlisted_after   what a statement leaves of a row's locks;  of the list of PREPARED branches
+--     listed_same                  the lists of PREPARED branches are the same
 --     written, effect-row          what a statement's effect leaves of a row's committed value
---     IsAbout, WriteAlike          a statement is about one branch alone;  values after both orders
---     by_row, by_ending            the statements that name a row;  those that end a branch
---     unheld_after, hold_after     who holds a row after a statement that doesn't name it;  after a step on other rows
---     held_none, unwritten         no other branch holds the row;  a statement leaves a value
---     step_row, step_prepared      what a step leaves of committed values;  of the list of PREPARED branches
---     listed_same, away_key        the lists of PREPARED branches are the same;  keys differ in either order
---     Commutes, step_commutes      a step and a statement that is clear of it come to the same in any order
+--     Changes, keeps_or_changes    a statement gives a row a value;  or it leaves each value
+--     one_leaves                   of two statements that are apart, one leaves the branch as it is
+--     Commutes, apart_commute      two statements come to the same in either order;  those that are apart do
+--     apart_same, still_apart      what is apart, is so in another configuration;  after an act
+--     exchanged_apart              acts of two sessions change places
 use Rattle.std.proofs.Common.{◌≡◌, ◌≢◌, ◌⊎◌, ℕ, Bool, true, false, cond, not, ◌&&◌, ◌||◌, [], ◌∷◌, Option, Some, None}
-use Rattle.std.proofs.{Common.{List, refl, ap, sym, ◌∙◌, subst, inl, inr}, lemmas.Bool.{false≢true, eqb-true}}
-use Rattle.std.{proofs.lemmas.Option.{none-some, same_Some}, specs.Prelude.{is_some, ◌==◌}}
+use Rattle.std.{proofs.{Common.{List, set, refl, ap, sym, ◌∙◌, subst, inl, inr}, lemmas.Bool.false≢true}}
+use Rattle.std.{proofs.lemmas.Option.{none-some, same_Some}, specs.Prelude.{is_some, slice_get, ◌==◌}}
 use Rattle.std.specs.List.{list_any, AllByRecursion, Sorted.IsStrictlySortedBy}
 use Rattle.std.specs.Option.{option_map, option_and_then, option_map_or, unwrap_or}
 use Rattle.std.specs.FinMap.{contains_key-keys, get-insert, get-remove, get-entries, get-empty, same_map}
@@ -23,52 +23,58 @@ use Rattle.xa_xid.proofs.Orders.{xids_total, exact_xids, bytes_total, exact_text
 use Rattle.xa_server.specs.declared.association.Association.{Association, TheVariants.{Free, Active, Idle}}
 use Rattle.xa_server.specs.declared.{reply.Reply.Reply, xa_error.XaError.TheVariants.{Nota, Rmfail, Dupid, RowLocked}}
 use Rattle.xa_server.specs.{declared.xa_error.BranchState.TheVariants.Prepared as StatePrepared, State.Write}
-use Rattle.xa_server.specs.State.{LockMode, Shared, Exclusive, Branch, State, association_of, owns, owner_at, is_known}
-use Rattle.xa_server.specs.State.{is_prepared, is_prepared_phase, prepared_xids, committed_value, value_within}
-use Rattle.xa_server.specs.{State.{write_at, IsOpen}, Replies.{table, reply_to, ok_if, refused_if}, Locks.LockLaw}
-use Rattle.xa_server.specs.Locks.{lock_at, holds, holds_exclusively, is_exclusive, is_another, is_held_against}
-use Rattle.xa_server.specs.{Locks.is_locked_against, Step.{after, effect, is_refused, with_branch, with_changed}}
-use Rattle.xa_server.specs.Step.{without_branch, with_writes, committed, started_by, with_lock, with_own_write}
-use Rattle.xa_server.{specs.Laws.LeavesSession, proofs.Maps.{same_or_apart, same_itself, get_inserted_apart}}
-use Rattle.xa_server.proofs.{Holders.{any_witness, any_some, same_truth, both, itself}, Changes.{idle, detached}}
-use Rattle.xa_server.proofs.Changes.{branch_after, effect-branch, outcome, refused_leaves, accepted_done}
-use Rattle.xa_server.proofs.{Ending.get-with_writes, Steps.same_state, Accepted.open_association}
-use Rattle.xa_server.proofs.{Listing.{prepared_ascend, prepared_exactly}, Others.{IsOwn, own_association, others_left}}
-use Rattle.xa_judge.specs.Clear.{named_by, key_of, Avoids, IsBeside, IsEnding, IsUnlisted, IsAmong, HasRow, MayEnd}
-use Rattle.xa_judge.specs.Clear.{IsOwnStep, IsClearOf, starts, ends, prepares, works, finishes}
+use Rattle.xa_server.specs.{declared.branch.Phase.Phase, State.{LockMode, Shared, Exclusive, Branch, State}}
+use Rattle.xa_server.specs.State.{association_of, owns, owner_at, is_known, phase_at, is_prepared, is_prepared_phase}
+use Rattle.xa_server.specs.State.{prepared_xids, committed_value, value_within, write_at, IsOpen}
+use Rattle.xa_server.specs.{Replies.{table, reply_to, ok_if, refused_if}, Locks.{LockLaw, lock_at, holds, is_another}}
+use Rattle.xa_server.specs.Locks.{holds_exclusively, is_exclusive, is_held_against, is_locked_against}
+use Rattle.xa_server.specs.Step.{after, effect, is_refused, with_branch, with_changed, without_branch, with_writes}
+use Rattle.xa_server.specs.{Step.{committed, started_by, with_lock, with_own_write}, Laws.LeavesSession}
+use Rattle.xa_server.proofs.{Maps.{same_or_apart, same_itself, get_inserted_apart}, Ending.get-with_writes}
+use Rattle.xa_server.proofs.Holders.{any_witness, any_some, same_truth, both, itself, none_of, exclusive_some}
+use Rattle.xa_server.proofs.Changes.{idle, detached, branch_after, effect-branch, outcome, refused_leaves, accepted_done}
+use Rattle.xa_server.proofs.{Steps.same_state, Accepted.{open_association, accepted_start, accepted_end, own_is}}
+use Rattle.xa_server.proofs.{Listing.{prepared_ascend, prepared_exactly}, Keeping.{is_free, owner_associated}}
+use Rattle.xa_server.proofs.{Others.{is_owned, IsOwn, own_association, owned_before, others_left}, Seen.owned_is}
+use Rattle.xa_judge.specs.declared.request.Request.{Request, TheVariants.{Statement as Given, Unread}}
+use Rattle.xa_judge.specs.declared.{answer.Answer.Answer, client_state.ClientState.ClientState, moves.Act.Act}
+use Rattle.xa_judge.specs.Explained.{Config, effect_of, answer_to, next_state}
+use Rattle.xa_judge.specs.Apart.{named_by, key_of, Avoids, IsBeside, EndsIn, IsUnlisted, is_get, exclusively, barring}
+use Rattle.xa_judge.specs.Apart.{Spares, AreApart, open_statement, is_gone, Opens, HasOpen, IsApartAt}
+use Rattle.xa_judge.proofs.{Acts.{ActsAs, acts_as}, Places.{same_number, get_written, get_apart, set_apart}}
 use Rattle.std.specs.FinMap as map
 
 -- where a test fails, what was there stays
-apart_same : {A : Type 0} (b : Bool) (new old : A) → b ≡ false → cond b new old ≡ old
-apart_same true new old e = absurd (false≢true (sym e))
-apart_same false new old e = refl
+kept_if : {A : Type 0} (b : Bool) (new old : A) → b ≡ false → cond b new old ≡ old
+kept_if true new old e = absurd (false≢true (sym e))
+kept_if false new old e = refl
 
 -- the effect of a statement leaves a branch that it doesn't name and that its session hasn't open
 branch_kept : (session : ℕ) (association : Association) (statement : Statement) (xid : Xid) (found : Option Branch)
     → Avoids statement xid → IsBeside association xid → branch_after session association statement xid found ≡ found
 unfolding branch_after
-branch_kept session association (Start other) xid found avoids beside = apart_same _ _ found avoids
-branch_kept session association (End other) xid found avoids beside = apart_same _ _ found avoids
-branch_kept session association (Prepare other) xid found avoids beside = apart_same _ _ found avoids
-branch_kept session association (Commit other one_phase) xid found avoids beside = apart_same _ _ found avoids
-branch_kept session association (Rollback other) xid found avoids beside = apart_same _ _ found avoids
+branch_kept session association (Start other) xid found avoids beside = kept_if _ _ found avoids
+branch_kept session association (End other) xid found avoids beside = kept_if _ _ found avoids
+branch_kept session association (Prepare other) xid found avoids beside = kept_if _ _ found avoids
+branch_kept session association (Commit other one_phase) xid found avoids beside = kept_if _ _ found avoids
+branch_kept session association (Rollback other) xid found avoids beside = kept_if _ _ found avoids
 branch_kept session association (Recover convert) xid found avoids beside = refl
 branch_kept session association Unsupported xid found avoids beside = refl
 branch_kept session Free (Get key) xid found avoids beside = refl
-branch_kept session (Active own) (Get key) xid found avoids beside = apart_same _ _ found beside
+branch_kept session (Active own) (Get key) xid found avoids beside = kept_if _ _ found beside
 branch_kept session (Idle own) (Get key) xid found avoids beside = refl
 branch_kept session Free (Put key value) xid found avoids beside = refl
-branch_kept session (Active own) (Put key value) xid found avoids beside = apart_same _ _ found beside
+branch_kept session (Active own) (Put key value) xid found avoids beside = kept_if _ _ found beside
 branch_kept session (Idle own) (Put key value) xid found avoids beside = refl
 branch_kept session Free (Del key) xid found avoids beside = refl
-branch_kept session (Active own) (Del key) xid found avoids beside = apart_same _ _ found beside
+branch_kept session (Active own) (Del key) xid found avoids beside = kept_if _ _ found beside
 branch_kept session (Idle own) (Del key) xid found avoids beside = refl
 branch_kept session Free Disconnect xid found avoids beside = refl
-branch_kept session (Active own) Disconnect xid found avoids beside = apart_same _ _ found beside
-branch_kept session (Idle own) Disconnect xid found avoids beside = apart_same _ _ found beside
+branch_kept session (Active own) Disconnect xid found avoids beside = kept_if _ _ found beside
+branch_kept session (Idle own) Disconnect xid found avoids beside = kept_if _ _ found beside
 
 -- a branch that a statement doesn't name, and that its session hasn't open, is as it was after the statement
-pub untouched : (state : State) (session : ℕ) (statement : Statement) (xid : Xid) → Avoids statement xid
+untouched : (state : State) (session : ℕ) (statement : Statement) (xid : Xid) → Avoids statement xid
     → IsBeside (association_of state session) xid
     → map.get (after state session statement).branches xid ≡ map.get state.branches xid
 untouched state session statement xid avoids beside = elim (outcome state session statement) [
@@ -79,7 +85,7 @@ untouched state session statement xid avoids beside = elim (outcome state sessio
 ]
 
 -- a session hasn't the branch open that it doesn't own
-pub beside_unowned : (state : State) (session : ℕ) (xid : Xid) → owns state session xid ≡ false
+beside_unowned : (state : State) (session : ℕ) (xid : Xid) → owns state session xid ≡ false
     → IsBeside (association_of state session) xid
 beside_unowned state session xid none = by (association_of state session) refl
   where
@@ -94,11 +100,26 @@ beside_unowned state session xid none = by (association_of state session) refl
     by (Active own) is = apart own (subst (λ a. IsOwn state session a) is (own_association state session))
     by (Idle own) is = apart own (subst (λ a. IsOwn state session a) is (own_association state session))
 
--- ---- who holds a row
+-- what may be put in at an identifier, and what was there: of what is there then is so what is so of both
+picked : (P : Option Branch → Type 0) (at xid : Xid) (new found : Option Branch) → (at ≡ xid → P new) → P found
+    → P (cond (same_xid at xid) new found)
+picked P at xid new found one two = elim (same_or_apart xids_total exact_xids at xid) [
+  | inl is ↦ subst (λ b. P (cond b new found)) (sym (ap (same_xid at) (sym is) ∙ itself at)) (one is)
+  | inr apart ↦ subst (λ b. P (cond b new found)) (sym apart) two
+]
 
--- the branches hold the row alike in both states
-abbrev pub HoldAlike : State → State → List ℕ → Type 0
-HoldAlike old new key = (xid : Xid) → lock_at new xid key ≡ lock_at old xid key
+-- a change of the branch at an identifier leaves what it leaves of each branch
+changed : {A : Type 0} (f : Option Branch → A) (at xid : Xid) (change : Branch → Branch) (found : Option Branch)
+    → ((branch : Branch) → f (Some (change branch)) ≡ f (Some branch))
+    → f (cond (same_xid at xid) (option_map change found) found) ≡ f found
+changed f at xid change found keeps =
+    picked (λ o. f o ≡ f found) at xid (option_map change found) found (λ is. by found) refl
+  where
+    by : (o : Option Branch) → f (option_map change o) ≡ f o
+    by None = refl
+    by (Some branch) = keeps branch
+
+-- ---- who holds a row
 
 -- a branch that holds a row is among the state's branches
 holds_known : (state : State) (xid : Xid) (key : List ℕ) → holds state xid key ≡ true
@@ -119,13 +140,9 @@ any_alike old new key p q alike held e =
     let w = any_witness p (map.keys old.branches) e in
     any_some q (map.keys new.branches) w.0 (holds_known new w.0 key (held w.0 w.2)) (sym (alike w.0) ∙ w.2)
 
--- a row that is held exclusively is held
-exclusive_held : (o : Option _) → is_exclusive o ≡ true → is_some o ≡ true
-exclusive_held None e = absurd (false≢true e)
-exclusive_held (Some mode) e = refl
-
 -- if the branches hold the row alike in both states, one that isn't the session's own holds it in both or in neither
-pub held_alike : (old new : State) (association : Association) (key : List ℕ) → HoldAlike old new key
+held_alike : (old new : State) (association : Association) (key : List ℕ)
+    → ((xid : Xid) → lock_at new xid key ≡ lock_at old xid key)
     → is_held_against new association key ≡ is_held_against old association key
 unfolding is_held_against
 held_alike old new association key alike =
@@ -135,28 +152,63 @@ held_alike old new association key alike =
     (any_alike old new key _ _ (λ xid. ap (λ o. is_another association xid && is_some o) (sym (alike xid)))
     (λ xid e. ap is_some (alike xid) ∙ (both _ _ e).1))
 
--- if the branches hold the row alike in both states, one that isn't the session's own holds it exclusively in both or
--- in neither
-pub locked_alike : (old new : State) (association : Association) (key : List ℕ) → HoldAlike old new key
+-- if each branch holds the row exclusively in both states or in neither, so does one that isn't the session's own
+locked_alike : (old new : State) (association : Association) (key : List ℕ)
+    → ((xid : Xid) → holds_exclusively new xid key ≡ holds_exclusively old xid key)
     → is_locked_against new association key ≡ is_locked_against old association key
 unfolding is_locked_against
 locked_alike old new association key alike =
     same_truth _ _
-    (any_alike new old key _ _ (λ xid. ap (λ o. is_another association xid && is_exclusive o) (alike xid))
-    (λ xid e. exclusive_held _ (sym (ap is_exclusive (alike xid)) ∙ (both _ _ e).1)))
-    (any_alike old new key _ _ (λ xid. ap (λ o. is_another association xid && is_exclusive o) (sym (alike xid)))
-    (λ xid e. exclusive_held _ (ap is_exclusive (alike xid) ∙ (both _ _ e).1)))
+    (any_alike new old key _ _ (λ xid. ap (λ b. is_another association xid && b) (alike xid))
+    (λ xid e. exclusive_some _ (sym (alike xid) ∙ (both _ _ e).1)))
+    (any_alike old new key _ _ (λ xid. ap (λ b. is_another association xid && b) (sym (alike xid)))
+    (λ xid e. exclusive_some _ (alike xid ∙ (both _ _ e).1)))
+
+-- a row is held exclusively or not by how it is, as far as that bars GET
+exclusive_barring : (o : Option LockMode) → is_exclusive (exclusively o) ≡ is_exclusive o
+exclusive_barring None = refl
+exclusive_barring (Some Shared) = refl
+exclusive_barring (Some Exclusive) = refl
+
+-- what doesn't hold a row bars no statement
+pub none_bars : (statement : Statement) → barring statement None ≡ None
+none_bars statement = by (is_get statement)
+  where
+    by : (b : Bool) → cond b (exclusively None) None ≡ None
+    by true = refl
+    by false = refl
+
+-- a row that bars no statement isn't held exclusively
+unexclusive : (statement : Statement) (o : Option LockMode) → barring statement o ≡ None → is_exclusive o ≡ false
+unexclusive statement o none = by (is_get statement) o none
+  where
+    by : (b : Bool) (o : Option LockMode) → cond b (exclusively o) o ≡ None → is_exclusive o ≡ false
+    by b None e = refl
+    by b (Some Shared) e = refl
+    by true (Some Exclusive) e = absurd (none-some Exclusive (sym e))
+    by false (Some Exclusive) e = absurd (none-some Exclusive (sym e))
+
+-- where two rows are held exclusively alike, they bar GET alike
+get_bars : (statement : Statement) (x y : Option LockMode) → is_get statement ≡ true → exclusively x ≡ exclusively y
+    → barring statement x ≡ barring statement y
+get_bars statement x y is e =
+    ap (λ b. cond b (exclusively x) x) is ∙ e ∙ sym (ap (λ b. cond b (exclusively y) y) is)
 
 -- ---- replies
 
+-- the branches hold the row alike in both states, as far as that bars the statement
+abbrev BarsAlike : State → State → Statement → List ℕ → Type 0
+BarsAlike old new statement key =
+    (xid : Xid) → barring statement (lock_at new xid key) ≡ barring statement (lock_at old xid key)
+
 -- what the reply to the session's statement depends on is the same in both states
-pub record IsAsked (old new : State) (session : ℕ) (statement : Statement) : Type 0 where
+record IsAsked (old new : State) (session : ℕ) (statement : Statement) : Type 0 where
   pub association : association_of new session ≡ association_of old session
   pub named : (xid : Xid) → named_by statement ≡ Some xid → map.get new.branches xid ≡ map.get old.branches xid
   pub own : (xid : Xid) → association_of old session ≡ Active xid → map.get new.branches xid ≡ map.get old.branches xid
   pub listed : (convert : Bool) → statement ≡ Recover convert → prepared_xids new ≡ prepared_xids old
   pub value : (key : List ℕ) → statement ≡ Get key → committed_value new key ≡ committed_value old key
-  pub held : (key : List ℕ) → key_of statement ≡ Some key → HoldAlike old new key
+  pub held : (key : List ℕ) → key_of statement ≡ Some key → BarsAlike old new statement key
 
 -- a branch that is the same in both states is known in both or in neither
 known_same : (old new : State) (xid : Xid) → map.get new.branches xid ≡ map.get old.branches xid
@@ -202,7 +254,8 @@ table_same old new session Unsupported asked a is = refl
 table_same old new session (Get key) asked Free is = ap Reply.Value (asked.value key refl)
 table_same old new session (Get key) asked (Active own) is =
     ap (λ b. refused_if b RowLocked (Reply.Value (value_within new own key)))
-    (locked_alike old new (Active own) key (asked.held key refl))
+    (locked_alike old new (Active own) key (λ xid. sym (exclusive_barring (lock_at new xid key))
+    ∙ ap is_exclusive (asked.held key refl xid) ∙ exclusive_barring (lock_at old xid key)))
     ∙ ap (λ v. refused_if (is_locked_against old (Active own) key) RowLocked (Reply.Value v))
     (ap (λ (found : Option Branch). unwrap_or (option_and_then (λ (b : Branch). map.get b.writes key) found)
     (committed_value new key)) (asked.own own is)
@@ -221,7 +274,7 @@ table_same old new session (Del key) asked (Idle own) is = refl
 table_same old new session Disconnect asked a is = refl
 
 -- if what the reply depends on is the same in both states (`IsAsked`), so is the reply
-pub reply_same : (old new : State) (session : ℕ) (statement : Statement) → IsAsked old new session statement
+reply_same : (old new : State) (session : ℕ) (statement : Statement) → IsAsked old new session statement
     → reply_to new session statement ≡ reply_to old session statement
 unfolding reply_to
 reply_same old new session statement asked =
@@ -231,7 +284,7 @@ reply_same old new session statement asked =
 -- ---- the values of rows
 
 -- what an accepted statement leaves of a row's committed value
-pub written : State → Association → Statement → List ℕ → Option Text → Option Text
+written : State → Association → Statement → List ℕ → Option Text → Option Text
 written state association (Commit xid one_phase) key found = unwrap_or (write_at state xid key) found
 written state Free (Put other value) key found = cond (eq_by_cmp bytes_cmp key other) (Some value) found
 written state Free (Del other) key found = cond (eq_by_cmp bytes_cmp key other) None found
@@ -263,7 +316,7 @@ changed_row state xid change key = by (map.get state.branches xid)
     by (Some branch) = refl
 
 -- the effect of a statement leaves of a row's committed value what `written` says
-pub effect-row : (state : State) (session : ℕ) (association : Association) (statement : Statement) (key : List ℕ)
+effect-row : (state : State) (session : ℕ) (association : Association) (statement : Statement) (key : List ℕ)
     → map.get (effect state session association statement).rows key
     ≡ written state association statement key (map.get state.rows key)
 unfolding effect written
@@ -287,553 +340,29 @@ effect-row state session Free Disconnect key = refl
 effect-row state session (Active own) Disconnect key = refl
 effect-row state session (Idle own) Disconnect key = refl
 
--- ---- states
-
--- the statement is about this branch alone, and is accepted
-pub record IsAbout (state : State) (session : ℕ) (statement : Statement) (xid : Xid) : Type 0 where
-  pub accepted : is_refused (reply_to state session statement) ≡ false
-  pub avoids : (other : Xid) → same_xid other xid ≡ false → Avoids statement other
-  pub beside : (other : Xid) → same_xid other xid ≡ false → IsBeside (association_of state session) other
-
--- each row has the same committed value after both statements, in either order: `own` is the state after `one`,
--- `other` the one after `two`, and `a` and `b` are what their sessions have open
-abbrev pub WriteAlike : State → State → State → Association → Statement → Association → Statement → Type 0
-WriteAlike state own other a one b two = (key : List ℕ) (found : Option Text)
-    → written other a one key (written state b two key found) ≡ written own b two key (written state a one key found)
-
--- both orders of two statements lead to the same state, if the first is about one branch alone (`IsAbout`), with
--- which the second has nothing to do, neither reply depends on the other statement, and rows are written alike
-pub commutes : (state : State) (session other : ℕ) (one two : Statement) (xid : Xid)
-    → IsAbout state session one xid → Avoids two xid → IsBeside (association_of state other) xid
-    → IsAsked state (after state other two) session one → IsAsked state (after state session one) other two
-    → WriteAlike state (after state session one) (after state other two) (association_of state session) one
-    (association_of state other) two
-    → after (after state other two) session one ≡ after (after state session one) other two
-commutes state session other one two xid about avoids beside asked_one asked_two writes =
-    by (is_refused (reply_to state other two)) refl
-  where
-    here : State
-    here = after state session one
-
-    there : State
-    there = after state other two
-
-    two_same : reply_to here other two ≡ reply_to state other two
-    two_same = reply_same state here other two asked_two
-
-    one_accepted : is_refused (reply_to there session one) ≡ false
-    one_accepted = ap is_refused (reply_same state there session one asked_one) ∙ about.accepted
-
-    by : (b : Bool) → is_refused (reply_to state other two) ≡ b → after there session one ≡ after here other two
-    by true refused =
-        ap (λ s. after s session one) (refused_leaves state other two refused)
-        ∙ sym (refused_leaves here other two (ap is_refused two_same ∙ refused))
-    by false accepted = done
-      where
-        a : Association
-        a = association_of state session
-
-        b : Association
-        b = association_of state other
-
-        first : here ≡ effect state session a one
-        first = accepted_done state session one about.accepted
-
-        second : there ≡ effect state other b two
-        second = accepted_done state other two accepted
-
-        then_one : after there session one ≡ effect there session a one
-        then_one = accepted_done there session one one_accepted
-            ∙ ap (λ c. effect there session c one) asked_one.association
-
-        then_two : after here other two ≡ effect here other b two
-        then_two = accepted_done here other two (ap is_refused two_same ∙ accepted)
-            ∙ ap (λ c. effect here other c two) asked_two.association
-
-        branch : (at : Xid) → map.get (effect there session a one).branches at
-            ≡ map.get (effect here other b two).branches at
-        branch at = elim (same_or_apart xids_total exact_xids at xid) [
-          | inl is ↦
-              effect-branch there session a one at
-              ∙ ap (branch_after session a one at) (ap (λ (s : State). map.get s.branches at) second
-              ∙ effect-branch state other b two at ∙ kept_two at is)
-              ∙ sym (effect-branch here other b two at
-              ∙ kept_here at is
-              ∙ ap (λ (s : State). map.get s.branches at) first ∙ effect-branch state session a one at)
-          | inr apart ↦
-              effect-branch there session a one at
-              ∙ branch_kept session a one at (map.get there.branches at) (about.avoids at apart) (about.beside at apart)
-              ∙ ap (λ (s : State). map.get s.branches at) second ∙ effect-branch state other b two at
-              ∙ sym (effect-branch here other b two at
-              ∙ ap (branch_after other b two at) (ap (λ (s : State). map.get s.branches at) first
-              ∙ effect-branch state session a one at
-              ∙ branch_kept session a one at (map.get state.branches at) (about.avoids at apart)
-              (about.beside at apart)))
-        ]
-          where
-            kept_two : (at : Xid) → at ≡ xid
-                → branch_after other b two at (map.get state.branches at) ≡ map.get state.branches at
-            kept_two at is = branch_kept other b two at (map.get state.branches at)
-                (subst (Avoids two) (sym is) avoids) (subst (IsBeside b) (sym is) beside)
-
-            kept_here : (at : Xid) → at ≡ xid
-                → branch_after other b two at (map.get here.branches at) ≡ map.get here.branches at
-            kept_here at is = branch_kept other b two at (map.get here.branches at)
-                (subst (Avoids two) (sym is) avoids) (subst (IsBeside b) (sym is) beside)
-
-        row : (key : List ℕ) → map.get (effect there session a one).rows key
-            ≡ map.get (effect here other b two).rows key
-        row key =
-            effect-row there session a one key
-            ∙ ap (written there a one key) (ap (λ (s : State). map.get s.rows key) second
-            ∙ effect-row state other b two key)
-            ∙ writes key (map.get state.rows key)
-            ∙ sym (effect-row here other b two key
-            ∙ ap (written here b two key) (ap (λ (s : State). map.get s.rows key) first
-            ∙ effect-row state session a one key))
-
-        done : after there session one ≡ after here other two
-        done = then_one
-            ∙ same_state (effect there session a one) (effect here other b two)
-            (same_map xids_total exact_xids _ _ branch) (same_map bytes_total exact_texts _ _ row)
-            ∙ sym then_two
-
--- ---- steps of a branch
-
--- two identifiers that differ do so in either order
-away : (xid other : Xid) → same_xid other xid ≡ false → same_xid xid other ≡ false
-away xid other apart = elim (same_or_apart xids_total exact_xids xid other) [
-  | inl is ↦ absurd (false≢true (sym apart ∙ ap (λ x. same_xid x xid) (sym is) ∙ itself xid))
-  | inr e ↦ e
-]
-
--- what is so of GET, PUT and DEL of the row is so of each statement that names the row
-pub by_row : (P : Statement → Type 0) (statement : Statement) (key : List ℕ) → key_of statement ≡ Some key
-    → P (Get key) → ((value : Text) → P (Put key value)) → P (Del key) → P statement
-by_row P (Get row) key is get put del = subst (λ k. P (Get k)) (sym (same_Some row key is)) get
-by_row P (Put row value) key is get put del = subst (λ k. P (Put k value)) (sym (same_Some row key is)) (put value)
-by_row P (Del row) key is get put del = subst (λ k. P (Del k)) (sym (same_Some row key is)) del
-by_row P (Start xid) key is get put del = absurd (none-some key is)
-by_row P (End xid) key is get put del = absurd (none-some key is)
-by_row P (Prepare xid) key is get put del = absurd (none-some key is)
-by_row P (Commit xid one_phase) key is get put del = absurd (none-some key is)
-by_row P (Rollback xid) key is get put del = absurd (none-some key is)
-by_row P (Recover convert) key is get put del = absurd (none-some key is)
-by_row P Unsupported key is get put del = absurd (none-some key is)
-by_row P Disconnect key is get put del = absurd (none-some key is)
-
--- what is so of XA COMMIT and XA ROLLBACK of the branch is so of each statement that ends it
-pub by_ending : (P : Statement → Type 0) (statement : Statement) (xid : Xid) → IsEnding statement xid
-    → ((one_phase : Bool) → P (Commit xid one_phase)) → P (Rollback xid) → P statement
-by_ending P (Commit other one_phase) xid is commit roll =
-    subst (λ x. P (Commit x one_phase)) (sym is) (commit one_phase)
-by_ending P (Rollback other) xid is commit roll = subst (λ x. P (Rollback x)) (sym is) roll
-by_ending P (Start other) xid is commit roll = absurd is
-by_ending P (End other) xid is commit roll = absurd is
-by_ending P (Prepare other) xid is commit roll = absurd is
-by_ending P (Recover convert) xid is commit roll = absurd is
-by_ending P Unsupported xid is commit roll = absurd is
-by_ending P (Get key) xid is commit roll = absurd is
-by_ending P (Put key value) xid is commit roll = absurd is
-by_ending P (Del key) xid is commit roll = absurd is
-by_ending P Disconnect xid is commit roll = absurd is
-
--- if no branch but the session's own holds a row, no such branch holds it exclusively
-unlocked : (state : State) (a : Association) (key : List ℕ) → is_held_against state a key ≡ false
-    → is_locked_against state a key ≡ false
-unfolding is_held_against is_locked_against
-unlocked state a key unheld = by (is_locked_against state a key) refl
-  where
-    by : (b : Bool) → is_locked_against state a key ≡ b → is_locked_against state a key ≡ false
-    by true e =
-        let w = any_witness (λ xid. is_another a xid && holds_exclusively state xid key) (map.keys state.branches) e in
-        let held = exclusive_held (lock_at state w.0 key) (both _ _ w.2).1 in
-        absurd (false≢true (sym unheld
-        ∙ any_some (λ xid. is_another a xid && holds state xid key) (map.keys state.branches) w.0
-        (holds_known state w.0 key held) (ap (λ b. b && holds state w.0 key) (both _ _ w.2).0 ∙ held)))
-    by false e = e
-
--- a session that may end a branch has no other one open
-may_beside : (state : State) (session : ℕ) (xid other : Xid) → MayEnd state session xid → same_xid other xid ≡ false
-    → IsBeside (association_of state session) other
-may_beside state session xid other (inl free) apart = subst (λ a. IsBeside a other) (sym free.0) tt
-may_beside state session xid other (inr own) apart = subst (λ a. IsBeside a other) (sym own) apart
-
--- a step of the session's own branch is about that branch alone, and is accepted
-pub is_about : (state : State) (session : ℕ) (statement : Statement) (xid : Xid) (rows : List (List ℕ))
-    → IsOwnStep state session statement xid rows → IsAbout state session statement xid
-unfolding reply_to table
-is_about state session statement xid rows (starts is free new) =
-    subst (λ s. IsAbout state session s xid) (sym is) (record {
-      accepted = ap (λ a. is_refused (table state a (Start xid))) free
-          ∙ ap (λ (o : Option Branch). is_refused (refused_if (is_some o) Dupid Reply.Ok)) new;
-      avoids = λ other apart. apart;
-      beside = λ other apart. subst (λ a. IsBeside a other) (sym free) tt;
-    })
-is_about state session statement xid rows (ends is own) =
-    subst (λ s. IsAbout state session s xid) (sym is) (record {
-      accepted = ap (λ a. is_refused (table state a (End xid))) own
-          ∙ ap (λ b. is_refused (ok_if b Nota)) (itself xid);
-      avoids = λ other apart. apart;
-      beside = λ other apart. subst (λ a. IsBeside a other) (sym own) apart;
-    })
-is_about state session statement xid rows (prepares is own) =
-    subst (λ s. IsAbout state session s xid) (sym is) (record {
-      accepted = ap (λ a. is_refused (table state a (Prepare xid))) own
-          ∙ ap (λ b. is_refused (ok_if b Nota)) (itself xid);
-      avoids = λ other apart. apart;
-      beside = λ other apart. subst (λ a. IsBeside a other) (sym own) apart;
-    })
-is_about state session statement xid rows (works key is has among) =
-    by_row (λ s. IsAbout state session s xid) statement key is
-    (record {
-      accepted = ap (λ a. is_refused (table state a (Get key))) has.0
-          ∙ ap (λ b. is_refused (refused_if b RowLocked (Reply.Value (value_within state xid key))))
-          (unlocked state (Active xid) key has.1);
-      avoids = λ other apart. tt;
-      beside = λ other apart. subst (λ a. IsBeside a other) (sym has.0) apart;
-    })
-    (λ value. record {
-      accepted = ap (λ a. is_refused (table state a (Put key value))) has.0
-          ∙ ap (λ b. is_refused (refused_if b RowLocked Reply.Ok)) has.1;
-      avoids = λ other apart. tt;
-      beside = λ other apart. subst (λ a. IsBeside a other) (sym has.0) apart;
-    })
-    (record {
-      accepted = ap (λ a. is_refused (table state a (Del key))) has.0
-          ∙ ap (λ b. is_refused (refused_if b RowLocked Reply.Ok)) has.1;
-      avoids = λ other apart. tt;
-      beside = λ other apart. subst (λ a. IsBeside a other) (sym has.0) apart;
-    })
-is_about state session statement xid rows (finishes ending may accepted held) =
-    by_ending (λ s. is_refused (reply_to state session s) ≡ false → IsAbout state session s xid) statement xid ending
-    (λ one_phase goes. record {
-      accepted = goes;
-      avoids = λ other apart. apart;
-      beside = λ other apart. may_beside state session xid other may apart;
-    })
-    (λ goes. record {
-      accepted = goes;
-      avoids = λ other apart. apart;
-      beside = λ other apart. may_beside state session xid other may apart;
-    }) accepted
-
--- no other session owns the branch of a session's step
-pub not_theirs : (state : State) (session other : ℕ) (statement : Statement) (xid : Xid) (rows : List (List ℕ))
-    → LockLaw state → session ≢ other → IsOwnStep state session statement xid rows → owns state other xid ≡ false
-not_theirs state session other statement xid rows law apart step = by (owns state other xid) refl
-  where
-    mine : association_of state session ≡ Active xid → owns state session xid ≡ true
-    mine own = subst (IsOwn state session) own (own_association state session)
-
-    idle_mine : association_of state session ≡ Idle xid → owns state session xid ≡ true
-    idle_mine own = subst (IsOwn state session) own (own_association state session)
-
-    both_own : owns state session xid ≡ true → owns state other xid ≡ true → ⊥
-    both_own one two = apart (one_owner (owner_at state xid) one two)
-      where
-        one_owner : (o : Option ℕ) → option_map_or (λ owner. owner == session) o false ≡ true
-            → option_map_or (λ owner. owner == other) o false ≡ true → session ≡ other
-        one_owner None one two = absurd (false≢true one)
-        one_owner (Some owner) one two = sym (eqb-true owner session one) ∙ eqb-true owner other two
-
-    against : IsOwnStep state session statement xid rows → owns state other xid ≡ true → ⊥
-    against (starts is free new) e = nobody (map.get state.branches xid) new e
-      where
-        nobody : (found : Option Branch) → found ≡ None → option_map_or (λ owner. owner == other)
-            (option_and_then (λ (b : Branch). b.owner) found) false ≡ true → ⊥
-        nobody None n f = false≢true f
-        nobody (Some branch) n f = none-some branch (sym n)
-    against (ends is own) e = both_own (mine own) e
-    against (prepares is own) e = both_own (idle_mine own) e
-    against (works key is has among) e = both_own (mine has.0) e
-    against (finishes ending (inl free) accepted held) e =
-        false≢true (sym (ap (λ (o : Option ℕ). option_map_or (λ owner. owner == other) o false)
-        (law.detached xid free.1)) ∙ e)
-    against (finishes ending (inr own) accepted held) e = both_own (idle_mine own) e
-
-    by : (b : Bool) → owns state other xid ≡ b → owns state other xid ≡ false
-    by true e = absurd (against step e)
-    by false e = e
-
--- two keys that differ do so in either order
-pub away_key : (key other : List ℕ) → eq_by_cmp bytes_cmp key other ≡ false → eq_by_cmp bytes_cmp other key ≡ false
-away_key key other apart = elim (same_or_apart bytes_total exact_texts other key) [
-  | inl is ↦ absurd (false≢true (sym apart ∙ ap (λ k. eq_by_cmp bytes_cmp k other) (sym is)
-      ∙ same_itself bytes_total exact_texts other))
-  | inr e ↦ e
-]
-
--- ---- who holds a row that no statement names
-
--- how a branch holds the row, if there is the branch and it holds it
-lock_in : List ℕ → Option Branch → Option LockMode
-lock_in key found = option_and_then (λ (b : Branch). map.get b.locks key) found
-
--- if neither of two branches holds the row, nor does the one of them that a test picks
-either_none : (key : List ℕ) (b : Bool) (new old : Option Branch) → lock_in key new ≡ None → lock_in key old ≡ None
-    → lock_in key (cond b new old) ≡ None
-either_none key true new old one two = one
-either_none key false new old one two = two
-
--- a branch that doesn't hold the row doesn't hold it after a change that gives it to no branch
-mapped_none : (key : List ℕ) (change : Branch → Branch) (found : Option Branch)
-    → ((b : Branch) → map.get b.locks key ≡ None → map.get (change b).locks key ≡ None)
-    → lock_in key found ≡ None → lock_in key (option_map change found) ≡ None
-unfolding lock_in
-mapped_none key change None keeps none = refl
-mapped_none key change (Some branch) keeps none = keeps branch none
-
--- a branch that doesn't hold a row doesn't hold it after it shares another one
-shares_none : (key other : List ℕ) → eq_by_cmp bytes_cmp key other ≡ false → (b : Branch)
-    → map.get b.locks key ≡ None → map.get (with_lock other b).locks key ≡ None
-shares_none key other apart b none = by (map.contains_key b.locks other)
-  where
-    by : (c : Bool) → map.get (cond c b.locks (map.insert b.locks other Shared)) key ≡ None
-    by true = none
-    by false = get_inserted_apart bytes_total exact_texts b.locks other Shared key apart ∙ none
-
--- once a branch shares a row, it holds each other row as it did
-shared_apart : (key other : List ℕ) → eq_by_cmp bytes_cmp key other ≡ false → (b : Branch)
-    → map.get (with_lock other b).locks key ≡ map.get b.locks key
-shared_apart key other apart b = by (map.contains_key b.locks other)
-  where
-    by : (c : Bool) → map.get (cond c b.locks (map.insert b.locks other Shared)) key ≡ map.get b.locks key
-    by true = refl
-    by false = get_inserted_apart bytes_total exact_texts b.locks other Shared key apart
-
--- a branch that doesn't hold a row doesn't hold it after it writes another one
-writes_none : (key other : List ℕ) (write : Write) → eq_by_cmp bytes_cmp key other ≡ false → (b : Branch)
-    → map.get b.locks key ≡ None → map.get (with_own_write other write b).locks key ≡ None
-writes_none key other write apart b none =
-    get_inserted_apart bytes_total exact_texts b.locks other Exclusive key apart ∙ none
-
--- the effect of a statement that doesn't name a row gives the row to no branch
-lock_none : (session : ℕ) (a : Association) (statement : Statement) (at : Xid) (found : Option Branch) (key : List ℕ)
-    → ((other : List ℕ) → key_of statement ≡ Some other → eq_by_cmp bytes_cmp key other ≡ false)
-    → lock_in key found ≡ None → lock_in key (branch_after session a statement at found) ≡ None
-unfolding branch_after lock_in idle detached
-lock_none session a (Start xid) at found key apart none =
-    either_none key (same_xid at xid) (Some (started_by session)) found (get-empty bytes_cmp key) none
-lock_none session a (End xid) at found key apart none =
-    either_none key (same_xid at xid) (option_map idle found) found (mapped_none key idle found (λ b e. e) none) none
-lock_none session a (Prepare xid) at found key apart none =
-    either_none key (same_xid at xid) (option_map detached found) found
-    (mapped_none key detached found (λ b e. e) none) none
-lock_none session a (Commit xid one_phase) at found key apart none =
-    either_none key (same_xid at xid) None found refl none
-lock_none session a (Rollback xid) at found key apart none =
-    either_none key (same_xid at xid) None found refl none
-lock_none session a (Recover convert) at found key apart none = none
-lock_none session a Unsupported at found key apart none = none
-lock_none session Free (Get other) at found key apart none = none
-lock_none session (Active own) (Get other) at found key apart none =
-    either_none key (same_xid at own) (option_map (with_lock other) found) found
-    (mapped_none key (with_lock other) found (shares_none key other (apart other refl)) none) none
-lock_none session (Idle own) (Get other) at found key apart none = none
-lock_none session Free (Put other value) at found key apart none = none
-lock_none session (Active own) (Put other value) at found key apart none =
-    either_none key (same_xid at own) (option_map (with_own_write other (Some value)) found) found
-    (mapped_none key (with_own_write other (Some value)) found
-    (writes_none key other (Some value) (apart other refl)) none) none
-lock_none session (Idle own) (Put other value) at found key apart none = none
-lock_none session Free (Del other) at found key apart none = none
-lock_none session (Active own) (Del other) at found key apart none =
-    either_none key (same_xid at own) (option_map (with_own_write other None) found) found
-    (mapped_none key (with_own_write other None) found (writes_none key other None (apart other refl)) none) none
-lock_none session (Idle own) (Del other) at found key apart none = none
-lock_none session Free Disconnect at found key apart none = none
-lock_none session (Active own) Disconnect at found key apart none =
-    either_none key (same_xid at own) None found refl none
-lock_none session (Idle own) Disconnect at found key apart none =
-    either_none key (same_xid at own) None found refl none
-
--- a row that a branch doesn't hold, it doesn't hold after a statement that doesn't name the row
-pub unheld_after : (state : State) (session : ℕ) (statement : Statement) (at : Xid) (key : List ℕ)
-    → ((other : List ℕ) → key_of statement ≡ Some other → eq_by_cmp bytes_cmp key other ≡ false)
-    → lock_at state at key ≡ None → lock_at (after state session statement) at key ≡ None
-unfolding lock_in
-unheld_after state session statement at key apart none = elim (outcome state session statement) [
-  | inl refused ↦ ap (λ (s : State). lock_at s at key) refused.1 ∙ none
-  | inr done ↦ ap (λ (s : State). lock_at s at key) done.1
-      ∙ ap (lock_in key) (effect-branch state session (association_of state session) statement at)
-      ∙ lock_none session (association_of state session) statement at (map.get state.branches at) key apart none
-]
-
--- if a row isn't held against a session that has the branch `own` ACTIVE, no other branch holds it
-pub held_none : (state : State) (own at : Xid) (key : List ℕ) → is_held_against state (Active own) key ≡ false
-    → same_xid at own ≡ false → lock_at state at key ≡ None
-unfolding is_held_against
-held_none state own at key unheld apart = by (lock_at state at key) refl
-  where
-    by : (o : Option LockMode) → lock_at state at key ≡ o → lock_at state at key ≡ None
-    by None is = is
-    by (Some mode) is = absurd (false≢true (sym unheld
-        ∙ any_some (λ xid. is_another (Active own) xid && holds state xid key) (map.keys state.branches) at
-        (holds_known state at key (ap is_some is))
-        (ap (λ b. not b && holds state at key) apart ∙ ap is_some is)))
-
--- ---- the step and a statement that is clear of it
-
--- after a step, the locks of its own branch on rows that aren't the step's are as they were
-own_locks : (state : State) (session : ℕ) (statement : Statement) (xid : Xid) (rows : List (List ℕ)) (key : List ℕ)
-    → IsOwnStep state session statement xid rows
-    → ((row : List ℕ) → IsAmong row rows → eq_by_cmp bytes_cmp key row ≡ false)
-    → lock_in key (branch_after session (association_of state session) statement xid (map.get state.branches xid))
-    ≡ lock_in key (map.get state.branches xid)
-unfolding branch_after lock_in idle detached
-own_locks state session statement xid rows key (starts is free new) apart =
-    ap (λ s. lock_in key (branch_after session (association_of state session) s xid (map.get state.branches xid))) is
-    ∙ ap (λ b. lock_in key (cond b (Some (started_by session)) (map.get state.branches xid))) (itself xid)
-    ∙ get-empty bytes_cmp key ∙ sym (ap (lock_in key) new)
-own_locks state session statement xid rows key (ends is own) apart =
-    ap (λ s. lock_in key (branch_after session (association_of state session) s xid (map.get state.branches xid))) is
-    ∙ ap (λ b. lock_in key (cond b (option_map idle (map.get state.branches xid)) (map.get state.branches xid)))
-    (itself xid) ∙ by (map.get state.branches xid)
-  where
-    by : (found : Option Branch) → lock_in key (option_map idle found) ≡ lock_in key found
-    by None = refl
-    by (Some branch) = refl
-own_locks state session statement xid rows key (prepares is own) apart =
-    ap (λ s. lock_in key (branch_after session (association_of state session) s xid (map.get state.branches xid))) is
-    ∙ ap (λ b. lock_in key (cond b (option_map detached (map.get state.branches xid)) (map.get state.branches xid)))
-    (itself xid) ∙ by (map.get state.branches xid)
-  where
-    by : (found : Option Branch) → lock_in key (option_map detached found) ≡ lock_in key found
-    by None = refl
-    by (Some branch) = refl
-own_locks state session statement xid rows key (works row is has among) apart =
-    by_row (λ s. lock_in key (branch_after session (association_of state session) s xid (map.get state.branches xid))
-    ≡ lock_in key (map.get state.branches xid)) statement row is
-    (ap (λ a. lock_in key (branch_after session a (Get row) xid (map.get state.branches xid))) has.0
-    ∙ mapped (with_lock row) (shared_apart key row (apart row among)))
-    (λ value.
-    ap (λ a. lock_in key (branch_after session a (Put row value) xid (map.get state.branches xid))) has.0
-    ∙ mapped (with_own_write row (Some value)) (λ (branch : Branch).
-    get_inserted_apart bytes_total exact_texts branch.locks row Exclusive key (apart row among)))
-    (ap (λ a. lock_in key (branch_after session a (Del row) xid (map.get state.branches xid))) has.0
-    ∙ mapped (with_own_write row None) (λ (branch : Branch).
-    get_inserted_apart bytes_total exact_texts branch.locks row Exclusive key (apart row among)))
-  where
-    change_in : (change : Branch → Branch) → ((b : Branch) → map.get (change b).locks key ≡ map.get b.locks key)
-        → (found : Option Branch) → lock_in key (option_map change found) ≡ lock_in key found
-    change_in change keeps None = refl
-    change_in change keeps (Some branch) = keeps branch
-
-    mapped : (change : Branch → Branch) → ((b : Branch) → map.get (change b).locks key ≡ map.get b.locks key)
-        → lock_in key (cond (same_xid xid xid) (option_map change (map.get state.branches xid))
-        (map.get state.branches xid)) ≡ lock_in key (map.get state.branches xid)
-    mapped change keeps =
-        ap (λ b. lock_in key (cond b (option_map change (map.get state.branches xid)) (map.get state.branches xid)))
-        (itself xid) ∙ change_in change keeps (map.get state.branches xid)
-own_locks state session statement xid rows key (finishes ending may accepted held) apart =
-    by_ending (λ s. lock_in key (branch_after session (association_of state session) s xid
-    (map.get state.branches xid)) ≡ lock_in key (map.get state.branches xid)) statement xid ending
-    (λ one_phase. gone) gone
-  where
-    unheld : (o : Option LockMode) → lock_in key (map.get state.branches xid) ≡ o
-        → lock_in key (map.get state.branches xid) ≡ None
-    unheld None e = e
-    unheld (Some mode) e = absurd (false≢true (sym (apart key (held key (ap is_some e)))
-        ∙ same_itself bytes_total exact_texts key))
-
-    gone : lock_in key (cond (same_xid xid xid) None (map.get state.branches xid))
-        ≡ lock_in key (map.get state.branches xid)
-    gone = ap (λ b. lock_in key (cond b None (map.get state.branches xid))) (itself xid)
-        ∙ sym (unheld (lock_in key (map.get state.branches xid)) refl)
-
--- after a step, the branches hold a row that isn't one of its rows as they did
-pub hold_after : (state : State) (session : ℕ) (statement : Statement) (xid : Xid) (rows : List (List ℕ))
-    (key : List ℕ) → IsOwnStep state session statement xid rows
-    → ((row : List ℕ) → IsAmong row rows → eq_by_cmp bytes_cmp key row ≡ false)
-    → HoldAlike state (after state session statement) key
-unfolding lock_in
-hold_after state session statement xid rows key step apart = λ at. elim (same_or_apart xids_total exact_xids at xid) [
-  | inl is ↦ subst (λ x. lock_at (after state session statement) x key ≡ lock_at state x key) (sym is)
-      (ap (λ (s : State). lock_at s xid key) (accepted_done state session statement about.accepted)
-      ∙ ap (lock_in key) (effect-branch state session (association_of state session) statement xid)
-      ∙ own_locks state session statement xid rows key step apart)
-  | inr beside ↦ ap (lock_in key)
-      (untouched state session statement at (about.avoids at beside) (about.beside at beside))
-]
-  where
-    about : IsAbout state session statement xid
-    about = is_about state session statement xid rows step
-
--- ---- what is written
-
--- a branch that doesn't hold the row has written nothing to it
-write_none : (state : State) → LockLaw state → (at : Xid) (key : List ℕ) → lock_at state at key ≡ None
-    → write_at state at key ≡ None
-write_none state law at key none = by (write_at state at key) refl
-  where
-    by : (o : Option Write) → write_at state at key ≡ o → write_at state at key ≡ None
-    by None e = e
-    by (Some write) e =
-        absurd (false≢true (sym (ap is_exclusive none) ∙ law.held_writes at key (ap is_some e)))
-
--- no other branch holds a row that one holds exclusively
-sole_holder : (state : State) → LockLaw state → (xid at : Xid) (key : List ℕ) → holds_exclusively state xid key ≡ true
-    → same_xid xid at ≡ false → lock_at state at key ≡ None
-sole_holder state law xid at key held apart = by (lock_at state at key) refl
-  where
-    by : (o : Option LockMode) → lock_at state at key ≡ o → lock_at state at key ≡ None
-    by None e = e
-    by (Some mode) e = absurd (false≢true (sym apart
-        ∙ ap (λ x. same_xid xid x) (sym (law.one_holder xid at key held (ap is_some e))) ∙ itself xid))
-
--- a statement leaves the committed value of a row that it doesn't name, if the branch that it names hasn't written to
--- the row
-pub unwritten : (state : State) (a : Association) (statement : Statement) (key : List ℕ) (found : Option Text)
-    → ((other : List ℕ) → key_of statement ≡ Some other → eq_by_cmp bytes_cmp key other ≡ false)
-    → ((at : Xid) → named_by statement ≡ Some at → write_at state at key ≡ None)
-    → written state a statement key found ≡ found
+-- if the branch that a statement names is the same in two states, the statement leaves the same of a row's committed
+-- value in both
+written_same : (old new : State) (a : Association) (statement : Statement) (key : List ℕ) (found : Option Text)
+    → ((xid : Xid) → named_by statement ≡ Some xid → map.get new.branches xid ≡ map.get old.branches xid)
+    → written new a statement key found ≡ written old a statement key found
 unfolding written
-unwritten state a (Commit xid one_phase) key found apart none = ap (λ w. unwrap_or w found) (none xid refl)
-unwritten state a (Start xid) key found apart none = refl
-unwritten state a (End xid) key found apart none = refl
-unwritten state a (Prepare xid) key found apart none = refl
-unwritten state a (Rollback xid) key found apart none = refl
-unwritten state a (Recover convert) key found apart none = refl
-unwritten state a Unsupported key found apart none = refl
-unwritten state a (Get row) key found apart none = refl
-unwritten state Free (Put row value) key found apart none = ap (λ b. cond b (Some value) found) (apart row refl)
-unwritten state (Active own) (Put row value) key found apart none = refl
-unwritten state (Idle own) (Put row value) key found apart none = refl
-unwritten state Free (Del row) key found apart none = ap (λ b. cond b None found) (apart row refl)
-unwritten state (Active own) (Del row) key found apart none = refl
-unwritten state (Idle own) (Del row) key found apart none = refl
-unwritten state a Disconnect key found apart none = refl
-
--- a step leaves each committed value as it is; or it gives a row what the step's branch wrote to it, if anything, and
--- then each row that the branch holds is one of the step's
-pub step_row : (state : State) (session : ℕ) (statement : Statement) (xid : Xid) (rows : List (List ℕ))
-    → IsOwnStep state session statement xid rows
-    → ((in_state : State) (key : List ℕ) (found : Option Text)
-    → written in_state (association_of state session) statement key found ≡ found)
-    ⊎ (((in_state : State) (key : List ℕ) (found : Option Text)
-    → written in_state (association_of state session) statement key found
-    ≡ unwrap_or (write_at in_state xid key) found)
-    × ((key : List ℕ) → holds state xid key ≡ true → IsAmong key rows))
-unfolding written
-step_row state session statement xid rows (starts is free new) =
-    inl (λ in_state key found. ap (λ s. written in_state (association_of state session) s key found) is)
-step_row state session statement xid rows (ends is own) =
-    inl (λ in_state key found. ap (λ s. written in_state (association_of state session) s key found) is)
-step_row state session statement xid rows (prepares is own) =
-    inl (λ in_state key found. ap (λ s. written in_state (association_of state session) s key found) is)
-step_row state session statement xid rows (works row is has among) = inl (λ in_state key found.
-    by_row (λ s. written in_state (association_of state session) s key found ≡ found) statement row is
-    refl
-    (λ value. ap (λ a. written in_state a (Put row value) key found) has.0)
-    (ap (λ a. written in_state a (Del row) key found) has.0))
-step_row state session statement xid rows (finishes ending may accepted held) =
-    by_ending (λ s. ((in_state : State) (key : List ℕ) (found : Option Text)
-    → written in_state (association_of state session) s key found ≡ found)
-    ⊎ (((in_state : State) (key : List ℕ) (found : Option Text)
-    → written in_state (association_of state session) s key found ≡ unwrap_or (write_at in_state xid key) found)
-    × ((key : List ℕ) → holds state xid key ≡ true → IsAmong key rows)))
-    statement xid ending (λ one_phase. inr ((λ in_state key found. refl), held)) (inl (λ in_state key found. refl))
+written_same old new a (Commit xid one_phase) key found same =
+    ap (λ (o : Option Branch). unwrap_or (option_and_then (λ (b : Branch). map.get b.writes key) o) found)
+    (same xid refl)
+written_same old new a (Start xid) key found same = refl
+written_same old new a (End xid) key found same = refl
+written_same old new a (Prepare xid) key found same = refl
+written_same old new a (Rollback xid) key found same = refl
+written_same old new a (Recover convert) key found same = refl
+written_same old new a Unsupported key found same = refl
+written_same old new a (Get row) key found same = refl
+written_same old new Free (Put row value) key found same = refl
+written_same old new (Active own) (Put row value) key found same = refl
+written_same old new (Idle own) (Put row value) key found same = refl
+written_same old new Free (Del row) key found same = refl
+written_same old new (Active own) (Del row) key found same = refl
+written_same old new (Idle own) (Del row) key found same = refl
+written_same old new a Disconnect key found same = refl
 
 -- ---- lists of prepared branches
 
@@ -905,383 +434,339 @@ sorted_same (x ∷ xs) (y ∷ ys) up down same =
     ∙ ap (λ l. y ∷ l) (sorted_same xs ys up.1 down.1 (λ z. same_truth _ _ (to z) (from z)))
 
 -- if each branch is PREPARED in both states or in neither, the lists of PREPARED branches are the same
-pub listed_same : (old new : State) → ((xid : Xid) → is_prepared new xid ≡ is_prepared old xid)
+listed_same : (old new : State) → ((xid : Xid) → is_prepared new xid ≡ is_prepared old xid)
     → prepared_xids new ≡ prepared_xids old
 listed_same old new same =
     sorted_same (prepared_xids new) (prepared_xids old) (prepared_ascend new) (prepared_ascend old)
     (λ xid. prepared_exactly new xid ∙ same xid ∙ sym (prepared_exactly old xid))
 
--- ---- both orders
+-- ---- what a statement leaves
 
--- a step that leaves the list of PREPARED branches as it is (`IsUnlisted`) leaves its own branch PREPARED or not, as
--- it was
-pub step_prepared : (state : State) (session : ℕ) (statement : Statement) (xid : Xid) (rows : List (List ℕ))
-    → IsOwnStep state session statement xid rows → IsUnlisted statement
-    → is_prepared (after state session statement) xid ≡ is_prepared state xid
-unfolding branch_after idle reply_to table
-step_prepared state session statement xid rows step unlisted =
-    ap (λ (s : State). is_prepared s xid) (accepted_done state session statement (is_about state session statement xid
-    rows step).accepted)
-    ∙ ap phase_prepared (effect-branch state session (association_of state session) statement xid) ∙ by step
+-- an accepted XA START is of a branch that isn't there
+unknown_before : (state : State) (a : Association) (xid at : Xid) → is_refused (table state a (Start xid)) ≡ false
+    → at ≡ xid → map.get state.branches at ≡ None
+unknown_before state a xid at goes is = none_of _ (ap (is_known state) is ∙ (accepted_start state a xid goes).1)
+
+-- how a branch holds the row, if there is the branch and it holds it
+lock_in : List ℕ → Option Branch → Option LockMode
+lock_in key found = option_and_then (λ (b : Branch). map.get b.locks key) found
+
+-- once a branch shares a row, it holds each other row as it did
+shared_apart : (key other : List ℕ) → eq_by_cmp bytes_cmp key other ≡ false → (b : Branch)
+    → map.get (with_lock other b).locks key ≡ map.get b.locks key
+shared_apart key other apart b = by (map.contains_key b.locks other)
   where
-    phase_prepared : Option Branch → Bool
-    phase_prepared found = option_map_or is_prepared_phase (option_map (λ (b : Branch). b.phase) found) false
+    by : (c : Bool) → map.get (cond c b.locks (map.insert b.locks other Shared)) key ≡ map.get b.locks key
+    by true = refl
+    by false = get_inserted_apart bytes_total exact_texts b.locks other Shared key apart
 
-    old : Option Branch
-    old = map.get state.branches xid
+-- once a branch shares a row, it holds each row exclusively or not as it did
+shared_seen : (key other : List ℕ) (b : Branch)
+    → exclusively (map.get (with_lock other b).locks key) ≡ exclusively (map.get b.locks key)
+shared_seen key other b = elim (same_or_apart bytes_total exact_texts key other) [
+  | inl is ↦ subst (λ k. exclusively (map.get (with_lock other b).locks k) ≡ exclusively (map.get b.locks k)) (sym is)
+      (by (map.get b.locks other) refl)
+  | inr apart ↦ ap exclusively (shared_apart key other apart b)
+]
+  where
+    by : (o : Option LockMode) → map.get b.locks other ≡ o
+        → exclusively (map.get (cond (map.contains_key b.locks other) b.locks (map.insert b.locks other Shared)) other)
+        ≡ exclusively (map.get b.locks other)
+    by (Some mode) is =
+        ap (λ c. exclusively (map.get (cond c b.locks (map.insert b.locks other Shared)) other)) (ap is_some is)
+    by None is =
+        ap (λ c. exclusively (map.get (cond c b.locks (map.insert b.locks other Shared)) other)) (ap is_some is)
+        ∙ ap exclusively (get-insert bytes_total b.locks other Shared other)
+        ∙ ap (λ c. exclusively (cond c (Some Shared) (map.get b.locks other)))
+        (same_itself bytes_total exact_texts other)
+        ∙ sym (ap exclusively is)
 
-    a : Association
-    a = association_of state session
+-- a statement that has nothing to do with a row that another one names leaves who holds the row, as far as that bars
+-- the other one
+bars_after : (state : State) (one : Statement) (session : ℕ) (two : Statement) (key : List ℕ)
+    → key_of one ≡ Some key → Spares state one session two → BarsAlike state (after state session two) one key
+unfolding branch_after lock_in idle detached
+bars_after state one session two key names spares = λ at. elim (outcome state session two) [
+  | inl refused ↦ ap (λ (s : State). barring one (lock_at s at key)) refused.1
+  | inr done ↦ ap (λ (s : State). barring one (lock_at s at key)) done.1
+      ∙ ap bars (effect-branch state session (association_of state session) two at)
+      ∙ by at (association_of state session) two done.0 (λ other e. spares.row key other names e)
+      (λ e. spares.unheld key at names e)
+]
+  where
+    bars : Option Branch → Option LockMode
+    bars found = barring one (lock_in key found)
 
-    same_phase : (change : Branch → Branch) → ((b : Branch) → (change b).phase ≡ b.phase) → (found : Option Branch)
-        → phase_prepared (option_map change found) ≡ phase_prepared found
-    same_phase change keeps None = refl
-    same_phase change keeps (Some branch) = ap is_prepared_phase (keeps branch)
+    gone : (found : Option Branch) → bars found ≡ None → bars None ≡ bars found
+    gone found none = none_bars one ∙ sym none
 
-    active : a ≡ Active xid → phase_prepared old ≡ false
-    active own = ap (λ p. option_map_or is_prepared_phase p false)
-        (subst (IsOpen state) own (open_association state session))
+    writes : (at own : Xid) (other : List ℕ) (write : Write) (found : Option Branch)
+        → (eq_by_cmp bytes_cmp key other ≡ false) ⊎ ((is_get one ≡ true) × (false ≡ true))
+        → bars (cond (same_xid at own) (option_map (with_own_write other write) found) found) ≡ bars found
+    writes at own other write found (inl apart) = changed bars at own (with_own_write other write) found
+        (λ b. ap (barring one) (get_inserted_apart bytes_total exact_texts b.locks other Exclusive key apart))
+    writes at own other write found (inr gets) = absurd (false≢true gets.1)
 
-    idling : a ≡ Idle xid → phase_prepared old ≡ false
-    idling own = ap (λ p. option_map_or is_prepared_phase p false)
-        (subst (IsOpen state) own (open_association state session))
+    shares : (at own : Xid) (other : List ℕ) (found : Option Branch)
+        → (eq_by_cmp bytes_cmp key other ≡ false) ⊎ ((is_get one ≡ true) × (true ≡ true))
+        → bars (cond (same_xid at own) (option_map (with_lock other) found) found) ≡ bars found
+    shares at own other found (inl apart) =
+        changed bars at own (with_lock other) found (λ b. ap (barring one) (shared_apart key other apart b))
+    shares at own other found (inr gets) = changed bars at own (with_lock other) found
+        (λ b. get_bars one (map.get (with_lock other b).locks key) (map.get b.locks key) gets.0
+        (shared_seen key other b))
+
+    by : (at : Xid) (a : Association) (s : Statement) → is_refused (table state a s) ≡ false
+        → ((other : List ℕ) → key_of s ≡ Some other
+        → (eq_by_cmp bytes_cmp key other ≡ false) ⊎ ((is_get one ≡ true) × (is_get s ≡ true)))
+        → (EndsIn a s at → bars (map.get state.branches at) ≡ None)
+        → bars (branch_after session a s at (map.get state.branches at)) ≡ bars (map.get state.branches at)
+    by at a (Start xid) goes row unheld =
+        picked (λ o. bars o ≡ bars (map.get state.branches at)) at xid _ _
+        (λ is. ap (barring one) (get-empty bytes_cmp key)
+        ∙ sym (ap bars (unknown_before state a xid at goes is))) refl
+    by at a (End xid) goes row unheld = changed bars at xid idle _ (λ b. refl)
+    by at a (Prepare xid) goes row unheld = changed bars at xid detached _ (λ b. refl)
+    by at a (Commit xid one_phase) goes row unheld =
+        picked (λ o. bars o ≡ bars (map.get state.branches at)) at xid None _ (λ is. gone _ (unheld (sym is))) refl
+    by at a (Rollback xid) goes row unheld =
+        picked (λ o. bars o ≡ bars (map.get state.branches at)) at xid None _ (λ is. gone _ (unheld (sym is))) refl
+    by at a (Recover convert) goes row unheld = refl
+    by at a Unsupported goes row unheld = refl
+    by at Free (Get other) goes row unheld = refl
+    by at (Active own) (Get other) goes row unheld = shares at own other _ (row other refl)
+    by at (Idle own) (Get other) goes row unheld = refl
+    by at Free (Put other value) goes row unheld = refl
+    by at (Active own) (Put other value) goes row unheld = writes at own other (Some value) _ (row other refl)
+    by at (Idle own) (Put other value) goes row unheld = refl
+    by at Free (Del other) goes row unheld = refl
+    by at (Active own) (Del other) goes row unheld = writes at own other None _ (row other refl)
+    by at (Idle own) (Del other) goes row unheld = refl
+    by at Free Disconnect goes row unheld = refl
+    by at (Active own) Disconnect goes row unheld =
+        picked (λ o. bars o ≡ bars (map.get state.branches at)) at own None _ (λ is. gone _ (unheld (sym is))) refl
+    by at (Idle own) Disconnect goes row unheld =
+        picked (λ o. bars o ≡ bars (map.get state.branches at)) at own None _ (λ is. gone _ (unheld (sym is))) refl
+
+-- a statement that leaves the list of PREPARED branches as it is (`IsUnlisted`) leaves each branch PREPARED or not, as
+-- it was
+unlisted_after : (state : State) (session : ℕ) (statement : Statement) (at : Xid) → IsUnlisted statement
+    → is_prepared (after state session statement) at ≡ is_prepared state at
+unfolding branch_after idle table
+unlisted_after state session statement at unlisted = elim (outcome state session statement) [
+  | inl refused ↦ ap (λ (s : State). is_prepared s at) refused.1
+  | inr done ↦ ap (λ (s : State). is_prepared s at) done.1
+      ∙ ap prepared (effect-branch state session (association_of state session) statement at)
+      ∙ by (association_of state session) (open_association state session) statement unlisted done.0
+]
+  where
+    prepared : Option Branch → Bool
+    prepared found = option_map_or is_prepared_phase (option_map (λ (b : Branch). b.phase) found) false
+
+    Keeps : Option Branch → Type 0
+    Keeps o = prepared o ≡ prepared (map.get state.branches at)
+
+    unprepared : (own : Xid) (phase : Phase) → is_prepared_phase phase ≡ false → phase_at state own ≡ Some phase
+        → is_prepared state own ≡ false
+    unprepared own phase not is = ap (λ p. option_map_or is_prepared_phase p false) is ∙ not
 
     never : (b : Bool) → is_refused (refused_if (not b) Nota (Reply.Refused (Rmfail StatePrepared))) ≡ false → ⊥
     never true e = false≢true (sym e)
     never false e = false≢true (sym e)
 
-    in_one_phase : (one_phase : Bool) → one_phase ≡ true → MayEnd state session xid
-        → is_refused (table state a (Commit xid one_phase)) ≡ false → phase_prepared old ≡ false
-    in_one_phase true is (inl free) goes = absurd (never (is_prepared state xid)
-        (sym (ap (λ c. is_refused (table state c (Commit xid true))) free.0) ∙ goes))
-    in_one_phase true is (inr own) goes = idling own
-    in_one_phase false is may goes = absurd (false≢true is)
+    one_phase_of : (a : Association) (xid : Xid) (one_phase : Bool) → one_phase ≡ true → IsOpen state a
+        → is_refused (table state a (Commit xid one_phase)) ≡ false → is_prepared state xid ≡ false
+    one_phase_of a xid false is opened goes = absurd (false≢true is)
+    one_phase_of Free xid true is opened goes = absurd (never (is_prepared state xid) goes)
+    one_phase_of (Active own) xid true is opened goes = absurd (false≢true (sym goes))
+    one_phase_of (Idle own) xid true is opened goes =
+        ap (is_prepared state) (own_is xid own _ goes) ∙ unprepared own Phase.Idle refl opened
 
-    with_row : (key : List ℕ) (change : Branch → Branch) → ((b : Branch) → (change b).phase ≡ b.phase)
-        → phase_prepared (cond (same_xid xid xid) (option_map change old) old) ≡ phase_prepared old
-    with_row key change keeps =
-        ap (λ b. phase_prepared (cond b (option_map change old) old)) (itself xid) ∙ same_phase change keeps old
+    ended : (found : Option Branch) → prepared (option_map idle found) ≡ false
+    ended None = refl
+    ended (Some branch) = refl
 
-    by : IsOwnStep state session statement xid rows
-        → phase_prepared (branch_after session a statement xid old) ≡ phase_prepared old
-    by (starts is free new) =
-        ap (λ s. phase_prepared (branch_after session a s xid old)) is
-        ∙ ap (λ b. phase_prepared (cond b (Some (started_by session)) old)) (itself xid)
-        ∙ sym (ap phase_prepared new)
-    by (ends is own) =
-        ap (λ s. phase_prepared (branch_after session a s xid old)) is
-        ∙ ap (λ b. phase_prepared (cond b (option_map idle old) old)) (itself xid) ∙ ended old ∙ sym (active own)
-      where
-        ended : (found : Option Branch) → phase_prepared (option_map idle found) ≡ false
-        ended None = refl
-        ended (Some branch) = refl
-    by (prepares is own) = absurd (subst IsUnlisted is unlisted)
-    by (works key is has among) =
-        by_row (λ s. phase_prepared (branch_after session a s xid old) ≡ phase_prepared old) statement key is
-        (ap (λ c. phase_prepared (branch_after session c (Get key) xid old)) has.0
-        ∙ with_row key (with_lock key) (λ b. refl))
-        (λ value. ap (λ c. phase_prepared (branch_after session c (Put key value) xid old)) has.0
-        ∙ with_row key (with_own_write key (Some value)) (λ b. refl))
-        (ap (λ c. phase_prepared (branch_after session c (Del key) xid old)) has.0
-        ∙ with_row key (with_own_write key None) (λ b. refl))
-    by (finishes ending may accepted held) =
-        by_ending (λ s. IsUnlisted s → is_refused (table state a s) ≡ false
-        → phase_prepared (branch_after session a s xid old) ≡ phase_prepared old) statement xid ending
-        (λ one_phase is goes. ap (λ b. phase_prepared (cond b None old)) (itself xid)
-        ∙ sym (in_one_phase one_phase is may goes))
-        (λ is goes. absurd is) unlisted accepted
+    by : (a : Association) → IsOpen state a → (s : Statement) → IsUnlisted s → is_refused (table state a s) ≡ false
+        → prepared (branch_after session a s at (map.get state.branches at)) ≡ prepared (map.get state.branches at)
+    by a opened (Start xid) un goes =
+        picked Keeps at xid _ _ (λ is. sym (ap prepared (unknown_before state a xid at goes is))) refl
+    by a opened (End xid) un goes = picked Keeps at xid _ _
+        (λ is. ended (map.get state.branches at)
+        ∙ sym (ap (is_prepared state) is ∙ accepted_end state a xid opened goes)) refl
+    by a opened (Prepare xid) un goes = absurd un
+    by a opened (Commit xid one_phase) un goes = picked Keeps at xid None _
+        (λ is. sym (ap (is_prepared state) is ∙ one_phase_of a xid one_phase un opened goes)) refl
+    by a opened (Rollback xid) un goes = absurd un
+    by a opened (Recover convert) un goes = refl
+    by a opened Unsupported un goes = refl
+    by Free opened (Get key) un goes = refl
+    by (Active own) opened (Get key) un goes = changed prepared at own (with_lock key) _ (λ b. refl)
+    by (Idle own) opened (Get key) un goes = refl
+    by Free opened (Put key value) un goes = refl
+    by (Active own) opened (Put key value) un goes =
+        changed prepared at own (with_own_write key (Some value)) _ (λ b. refl)
+    by (Idle own) opened (Put key value) un goes = refl
+    by Free opened (Del key) un goes = refl
+    by (Active own) opened (Del key) un goes = changed prepared at own (with_own_write key None) _ (λ b. refl)
+    by (Idle own) opened (Del key) un goes = refl
+    by Free opened Disconnect un goes = refl
+    by (Active own) opened Disconnect un goes = picked Keeps at own None _
+        (λ is. sym (ap (is_prepared state) is ∙ unprepared own Phase.Active refl opened)) refl
+    by (Idle own) opened Disconnect un goes = picked Keeps at own None _
+        (λ is. sym (ap (is_prepared state) is ∙ unprepared own Phase.Idle refl opened)) refl
 
--- the branch that a statement names isn't one that it avoids
-avoids_named : (statement : Statement) (xid other : Xid) → Avoids statement xid → named_by statement ≡ Some other
-    → same_xid xid other ≡ false
-avoids_named (Start named) xid other avoids is = subst (λ n. same_xid xid n ≡ false) (same_Some named other is) avoids
-avoids_named (End named) xid other avoids is = subst (λ n. same_xid xid n ≡ false) (same_Some named other is) avoids
-avoids_named (Prepare named) xid other avoids is =
-    subst (λ n. same_xid xid n ≡ false) (same_Some named other is) avoids
-avoids_named (Commit named one_phase) xid other avoids is =
-    subst (λ n. same_xid xid n ≡ false) (same_Some named other is) avoids
-avoids_named (Rollback named) xid other avoids is =
-    subst (λ n. same_xid xid n ≡ false) (same_Some named other is) avoids
-avoids_named (Recover convert) xid other avoids is = absurd (none-some other is)
-avoids_named Unsupported xid other avoids is = absurd (none-some other is)
-avoids_named (Get key) xid other avoids is = absurd (none-some other is)
-avoids_named (Put key value) xid other avoids is = absurd (none-some other is)
-avoids_named (Del key) xid other avoids is = absurd (none-some other is)
-avoids_named Disconnect xid other avoids is = absurd (none-some other is)
+-- the statement gives the row a value: it names the row and isn't GET, or it commits a branch that holds it exclusively
+data Changes (state : State) (statement : Statement) (key : List ℕ) : Type 0 where
+  names : key_of statement ≡ Some key → is_get statement ≡ false → Changes state statement key
+  commits : (xid : Xid) (one_phase : Bool) → statement ≡ Commit xid one_phase → holds_exclusively state xid key ≡ true
+      → Changes state statement key
 
--- the statement names no branch but this one, its session has no other one ACTIVE, and it isn't XA RECOVER
-record IsTheirs (state : State) (session : ℕ) (statement : Statement) (xid : Xid) : Type 0 where
-  pub named : (other : Xid) → named_by statement ≡ Some other → other ≡ xid
-  pub own : (other : Xid) → association_of state session ≡ Active other → other ≡ xid
-  pub listed : (convert : Bool) → statement ≡ Recover convert → ⊥
-
--- a session has no more than one branch open and ACTIVE
-same_active : (xid other : Xid) → Active xid ≡ Active other → other ≡ xid
-same_active xid other e = cc
-
--- a session with nothing open has no ACTIVE branch open
-free_active : (other : Xid) → Free ≡ Active other → ⊥
-free_active other e = cc
-
--- a session that has ended its work on its branch has no ACTIVE branch open
-idle_active : (xid other : Xid) → Idle xid ≡ Active other → ⊥
-idle_active xid other e = cc
-
--- a session that may end a branch has no ACTIVE branch open
-may_active : (state : State) (session : ℕ) (xid other : Xid) → MayEnd state session xid
-    → association_of state session ≡ Active other → ⊥
-may_active state session xid other (inl free) e = free_active other (sym free.0 ∙ e)
-may_active state session xid other (inr own) e = idle_active xid other (sym own ∙ e)
-
--- `IsTheirs` holds of each step of the session's own branch
-theirs : (state : State) (session : ℕ) (statement : Statement) (xid : Xid) (rows : List (List ℕ))
-    → IsOwnStep state session statement xid rows → IsTheirs state session statement xid
-theirs state session statement xid rows (starts is free new) = record {
-  named = λ other e. sym (same_Some xid other (sym (ap named_by is) ∙ e));
-  own = λ other e. absurd (free_active other (sym free ∙ e));
-  listed = λ convert e. absurd (list convert (sym is ∙ e));
-}
+-- an accepted statement leaves the row's committed value, whatever it is, or it changes it (`Changes`)
+keeps_or_changes : (state : State) (a : Association) (statement : Statement) (key : List ℕ) → LockLaw state
+    → ((found : Option Text) → written state a statement key found ≡ found) ⊎ Changes state statement key
+unfolding written
+keeps_or_changes state a (Commit xid one_phase) key law = by (write_at state xid key) refl
   where
-    list : (convert : Bool) → Start xid ≡ Recover convert → ⊥
-    list convert e = cc
-theirs state session statement xid rows (ends is own) = record {
-  named = λ other e. sym (same_Some xid other (sym (ap named_by is) ∙ e));
-  own = λ other e. same_active xid other (sym own ∙ e);
-  listed = λ convert e. absurd (list convert (sym is ∙ e));
-}
-  where
-    list : (convert : Bool) → End xid ≡ Recover convert → ⊥
-    list convert e = cc
-theirs state session statement xid rows (prepares is own) = record {
-  named = λ other e. sym (same_Some xid other (sym (ap named_by is) ∙ e));
-  own = λ other e. absurd (idle_active xid other (sym own ∙ e));
-  listed = λ convert e. absurd (list convert (sym is ∙ e));
-}
-  where
-    list : (convert : Bool) → Prepare xid ≡ Recover convert → ⊥
-    list convert e = cc
-theirs state session statement xid rows (works key is has among) = record {
-  named = λ other e. absurd (none-some other (sym unnamed ∙ e));
-  own = λ other e. same_active xid other (sym has.0 ∙ e);
-  listed = λ convert e. absurd (none-some key (sym (ap key_of e) ∙ is));
-}
-  where
-    unnamed : named_by statement ≡ None
-    unnamed = by_row (λ s. named_by s ≡ None) statement key is refl (λ value. refl) refl
-theirs state session statement xid rows (finishes ending may accepted held) = record {
-  named = λ other e. sym (same_Some xid other (sym names ∙ e));
-  own = λ other e. absurd (may_active state session xid other may e);
-  listed = λ convert e. absurd (subst (λ s. IsEnding s xid) e ending);
-}
-  where
-    names : named_by statement ≡ Some xid
-    names = by_ending (λ s. named_by s ≡ Some xid) statement xid ending (λ one_phase. refl) refl
+    by : (o : Option Write) → write_at state xid key ≡ o
+        → ((found : Option Text) → unwrap_or (write_at state xid key) found ≡ found)
+        ⊎ Changes state (Commit xid one_phase) key
+    by None e = inl (λ found. ap (λ w. unwrap_or w found) e)
+    by (Some write) e = inr (commits xid one_phase refl (law.held_writes xid key (ap is_some e)))
+keeps_or_changes state Free (Put row value) key law = elim (same_or_apart bytes_total exact_texts key row) [
+  | inl is ↦ inr (names (ap Some (sym is)) refl)
+  | inr apart ↦ inl (λ found. ap (λ b. cond b (Some value) found) apart)
+]
+keeps_or_changes state (Active own) (Put row value) key law = inl (λ found. refl)
+keeps_or_changes state (Idle own) (Put row value) key law = inl (λ found. refl)
+keeps_or_changes state Free (Del row) key law = elim (same_or_apart bytes_total exact_texts key row) [
+  | inl is ↦ inr (names (ap Some (sym is)) refl)
+  | inr apart ↦ inl (λ found. ap (λ b. cond b None found) apart)
+]
+keeps_or_changes state (Active own) (Del row) key law = inl (λ found. refl)
+keeps_or_changes state (Idle own) (Del row) key law = inl (λ found. refl)
+keeps_or_changes state a (Start xid) key law = inl (λ found. refl)
+keeps_or_changes state a (End xid) key law = inl (λ found. refl)
+keeps_or_changes state a (Prepare xid) key law = inl (λ found. refl)
+keeps_or_changes state a (Rollback xid) key law = inl (λ found. refl)
+keeps_or_changes state a (Recover convert) key law = inl (λ found. refl)
+keeps_or_changes state a Unsupported key law = inl (λ found. refl)
+keeps_or_changes state a (Get row) key law = inl (λ found. refl)
+keeps_or_changes state a Disconnect key law = inl (λ found. refl)
 
--- the session of a step that names a row has the branch open and ACTIVE; no other branch holds the row, which is one of
--- the step's rows
-row_of : (state : State) (session : ℕ) (statement : Statement) (xid : Xid) (rows : List (List ℕ)) (key : List ℕ)
-    → IsOwnStep state session statement xid rows → key_of statement ≡ Some key
-    → HasRow state session key xid × IsAmong key rows
-row_of state session statement xid rows key (starts is free new) e =
-    absurd (none-some key (sym (ap key_of is) ∙ e))
-row_of state session statement xid rows key (ends is own) e = absurd (none-some key (sym (ap key_of is) ∙ e))
-row_of state session statement xid rows key (prepares is own) e = absurd (none-some key (sym (ap key_of is) ∙ e))
-row_of state session statement xid rows key (works row is has among) e =
-    subst (λ k. HasRow state session k xid × IsAmong k rows) (same_Some row key (sym is ∙ e)) (has, among)
-row_of state session statement xid rows key (finishes ending may accepted held) e =
-    absurd (none-some key (sym (by_ending (λ s. key_of s ≡ None) statement xid ending (λ one_phase. refl) refl) ∙ e))
+-- a statement that has nothing to do with a row that another one names doesn't change it
+spared_row : (state : State) (one : Statement) (session : ℕ) (two : Statement) (key : List ℕ)
+    → Spares state one session two → key_of one ≡ Some key → Changes state two key → ⊥
+spared_row state one session two key spares is (names its writes) = elim (spares.row key key is its) [
+  | inl apart ↦ false≢true (sym apart ∙ same_itself bytes_total exact_texts key)
+  | inr gets ↦ false≢true (sym writes ∙ gets.1)
+]
+spared_row state one session two key spares is (commits xid one_phase its held) =
+    false≢true (sym (unexclusive one (lock_at state xid key)
+    (spares.unheld key xid is (subst (λ s. EndsIn (association_of state session) s xid) (sym its) refl))) ∙ held)
 
--- a clear statement of another session leaves who holds the row that the step names
-step_held : (state : State) (session other : ℕ) (one two : Statement) (xid : Xid) (rows : List (List ℕ))
-    (key : List ℕ) → IsOwnStep state session one xid rows → IsClearOf one two xid rows
-    → IsBeside (association_of state other) xid → key_of one ≡ Some key → HoldAlike state (after state other two) key
-unfolding lock_in
-step_held state session other one two xid rows key step clear beside e = λ at.
-    let its = row_of state session one xid rows key step e in
-    elim (same_or_apart xids_total exact_xids at xid) [
-      | inl is ↦ subst (λ x. lock_at (after state other two) x key ≡ lock_at state x key) (sym is)
-          (ap (lock_in key) (untouched state other two xid clear.avoids beside))
-      | inr apart ↦
-          let none = held_none state xid at key its.0.1 apart in
-          unheld_after state other two at key (λ row f. away_key row key (clear.apart key row its.1 f)) none ∙ sym none
-    ]
+-- of two statements that are apart no more than one changes a row
+one_changes : (state : State) (session other : ℕ) (one two : Statement) (key : List ℕ) → LockLaw state
+    → AreApart state session one other two → Changes state one key → Changes state two key → ⊥
+one_changes state session other one two key law apart (names is writes) its =
+    spared_row state one other two key apart.0 is its
+one_changes state session other one two key law apart (commits xid phase is held) (names its writes) =
+    spared_row state two session one key apart.1 its (commits xid phase is held)
+one_changes state session other one two key law apart (commits xid phase is held) (commits at other_phase its theirs) =
+    false≢true (sym (subst (λ s. Avoids s xid) its (apart.0.avoids xid (ap named_by is)))
+    ∙ ap (same_xid xid) (sym (law.one_holder xid at key held (exclusive_some _ theirs))) ∙ itself xid)
 
--- the row that the step names has the same committed value after a clear statement of another session
-step_value : (state : State) (session other : ℕ) (one two : Statement) (xid : Xid) (rows : List (List ℕ))
-    (key : List ℕ) → LockLaw state → IsOwnStep state session one xid rows → IsClearOf one two xid rows
-    → key_of one ≡ Some key → committed_value (after state other two) key ≡ committed_value state key
-step_value state session other one two xid rows key law step clear e = elim (outcome state other two) [
-  | inl refused ↦ ap (λ (s : State). map.get s.rows key) refused.1
-  | inr done ↦ ap (λ (s : State). map.get s.rows key) done.1
-      ∙ effect-row state other (association_of state other) two key
-      ∙ unwritten state (association_of state other) two key (map.get state.rows key)
-      (λ row f. away_key row key (clear.apart key row its.1 f))
-      (λ at f. write_none state law at key (held_none state xid at key its.0.1
-      (away at xid (avoids_named two xid at clear.avoids f))))
+-- ---- branches
+
+-- one of two branches is the other, or they differ
+is_or_differs : (xid other : Xid) → (Some other ≡ Some xid) ⊎ (same_xid xid other ≡ false)
+is_or_differs xid other = elim (same_or_apart xids_total exact_xids xid other) [
+  | inl is ↦ inl (ap Some (sym is))
+  | inr apart ↦ inr apart
+]
+
+-- a statement names the branch, or it doesn't
+names_or_avoids : (statement : Statement) (xid : Xid) → (named_by statement ≡ Some xid) ⊎ Avoids statement xid
+names_or_avoids (Start other) xid = is_or_differs xid other
+names_or_avoids (End other) xid = is_or_differs xid other
+names_or_avoids (Prepare other) xid = is_or_differs xid other
+names_or_avoids (Commit other one_phase) xid = is_or_differs xid other
+names_or_avoids (Rollback other) xid = is_or_differs xid other
+names_or_avoids (Recover convert) xid = inr tt
+names_or_avoids Unsupported xid = inr tt
+names_or_avoids (Get key) xid = inr tt
+names_or_avoids (Put key value) xid = inr tt
+names_or_avoids (Del key) xid = inr tt
+names_or_avoids Disconnect xid = inr tt
+
+-- the statement doesn't name the branch, and its session hasn't it open
+abbrev Leaves : State → ℕ → Statement → Xid → Type 0
+Leaves state session statement xid = Avoids statement xid × IsBeside (association_of state session) xid
+
+-- of two statements that are apart, one leaves the branch as it is (`Leaves`)
+one_leaves : (state : State) (session other : ℕ) (one two : Statement) (xid : Xid) → session ≢ other
+    → AreApart state session one other two → Leaves state session one xid ⊎ Leaves state other two xid
+one_leaves state session other one two xid differ apart = elim (names_or_avoids one xid) [
+  | inl own ↦ inr (apart.0.avoids xid own, apart.0.beside xid own)
+  | inr avoids ↦ elim (names_or_avoids two xid) [
+    | inl its ↦ inl (avoids, apart.1.beside xid its)
+    | inr too ↦ mine avoids too (owns state session xid) refl
+  ]
 ]
   where
-    its : HasRow state session key xid × IsAmong key rows
-    its = row_of state session one xid rows key step e
+    not_both : owns state session xid ≡ true → owns state other xid ≡ true → ⊥
+    not_both own its = differ (same_Some session other
+        (sym (owned_is (owner_at state xid) session own) ∙ owned_is (owner_at state xid) other its))
 
--- a clear statement of another session leaves what the step's reply depends on (`IsAsked`)
-asked_one : (state : State) (session other : ℕ) (one two : Statement) (xid : Xid) (rows : List (List ℕ))
-    → LockLaw state → session ≢ other → IsOwnStep state session one xid rows → IsClearOf one two xid rows
-    → IsAsked state (after state other two) session one
-asked_one state session other one two xid rows law apart step clear = record {
-  association = (others_left state law other session two (λ e. apart (sym e))).association;
-  named = λ at e. here at ((theirs state session one xid rows step).named at e);
-  own = λ at e. here at ((theirs state session one xid rows step).own at e);
-  listed = λ convert e. absurd ((theirs state session one xid rows step).listed convert e);
-  value = λ key e. step_value state session other one two xid rows key law step clear (ap key_of e);
-  held = λ key e. step_held state session other one two xid rows key step clear beside e;
-}
-  where
-    beside : IsBeside (association_of state other) xid
-    beside = beside_unowned state other xid (not_theirs state session other one xid rows law apart step)
+    theirs : Avoids two xid → owns state session xid ≡ true → (b : Bool) → owns state other xid ≡ b
+        → Leaves state other two xid
+    theirs too own true e = absurd (not_both own e)
+    theirs too own false e = (too, beside_unowned state other xid e)
 
-    here : (at : Xid) → at ≡ xid → map.get (after state other two).branches at ≡ map.get state.branches at
-    here at is = subst (λ x. map.get (after state other two).branches x ≡ map.get state.branches x) (sym is)
-        (untouched state other two xid clear.avoids beside)
+    mine : Avoids one xid → Avoids two xid → (b : Bool) → owns state session xid ≡ b
+        → Leaves state session one xid ⊎ Leaves state other two xid
+    mine avoids too true e = inr (theirs too e (owns state other xid) refl)
+    mine avoids too false e = inl (avoids, beside_unowned state session xid e)
 
--- a step leaves the committed value of a row that isn't one of its rows
-step_leaves : (state : State) (session : ℕ) (one : Statement) (xid : Xid) (rows : List (List ℕ)) (key : List ℕ)
-    → LockLaw state → IsOwnStep state session one xid rows
-    → ((row : List ℕ) → IsAmong row rows → eq_by_cmp bytes_cmp key row ≡ false) → (found : Option Text)
-    → written state (association_of state session) one key found ≡ found
-unfolding written
-step_leaves state session one xid rows key law (starts is free new) apart found =
-    ap (λ s. written state (association_of state session) s key found) is
-step_leaves state session one xid rows key law (ends is own) apart found =
-    ap (λ s. written state (association_of state session) s key found) is
-step_leaves state session one xid rows key law (prepares is own) apart found =
-    ap (λ s. written state (association_of state session) s key found) is
-step_leaves state session one xid rows key law (works row is has among) apart found =
-    by_row (λ s. written state (association_of state session) s key found ≡ found) one row is
-    refl
-    (λ value. ap (λ a. written state a (Put row value) key found) has.0)
-    (ap (λ a. written state a (Del row) key found) has.0)
-step_leaves state session one xid rows key law (finishes ending may accepted held) apart found =
-    by_ending (λ s. written state (association_of state session) s key found ≡ found) one xid ending
-    (λ one_phase. ap (λ w. unwrap_or w found) (write_none state law xid key (unheld (lock_at state xid key) refl)))
-    refl
-  where
-    unheld : (o : Option LockMode) → lock_at state xid key ≡ o → lock_at state xid key ≡ None
-    unheld None e = e
-    unheld (Some mode) e = absurd (false≢true (sym (apart key (held key (ap is_some e)))
-        ∙ same_itself bytes_total exact_texts key))
+-- ---- both orders
 
--- a step leaves what the reply to a clear statement of another session depends on (`IsAsked`)
-asked_two : (state : State) (session other : ℕ) (one two : Statement) (xid : Xid) (rows : List (List ℕ))
-    → LockLaw state → session ≢ other → IsOwnStep state session one xid rows → IsClearOf one two xid rows
-    → IsAsked state (after state session one) other two
-asked_two state session other one two xid rows law apart step clear = record {
+-- a statement that has nothing to do with what another session's statement names leaves what that one's reply depends
+-- on (`IsAsked`)
+spared_asked : (state : State) (session other : ℕ) (one two : Statement) → LockLaw state → session ≢ other
+    → Spares state one other two → IsAsked state (after state other two) session one
+spared_asked state session other one two law differ spares = record {
   association = leaves.association;
-  named = λ at e. there at (avoids_named two xid at clear.avoids e);
-  own = λ at e. leaves.branch at (subst (IsOwn state other) e (own_association state other));
-  listed = λ convert e. listed_same state (after state session one) (λ at. prepared at convert e);
-  value = λ key e. ap (λ (s : State). map.get s.rows key) (accepted_done state session one about.accepted)
-      ∙ effect-row state session (association_of state session) one key
-      ∙ step_leaves state session one xid rows key law step (λ row among. clear.apart row key among (ap key_of e))
-      (map.get state.rows key);
-  held = λ key e. hold_after state session one xid rows key step (λ row among. clear.apart row key among e);
+  named = λ xid e. untouched state other two xid (spares.avoids xid e) (spares.beside xid e);
+  own = λ xid e. leaves.branch xid (subst (IsOwn state session) e (own_association state session));
+  listed = λ convert e. listed_same state (after state other two)
+      (λ xid. unlisted_after state other two xid (spares.listed convert e));
+  value = λ key e. elim (outcome state other two) [
+    | inl refused ↦ ap (λ (s : State). map.get s.rows key) refused.1
+    | inr done ↦ ap (λ (s : State). map.get s.rows key) done.1
+        ∙ effect-row state other (association_of state other) two key
+        ∙ elim (keeps_or_changes state (association_of state other) two key law) [
+          | inl keeps ↦ keeps (map.get state.rows key)
+          | inr changes ↦ absurd (spared_row state one other two key spares (ap key_of e) changes)
+        ]
+  ];
+  held = λ key e. bars_after state one other two key e spares;
 }
   where
-    leaves : LeavesSession state (after state session one) other
-    leaves = others_left state law session other one apart
+    leaves : LeavesSession state (after state other two) session
+    leaves = others_left state law other session two (λ e. differ (sym e))
 
-    about : IsAbout state session one xid
-    about = is_about state session one xid rows step
-
-    there : (at : Xid) → same_xid xid at ≡ false → map.get (after state session one).branches at
-        ≡ map.get state.branches at
-    there at e = untouched state session one at (about.avoids at (away at xid e)) (about.beside at (away at xid e))
-
-    prepared : (at : Xid) (convert : Bool) → two ≡ Recover convert
-        → is_prepared (after state session one) at ≡ is_prepared state at
-    prepared at convert e = elim (same_or_apart xids_total exact_xids at xid) [
-      | inl is ↦ subst (λ x. is_prepared (after state session one) x ≡ is_prepared state x) (sym is)
-          (step_prepared state session one xid rows step (clear.lists convert e))
-      | inr beside ↦ prepared_same state (after state session one) at (there at (away xid at beside))
-    ]
-
--- if the branch that a statement names is the same in two states, the statement leaves the same of a row's committed
--- value in both
-written_same : (old new : State) (a : Association) (statement : Statement) (key : List ℕ) (found : Option Text)
-    → ((xid : Xid) → named_by statement ≡ Some xid → map.get new.branches xid ≡ map.get old.branches xid)
-    → written new a statement key found ≡ written old a statement key found
-unfolding written
-written_same old new a (Commit xid one_phase) key found same =
-    ap (λ (o : Option Branch). unwrap_or (option_and_then (λ (b : Branch). map.get b.writes key) o) found)
-    (same xid refl)
-written_same old new a (Start xid) key found same = refl
-written_same old new a (End xid) key found same = refl
-written_same old new a (Prepare xid) key found same = refl
-written_same old new a (Rollback xid) key found same = refl
-written_same old new a (Recover convert) key found same = refl
-written_same old new a Unsupported key found same = refl
-written_same old new a (Get row) key found same = refl
-written_same old new Free (Put row value) key found same = refl
-written_same old new (Active own) (Put row value) key found same = refl
-written_same old new (Idle own) (Put row value) key found same = refl
-written_same old new Free (Del row) key found same = refl
-written_same old new (Active own) (Del row) key found same = refl
-written_same old new (Idle own) (Del row) key found same = refl
-written_same old new a Disconnect key found same = refl
-
--- if a statement doesn't name this branch, nor this row if the branch holds it, the row gets the same value whether
--- what the branch wrote to it is committed before that statement or after it
-either_order : (state : State) (other : ℕ) (two : Statement) (xid : Xid) (key : List ℕ) (found : Option Text)
-    → LockLaw state → Avoids two xid
-    → ((mode : LockMode) (row : List ℕ) → lock_at state xid key ≡ Some mode → key_of two ≡ Some row
-    → eq_by_cmp bytes_cmp key row ≡ false)
-    → unwrap_or (write_at state xid key) (written state (association_of state other) two key found)
-    ≡ written state (association_of state other) two key (unwrap_or (write_at state xid key) found)
-either_order state other two xid key found law avoids apart = by (write_at state xid key) refl
-  where
-    b : Association
-    b = association_of state other
-
-    holder : (o : Option LockMode) → lock_at state xid key ≡ o → is_exclusive (lock_at state xid key) ≡ true
-        → (mode : LockMode) × (lock_at state xid key ≡ Some mode)
-    holder None e held = absurd (false≢true (sym (ap is_exclusive e) ∙ held))
-    holder (Some mode) e held = (mode, e)
-
-    by : (o : Option Write) → write_at state xid key ≡ o
-        → unwrap_or (write_at state xid key) (written state b two key found)
-        ≡ written state b two key (unwrap_or (write_at state xid key) found)
-    by None e =
-        ap (λ w. unwrap_or w (written state b two key found)) e
-        ∙ sym (ap (λ w. written state b two key (unwrap_or w found)) e)
-    by (Some write) e =
-        let held = law.held_writes xid key (ap is_some e) in
-        let how = holder (lock_at state xid key) refl held in
-        ap (λ w. unwrap_or w (written state b two key found)) e
-        ∙ sym (ap (λ w. written state b two key (unwrap_or w found)) e
-        ∙ unwritten state b two key write (λ row f. apart how.0 row how.1 f)
-        (λ at f. write_none state law at key (sole_holder state law xid at key held
-        (avoids_named two xid at avoids f))))
-
--- the step and the statement of another session come in any order to the same replies and the same state, and the
--- step is still one after the other statement
-pub record Commutes (state : State) (session other : ℕ) (one two : Statement) (xid : Xid)
-    (rows : List (List ℕ)) : Type 0 where
+-- the statements of two sessions come in either order to the same replies and the same state
+record Commutes (state : State) (session other : ℕ) (one two : Statement) : Type 0 where
   pub first : reply_to (after state other two) session one ≡ reply_to state session one
   pub second : reply_to (after state session one) other two ≡ reply_to state other two
   pub same : after (after state other two) session one ≡ after (after state session one) other two
-  pub still : IsOwnStep (after state other two) session one xid rows
 
--- where the lock law holds, a step and a statement of another session that is clear of it come to the same in any
--- order (`Commutes`)
-pub step_commutes : (state : State) (session other : ℕ) (one two : Statement) (xid : Xid) (rows : List (List ℕ))
-    → LockLaw state → session ≢ other → IsOwnStep state session one xid rows → IsClearOf one two xid rows
-    → Commutes state session other one two xid rows
-unfolding lock_in
-step_commutes state session other one two xid rows law apart step clear = record {
-  first = reply_same state there session one ask_one;
-  second = reply_same state here other two ask_two;
-  same = commutes state session other one two xid (is_about state session one xid rows step) clear.avoids beside ask_one
-      ask_two writes;
-  still = again step;
+-- where the lock law holds, statements of two sessions that are apart come to the same in either order (`Commutes`)
+apart_commute : (state : State) (session other : ℕ) (one two : Statement) → LockLaw state → session ≢ other
+    → AreApart state session one other two → Commutes state session other one two
+apart_commute state session other one two law differ apart = record {
+  first = first;
+  second = second;
+  same = by (is_refused (reply_to state session one)) (is_refused (reply_to state other two)) refl refl;
 }
   where
     here : State
@@ -1290,49 +775,366 @@ step_commutes state session other one two xid rows law apart step clear = record
     there : State
     there = after state other two
 
-    beside : IsBeside (association_of state other) xid
-    beside = beside_unowned state other xid (not_theirs state session other one xid rows law apart step)
+    a : Association
+    a = association_of state session
 
-    still_there : map.get there.branches xid ≡ map.get state.branches xid
-    still_there = untouched state other two xid clear.avoids beside
+    b : Association
+    b = association_of state other
 
-    ask_one : IsAsked state there session one
-    ask_one = asked_one state session other one two xid rows law apart step clear
+    asked : IsAsked state there session one
+    asked = spared_asked state session other one two law differ apart.0
 
-    ask_two : IsAsked state here other two
-    ask_two = asked_two state session other one two xid rows law apart step clear
+    its_asked : IsAsked state here other two
+    its_asked = spared_asked state other session two one law (λ e. differ (sym e)) apart.1
 
-    written_there : (key : List ℕ) → write_at there xid key ≡ write_at state xid key
-    written_there key =
-        ap (λ (o : Option Branch). option_and_then (λ (b : Branch). map.get b.writes key) o) still_there
+    first : reply_to there session one ≡ reply_to state session one
+    first = reply_same state there session one asked
 
-    writes : WriteAlike state here there (association_of state session) one (association_of state other) two
-    writes = λ key found.
-        let kept = written_same state here (association_of state other) two in
-        elim (step_row state session one xid rows step) [
-          | inl plain ↦
-              plain there key (written state (association_of state other) two key found)
-              ∙ sym (kept key found ask_two.named)
-              ∙ ap (written here (association_of state other) two key) (sym (plain state key found))
-          | inr whole ↦
-              whole.0 there key (written state (association_of state other) two key found)
-              ∙ ap (λ w. unwrap_or w (written state (association_of state other) two key found)) (written_there key)
-              ∙ either_order state other two xid key found law clear.avoids
-              (λ mode row e f. away_key row key (clear.apart key row (whole.1 key (ap is_some e)) f))
-              ∙ sym (kept key (unwrap_or (write_at state xid key) found) ask_two.named)
-              ∙ ap (written here (association_of state other) two key) (sym (whole.0 state key found))
-        ]
+    second : reply_to here other two ≡ reply_to state other two
+    second = reply_same state here other two its_asked
 
-    may_again : MayEnd state session xid → MayEnd there session xid
-    may_again (inl free) = inl (ask_one.association ∙ free.0, prepared_same state there xid still_there ∙ free.1)
-    may_again (inr own) = inr (ask_one.association ∙ own)
+    either : {A : Type 0} (f g : A → A) (x : A) → ((y : A) → f y ≡ y) ⊎ ((y : A) → g y ≡ y) → f (g x) ≡ g (f x)
+    either f g x (inl same) = same (g x) ∙ ap g (sym (same x))
+    either f g x (inr same) = ap f (same x) ∙ sym (same (f x))
 
-    again : IsOwnStep state session one xid rows → IsOwnStep there session one xid rows
-    again (starts is free new) = starts is (ask_one.association ∙ free) (still_there ∙ new)
-    again (ends is own) = ends is (ask_one.association ∙ own)
-    again (prepares is own) = prepares is (ask_one.association ∙ own)
-    again (works key is has among) = works key is
-        (ask_one.association ∙ has.0, held_alike state there (Active xid) key (ask_one.held key is) ∙ has.1) among
-    again (finishes ending may accepted held) = finishes ending (may_again may)
-        (ap is_refused (reply_same state there session one ask_one) ∙ accepted)
-        (λ key e. held key (sym (ap (λ o. is_some (lock_in key o)) still_there) ∙ e))
+    by : (p q : Bool) → is_refused (reply_to state session one) ≡ p → is_refused (reply_to state other two) ≡ q
+        → after there session one ≡ after here other two
+    by true q refused e =
+        refused_leaves there session one (ap is_refused first ∙ refused)
+        ∙ sym (ap (λ s. after s other two) (refused_leaves state session one refused))
+    by false true e refused =
+        ap (λ s. after s session one) (refused_leaves state other two refused)
+        ∙ sym (refused_leaves here other two (ap is_refused second ∙ refused))
+    by false false goes its_goes =
+        accepted_done there session one (ap is_refused first ∙ goes)
+        ∙ ap (λ c. effect there session c one) asked.association
+        ∙ same_state (effect there session a one) (effect here other b two)
+        (same_map xids_total exact_xids _ _ branch) (same_map bytes_total exact_texts _ _ row)
+        ∙ sym (accepted_done here other two (ap is_refused second ∙ its_goes)
+        ∙ ap (λ c. effect here other c two) its_asked.association)
+      where
+        here_is : here ≡ effect state session a one
+        here_is = accepted_done state session one goes
+
+        there_is : there ≡ effect state other b two
+        there_is = accepted_done state other two its_goes
+
+        branch : (at : Xid) → map.get (effect there session a one).branches at
+            ≡ map.get (effect here other b two).branches at
+        branch at =
+            effect-branch there session a one at
+            ∙ ap (branch_after session a one at) (ap (λ (s : State). map.get s.branches at) there_is
+            ∙ effect-branch state other b two at)
+            ∙ either (branch_after session a one at) (branch_after other b two at) (map.get state.branches at)
+            (elim (one_leaves state session other one two at differ apart) [
+              | inl left ↦ inl (λ found. branch_kept session a one at found left.0 left.1)
+              | inr left ↦ inr (λ found. branch_kept other b two at found left.0 left.1)
+            ])
+            ∙ sym (effect-branch here other b two at
+            ∙ ap (branch_after other b two at) (ap (λ (s : State). map.get s.branches at) here_is
+            ∙ effect-branch state session a one at))
+
+        row : (key : List ℕ) → map.get (effect there session a one).rows key
+            ≡ map.get (effect here other b two).rows key
+        row key =
+            effect-row there session a one key
+            ∙ written_same state there a one key _ asked.named
+            ∙ ap (written state a one key) (ap (λ (s : State). map.get s.rows key) there_is
+            ∙ effect-row state other b two key)
+            ∙ either (written state a one key) (written state b two key) (map.get state.rows key)
+            (one_keeps (keeps_or_changes state a one key law) (keeps_or_changes state b two key law))
+            ∙ sym (effect-row here other b two key
+            ∙ written_same state here b two key _ its_asked.named
+            ∙ ap (written state b two key) (ap (λ (s : State). map.get s.rows key) here_is
+            ∙ effect-row state session a one key))
+          where
+            one_keeps : {X Y : Type 0} → X ⊎ Changes state one key → Y ⊎ Changes state two key → X ⊎ Y
+            one_keeps (inl keeps) its = inl keeps
+            one_keeps (inr changes) (inl keeps) = inr keeps
+            one_keeps (inr changes) (inr its) =
+                absurd (one_changes state session other one two key law apart changes its)
+
+-- the requests of two sessions come in either order to the same answers and the same state
+record RequestsCommute (state : State) (session other : ℕ) (one two : Request) : Type 0 where
+  pub first : answer_to (next_state state other two) session one ≡ answer_to state session one
+  pub second : answer_to (next_state state session one) other two ≡ answer_to state other two
+  pub same : next_state (next_state state other two) session one ≡ next_state (next_state state session one) other two
+
+-- where the lock law holds, requests of two sessions, whose statements are apart if they are statements, come to the
+-- same in either order (`RequestsCommute`)
+requests_commute : (state : State) (session other : ℕ) (one two : Request) → LockLaw state → session ≢ other
+    → ((mine its : Statement) → one ≡ Given mine → two ≡ Given its → AreApart state session mine other its)
+    → RequestsCommute state session other one two
+requests_commute state session other (Given one) (Given two) law differ apart =
+    let c = apart_commute state session other one two law differ (apart one two refl refl) in
+    record { first = ap Answer.Reply c.first; second = ap Answer.Reply c.second; same = c.same }
+requests_commute state session other (Given one) Unread law differ apart =
+    record { first = refl; second = refl; same = refl }
+requests_commute state session other Unread two law differ apart = record { first = refl; second = refl; same = refl }
+
+-- ---- acts
+
+-- what two sessions have open is apart also in a configuration with the same state in which both clients are the same
+pub apart_same : (old new : Config) (other session : ℕ) → new.state ≡ old.state
+    → slice_get new.clients other ≡ slice_get old.clients other
+    → slice_get new.clients session ≡ slice_get old.clients session
+    → IsApartAt old other session → IsApartAt new other session
+apart_same old new other session state first second apart = λ one two opens its.
+    subst (λ s. AreApart s other one session two) (sym state)
+    (apart one two (subst (λ c. Opens c one) first opens) (subst (λ c. Opens c two) second its))
+
+-- an act of another session that was before this session's act may come after it, to the same configuration, if what
+-- both have open is apart
+pub exchanged_apart : (run mid next : Config) (other session : ℕ) (act then : Act) → LockLaw run.state
+    → other ≢ session → IsApartAt run other session → effect_of run other act ≡ Some mid
+    → effect_of mid session then ≡ Some next
+    → (first : Config) × (effect_of run session then ≡ Some first) × (effect_of first other act ≡ Some next)
+exchanged_apart run mid next other session act then law differ apart leads follows = (
+  first,
+  mine.again run (sym at),
+  theirs.again first (get_apart run.clients session other _ (λ e. differ (sym e))) ∙ ap Some both,
+)
+  where
+    theirs : ActsAs run other act mid
+    theirs = acts_as run mid other act leads
+
+    mine : ActsAs mid session then next
+    mine = acts_as mid next session then follows
+
+    at : slice_get mid.clients session ≡ slice_get run.clients session
+    at = ap (λ (c : Config). slice_get c.clients session) theirs.is ∙ get_apart run.clients other session _ differ
+
+    made : Config → Config
+    made config = record {
+      state = next_state config.state session mine.request;
+      clients = set config.clients session (mine.client (answer_to config.state session mine.request));
+    }
+
+    first : Config
+    first = made run
+
+    c : RequestsCommute run.state session other mine.request theirs.request
+    c = requests_commute run.state session other mine.request theirs.request law (λ e. differ (sym e))
+        (λ one two is its.
+        let p = apart two one (theirs.opens two its) (subst (λ client. Opens client one) at (mine.opens one is)) in
+        (p.1, p.0))
+
+    make : State → Answer → Answer → Config
+    make state answer its = record {
+      state = state;
+      clients = set (set run.clients session (mine.client answer)) other (theirs.client its);
+    }
+
+    both : record {
+      state = next_state first.state other theirs.request;
+      clients = set first.clients other (theirs.client (answer_to first.state other theirs.request));
+    } ≡ next
+    both =
+        ap (make (next_state first.state other theirs.request) (answer_to run.state session mine.request)) c.second
+        ∙ ap (λ s. make s (answer_to run.state session mine.request) (answer_to run.state other theirs.request))
+        (sym c.same)
+        ∙ ap (λ answer. make (next_state (next_state run.state other theirs.request) session mine.request) answer
+        (answer_to run.state other theirs.request)) (sym c.first)
+        ∙ ap (λ l. record {
+          state = next_state (next_state run.state other theirs.request) session mine.request;
+          clients = l;
+        })
+        (set_apart run.clients session other
+        (mine.client (answer_to (next_state run.state other theirs.request) session mine.request))
+        (theirs.client (answer_to run.state other theirs.request)) (λ e. differ (sym e)))
+        ∙ ap made (sym theirs.is) ∙ sym mine.is
+
+-- ---- what is apart stays so
+
+-- a statement that is to end a branch names it or its session has it open
+ends_touches : (a : Association) (statement : Statement) (xid : Xid) → EndsIn a statement xid → Avoids statement xid
+    → IsBeside a xid → ⊥
+ends_touches a (Commit other one_phase) xid is avoids beside =
+    false≢true (sym avoids ∙ ap (same_xid xid) is ∙ itself xid)
+ends_touches a (Rollback other) xid is avoids beside = false≢true (sym avoids ∙ ap (same_xid xid) is ∙ itself xid)
+ends_touches (Active own) Disconnect xid is avoids beside =
+    false≢true (sym beside ∙ ap (same_xid xid) is ∙ itself xid)
+ends_touches (Idle own) Disconnect xid is avoids beside =
+    false≢true (sym beside ∙ ap (same_xid xid) is ∙ itself xid)
+ends_touches Free Disconnect xid is avoids beside = is
+ends_touches a (Start other) xid is avoids beside = is
+ends_touches a (End other) xid is avoids beside = is
+ends_touches a (Prepare other) xid is avoids beside = is
+ends_touches a (Recover convert) xid is avoids beside = is
+ends_touches a Unsupported xid is avoids beside = is
+ends_touches a (Get key) xid is avoids beside = is
+ends_touches a (Put key value) xid is avoids beside = is
+ends_touches a (Del key) xid is avoids beside = is
+
+-- a statement has nothing to do with what another one names, also in a state in which its session has the same open,
+-- if it ends no branch there that holds the row in a way that bars the other one
+spares_on : (old new : State) (one : Statement) (session : ℕ) (two : Statement)
+    → association_of new session ≡ association_of old session
+    → ((key : List ℕ) (xid : Xid) → key_of one ≡ Some key → EndsIn (association_of old session) two xid
+    → barring one (lock_at new xid key) ≡ barring one (lock_at old xid key))
+    → Spares old one session two → Spares new one session two
+spares_on old new one session two same held spares = record {
+  avoids = spares.avoids;
+  beside = λ xid e. subst (λ a. IsBeside a xid) (sym same) (spares.beside xid e);
+  row = spares.row;
+  unheld = λ key xid e ends.
+      let ended = subst (λ a. EndsIn a two xid) same ends in held key xid e ended ∙ spares.unheld key xid e ended;
+  listed = spares.listed;
+}
+
+-- what is apart stays so after a statement of a third session that is apart from one of both
+apart_later : (state : State) (third other session : ℕ) (that one two : Statement) → LockLaw state → third ≢ session
+    → third ≢ other → AreApart state third that session two → AreApart state other one session two
+    → AreApart (after state third that) other one session two
+unfolding lock_in
+apart_later state third other session that one two law differ away beside its = (
+  spares_on state (after state third that) one session two (others_left state law third session that differ).association
+      (λ key xid e ends. elim (one_leaves state third session that two xid differ beside) [
+        | inl left ↦ ap (λ o. barring one (lock_in key o)) (untouched state third that xid left.0 left.1)
+        | inr left ↦ absurd (ends_touches (association_of state session) two xid ends left.0 left.1)
+      ]) its.0,
+  spares_on state (after state third that) two other one (others_left state law third other that away).association
+      (λ key xid e ends. bars_after state two third that key e beside.1 xid) its.1,
+)
+
+-- a session that owns a branch has it open
+owned_open : (state : State) (session : ℕ) (xid : Xid) → LockLaw state → owns state session xid ≡ true
+    → EndsIn (association_of state session) Disconnect xid
+unfolding is_free
+owned_open state session xid law own =
+    by (association_of state session) (own_association state session) (owner_associated state session xid law own)
+  where
+    by : (a : Association) → IsOwn state session a → is_free a ≡ false → EndsIn a Disconnect xid
+    by Free its free = absurd (false≢true (sym free))
+    by (Active at) its free = law.one_branch session at xid its own
+    by (Idle at) its free = law.one_branch session at xid its own
+
+-- a session owns the branch that it has open
+open_owned : (state : State) (session : ℕ) (xid : Xid) → EndsIn (association_of state session) Disconnect xid
+    → owns state session xid ≡ true
+open_owned state session xid ends = by (association_of state session) (own_association state session) ends
+  where
+    by : (a : Association) → IsOwn state session a → EndsIn a Disconnect xid → owns state session xid ≡ true
+    by Free its is = absurd is
+    by (Active at) its is = ap (owns state session) (sym is) ∙ its
+    by (Idle at) its is = ap (owns state session) (sym is) ∙ its
+
+-- a session that hasn't the branch open, and whose statement doesn't name it, hasn't it open after the statement
+still_beside : (state : State) (session : ℕ) (statement : Statement) (xid : Xid) → LockLaw state
+    → Leaves state session statement xid → IsBeside (association_of (after state session statement) session) xid
+still_beside state session statement xid law left = beside_unowned (after state session statement) session xid
+    (ap (λ (o : Option Branch). option_map_or (λ owner. owner == session)
+    (option_and_then (λ (b : Branch). b.owner) o) false) (untouched state session statement xid left.0 left.1)
+    ∙ by (owns state session xid) refl)
+  where
+    by : (b : Bool) → owns state session xid ≡ b → owns state session xid ≡ false
+    by true own = absurd (ends_touches (association_of state session) Disconnect xid
+        (owned_open state session xid law own) tt left.1)
+    by false e = e
+
+-- the branch that a session has open after its statement, it had open before; or the branch holds no row
+opened_before : (state : State) (session : ℕ) (statement : Statement) (xid : Xid) (key : List ℕ) → LockLaw state
+    → EndsIn (association_of (after state session statement) session) Disconnect xid
+    → EndsIn (association_of state session) Disconnect xid ⊎ (lock_at (after state session statement) xid key ≡ None)
+unfolding is_owned branch_after lock_in
+opened_before state session statement xid key law ends =
+    let owned = open_owned (after state session statement) session xid ends in
+    elim (outcome state session statement) [
+      | inl refused ↦ inl (subst (λ s. EndsIn (association_of s session) Disconnect xid) refused.1 ends)
+      | inr done ↦ elim (owned_before session session (association_of state session) statement xid
+          (map.get state.branches xid)
+          (sym (ap (is_owned session) (effect-branch state session (association_of state session) statement xid))
+          ∙ sym (ap (λ s. owns s session xid) done.1) ∙ owned)) [
+            | inl before ↦ inl (owned_open state session xid law before)
+            | inr started ↦ inr (ap (λ (s : State). lock_at s xid key) done.1
+                ∙ ap (lock_in key) (effect-branch state session (association_of state session) statement xid
+                ∙ ap (λ s. branch_after session (association_of state session) s xid (map.get state.branches xid))
+                started.0
+                ∙ ap (λ b. cond b (Some (started_by session)) (map.get state.branches xid)) (itself xid))
+                ∙ get-empty bytes_cmp key)
+          ]
+    ]
+
+-- DISCONNECT names nothing that another statement has to do with
+pub leaving_spared : (state : State) (session : ℕ) (two : Statement) → Spares state Disconnect session two
+leaving_spared state session two = record {
+  avoids = λ xid e. absurd (none-some xid e);
+  beside = λ xid e. absurd (none-some xid e);
+  row = λ key other e f. absurd (none-some key e);
+  unheld = λ key xid e f. absurd (none-some key e);
+  listed = λ convert e. absurd (not_listing convert e);
+}
+  where
+    not_listing : (convert : Bool) → Disconnect ≡ Recover convert → ⊥
+    not_listing convert e = cc
+
+-- a session's DISCONNECT is apart from another session's statement after a statement of its own, if both are before
+left_later : (state : State) (third session : ℕ) (that two : Statement) → LockLaw state
+    → AreApart state third that session two → AreApart state third Disconnect session two
+    → AreApart (after state third that) third Disconnect session two
+left_later state third session that two law beside its = (
+  leaving_spared (after state third that) session two,
+  record {
+    avoids = λ xid e. tt;
+    beside = λ xid e. still_beside state third that xid law (beside.1.avoids xid e, beside.1.beside xid e);
+    row = λ key other e f. absurd (none-some other f);
+    unheld = λ key xid e ends. elim (opened_before state third that xid key law ends) [
+      | inl before ↦ bars_after state two third that key e beside.1 xid ∙ its.1.unheld key xid e before
+      | inr none ↦ ap (barring two) none ∙ none_bars two
+    ];
+    listed = λ convert e. tt;
+  },
+)
+
+-- if what two sessions have open is apart, it is after an act of a third one, which may be `other`, if what that one
+-- has open is apart from what `session` has
+pub still_apart : (old new : Config) (third other session : ℕ) (act : Act) → LockLaw old.state
+    → effect_of old third act ≡ Some new → third ≢ session → other ≢ session → IsApartAt old third session
+    → IsApartAt old other session → IsApartAt new other session
+still_apart old new third other session act law leads differ away beside its = λ one two opens its_opens.
+    subst (λ s. AreApart s other one session two) (sym (ap (λ (c : Config). c.state) a.is))
+    (elim (same_number third other) [
+      | inl is ↦ subst (λ n. AreApart after_it n one session two) is
+          (left one two (subst (λ n. HasOpen new n one) (sym is) opens) (before session differ two its_opens))
+      | inr apart ↦ other_open one two apart (before other apart one opens) (before session differ two its_opens)
+    ])
+  where
+    a : ActsAs old third act new
+    a = acts_as old new third act leads
+
+    after_it : State
+    after_it = next_state old.state third a.request
+
+    before : (n : ℕ) → third ≢ n → (statement : Statement) → HasOpen new n statement → HasOpen old n statement
+    before n apart statement opens = subst (λ c. Opens c statement)
+        (ap (λ (c : Config). slice_get c.clients n) a.is ∙ get_apart old.clients third n _ apart) opens
+
+    other_open : (one two : Statement) → third ≢ other → HasOpen old other one → HasOpen old session two
+        → AreApart after_it other one session two
+    other_open one two apart opens its_opens = by a.request a.opens
+      where
+        by : (request : Request) → ((that : Statement) → request ≡ Given that → HasOpen old third that)
+            → AreApart (next_state old.state third request) other one session two
+        by Unread has = its one two opens its_opens
+        by (Given that) has = apart_later old.state third other session that one two law differ apart
+            (beside that two (has that refl) its_opens) (its one two opens its_opens)
+
+    now : slice_get new.clients third ≡ Some (a.client (answer_to old.state third a.request))
+    now = ap (λ (c : Config). slice_get c.clients third) a.is ∙ get_written old.clients third a.there _ a.found
+
+    left : (one two : Statement) → HasOpen new third one → HasOpen old session two
+        → AreApart after_it third one session two
+    left one two (inl opens) its_opens =
+        absurd (none-some one (sym (a.shut (answer_to old.state third a.request))
+        ∙ sym (ap open_statement now) ∙ opens))
+    left one two (inr gone) its_opens =
+        subst (λ s. AreApart after_it third s session two) (sym gone.1) (by a.request a.opens)
+      where
+        leaves : HasOpen old third Disconnect
+        leaves = inr (a.leaves (answer_to old.state third a.request) (sym (ap is_gone now) ∙ gone.0), refl)
+
+        by : (request : Request) → ((that : Statement) → request ≡ Given that → HasOpen old third that)
+            → AreApart (next_state old.state third request) third Disconnect session two
+        by Unread has = beside Disconnect two leaves its_opens
+        by (Given that) has = left_later old.state third session that two law (beside that two (has that refl) its_opens)
+            (beside Disconnect two leaves its_opens)

@@ -2,7 +2,7 @@
 --     advance_open, needs_none     past a call or a loss before which no act is needed;  which calls these are
 --     answers_end, all_after       each answer that a session can have after all events is kept
 --     goes_first, goes_last        before all events;  after all events
-use Rattle.std.proofs.Common.{◌≡◌, ℕ, false, Option, Some, None, List, [], ◌∷◌, ◌++◌, set, length, take, refl, ap}
+use Rattle.std.proofs.Common.{◌≡◌, ℕ, false, Option, Some, None, List, [], ◌∷◌, ◌++◌, ◌+◌, set, length, take, refl, ap}
 use Rattle.std.proofs.{Common.{subst, sym, ◌∙◌, inl, inr, arith, append-nil}, lemmas.Bool.false≢true}
 use Rattle.std.proofs.lemmas.{Option.{none-some, slice_get-map}, List.{take_all, length-set}}
 use Rattle.std.specs.{Prelude.{slice_get, IfSome}, List.Contains, Option.{unwrap_or, option_map}}
@@ -11,72 +11,54 @@ use Rattle.xa_judge.specs.declared.{answer.Answer.Answer, client_state.ClientSta
 use Rattle.xa_judge.specs.declared.{moves.Move.Move, configuration.Configuration.Configuration, event.Event.Event}
 use Rattle.xa_judge.specs.declared.{event.Event.TheVariants.{Call, Return, Lost, Unknown}, frontier.Frontier.Frontier}
 use Rattle.xa_judge.specs.{declared.open_call.OpenCall.OpenCall, Explained.{Config, opening_config, LeadsThrough}}
-use Rattle.xa_judge.specs.{Late.has_unheard, Verdicts.IsAnswerAfter}
+use Rattle.xa_judge.specs.{Late.has_unheard, Verdicts.IsAnswerAfter, Persistent.AreClosedFor}
 use Rattle.xa_judge.specs.{Found.{config_of, Has, IsOpening, IsShortened, IsAnsweredIn}, Advances.IsCallOf}
-use Rattle.xa_judge.specs.Foreseen.{NotesCall, Hint, no_hint, fact_of, hint_of, hints_of, hint_in, FitsHints, GoesOn}
-use Rattle.xa_judge.specs.Foreseen.{GoesOnLike, HasSeenFor, AreClosedFor, ExtendsBy, IsAlikeAt, IsDead, seen_by}
-use Rattle.xa_judge.specs.Foreseen.{never_by, asked_by, IsAdvanceFor, IsClosedFor, NeedsNone, AreAlike, returning_in}
+use Rattle.xa_judge.specs.Foreseen.{Hint, no_hint, fact_of, hint_of, hints_of, hint_in, FitsHints, GoesOn}
+use Rattle.xa_judge.specs.Foreseen.{HasSeenFor, ExtendsBy, IsAlikeAt, IsDead, seen_by}
+use Rattle.xa_judge.specs.Foreseen.{never_by, IsAdvanceFor, NeedsNone, AreAlike}
 use Rattle.xa_judge.{specs.Keys.session_of, proofs.Places.{place_mapped, same_number, get_written, get_apart}}
-use Rattle.xa_judge.proofs.{ForeseenSteps.alike_first, Waits.CanWait, ForeseenReturns.{goes_returned, ends_answered}}
-use Rattle.xa_judge.proofs.ForeseenLists.{goes_closed, goes_called, left_past, unheard_alike, hints_set}
+use Rattle.xa_judge.proofs.{ForeseenSteps.alike_first, Waits.CanWait, ForeseenReturns.{goes_closed, ends_answered}}
+use Rattle.xa_judge.proofs.ForeseenLists.{goes_called, left_past, unheard_alike, hints_set}
 use Rattle.xa_judge.proofs.ForeseenGrowth.{still_has, closed_all}
 
--- past an event from a list that acts have closed for it (`AreClosedFor`): orders go on from the new list, which has
--- what the event leads to from the closed one (`HasSeenFor`), where they did from the old list (`IsAdvanceFor`)
+-- past an event from a list that acts have closed for its session (`AreClosedFor`): orders go on from the new list,
+-- which has what the event leads to from the closed one (`HasSeenFor`), where they did from the old list
+-- (`IsAdvanceFor`)
 pub advance_closed : (events : List Event) (places later : List OpenCall) (place : OpenCall) (event : Event)
     (old closed new : List Configuration) → later ≡ set places (session_of event) place
-    → FitsHints (hints_of events places) event → NotesCall (hints_of events places) (hint_in events place) event
+    → FitsHints (hints_of events places) event
     → ExtendsBy old closed
-    → AreClosedFor (hints_of events places) (returning_in event) (length closed) closed
+    → AreClosedFor (hints_of events places) (session_of event) (length closed) closed
     → HasSeenFor (hints_of events later) event (Has closed) (Has new)
     → IsAdvanceFor (hints_of events places) (hints_of events later) event old new
-advance_closed events places later place event old closed new is fits notes grows are seen = λ more end goes.
+advance_closed events places later place event old closed new is fits grows are seen = λ more end goes.
     let hints = hints_of events places in
     let e = subst (λ p. hints_of events p ≡ set hints (session_of event) (hint_in events place)) (sym is)
     (hints_set events places (session_of event) place) in
     subst (λ h. GoesOn h (Has new) more end) (sym e) (elim goes [
-      | inl from ↦ past event (closed_all hints (returning_in event) closed are) from.kept from.run end more from.moves
-          (still_has old closed from.kept grows from.there) from.alike fits notes
+      | inl from ↦ goes_closed (length from.moves + 1) hints (hint_in events place) event (Has closed) (Has new)
+          from.kept from.run end more from.moves (omega arith) (closed_all hints (session_of event) closed are)
+          (still_has old closed from.kept grows from.there) from.alike fits
           (subst (λ h. HasSeenFor h event (Has closed) (Has new)) e seen) from.runs
       | inr gone ↦ inr (left_past hints (hint_in events place) event gone.run end more gone.moves gone.dead fits
           gone.runs)
     ])
-  where
-    past : (one : Event) → IsClosedFor (hints_of events places) (returning_in one) (Has closed)
-        → (kept run end : Config) → (more : List Event) → (moves : List Move) → Has closed kept
-        → AreAlike (hints_of events places) run kept
-        → FitsHints (hints_of events places) one → NotesCall (hints_of events places) (hint_in events place) one
-        → HasSeenFor (set (hints_of events places) (session_of one) (hint_in events place)) one (Has closed) (Has new)
-        → LeadsThrough run (one ∷ more) moves end
-        → GoesOn (set (hints_of events places) (session_of one) (hint_in events place)) (Has new) more end
-    past (Return session shown) all kept run end more moves there alike fits notes seen runs =
-        goes_returned (hints_of events places) (hint_in events place) session shown (Has closed) (Has new) kept run end
-        more moves all there alike fits notes seen runs
-    past (Call session request) all kept run end more moves there alike fits notes seen runs =
-        goes_closed (hints_of events places) (hint_in events place) (Call session request) (Has closed) (Has new) kept
-        run end more moves all there alike fits notes seen runs
-    past (Lost session) all kept run end more moves there alike fits notes seen runs =
-        goes_closed (hints_of events places) (hint_in events place) (Lost session) (Has closed) (Has new) kept run end
-        more moves all there alike fits notes seen runs
-    past (Unknown session) all kept run end more moves there alike fits notes seen runs =
-        goes_closed (hints_of events places) (hint_in events place) (Unknown session) (Has closed) (Has new) kept run
-        end more moves all there alike fits notes seen runs
 
 -- past an event before which no act is needed (`NeedsNone`), as a call or a loss: orders go on from the new list,
 -- which has what the event leads to from the old one, where they did from the old one (`IsAdvanceFor`)
 pub advance_open : (events : List Event) (places later : List OpenCall) (place : OpenCall) (event : Event)
     (old new : List Configuration) → later ≡ set places (session_of event) place
-    → FitsHints (hints_of events places) event → NotesCall (hints_of events places) (hint_in events place) event
+    → FitsHints (hints_of events places) event
     → NeedsNone old event
     → HasSeenFor (hints_of events later) event (Has old) (Has new)
     → IsAdvanceFor (hints_of events places) (hints_of events later) event old new
-advance_open events places later place event old new is fits notes needs seen = λ more end goes.
+advance_open events places later place event old new is fits needs seen = λ more end goes.
     let hints = hints_of events places in
     let e = subst (λ p. hints_of events p ≡ set hints (session_of event) (hint_in events place)) (sym is)
     (hints_set events places (session_of event) place) in
     subst (λ h. GoesOn h (Has new) more end) (sym e) (elim goes [
       | inl from ↦ goes_called hints (hint_in events place) event (Has old) (Has new) from.kept from.run end more
-          from.moves from.there from.alike fits notes
+          from.moves from.there from.alike fits
           (subst (λ h. HasSeenFor h event (Has old) (Has new)) e seen)
           (waits event needs from.kept from.there from.run
           (λ session heard. unheard_alike (fact_of hints session) from.run from.kept session
@@ -104,13 +86,13 @@ needs_none known session (Unknown other) call none = absurd call
 -- in a closed list each answer that a session can have at the end is kept, if no return is known of any open call,
 -- and the session's own isn't noted as one that isn't heard of any more
 pub answers_end : (hints : List Hint) (known closed : List Configuration) (session : ℕ)
-    → ExtendsBy known closed → AreClosedFor hints (Some session) (length closed) closed
+    → ExtendsBy known closed → AreClosedFor hints session (length closed) closed
     → ((other : ℕ) → hint_of hints other ≡ None) → (fact_of hints session).never ≡ false
     → (end : Config) (answer : Answer) → GoesOn hints (Has known) [] end
     → slice_get end.clients session ≡ Some (Answered answer) → IsAnsweredIn closed session answer
 answers_end hints known closed session grows are none heard end answer (inl from) at =
-    let last = ends_answered hints (Has closed) from.kept from.run end session answer from.moves none heard
-    (closed_all hints (Some session) closed are)
+    let last = ends_answered (length from.moves + 1) hints (Has closed) from.kept from.run end session answer from.moves
+    (omega arith) none heard (closed_all hints session closed are)
     (still_has known closed from.kept grows from.there) from.alike from.runs at in
     record { one = last.0; has = last.1; stands = last.2 }
 answers_end hints known closed session grows are none heard end answer (inr left) at =
@@ -121,34 +103,23 @@ answers_end hints known closed session grows are none heard end answer (inr left
 pub all_after : (base : State) (events : List Event) (session : ℕ) (hints : List Hint) (known : List Configuration)
     (found : Option Frontier)
     → ((moves : List Move) (end : Config) → LeadsThrough (opening_config base) events moves end
-    → GoesOnLike hints (Has known) [] end)
+    → GoesOn hints (Has known) [] end)
     → IfSome found (λ closed. (end : Config) (answer : Answer) → GoesOn hints (Has known) [] end
     → slice_get end.clients session ≡ Some (Answered answer) → IsAnsweredIn closed.known.items session answer)
     → IfSome found (λ front. (answer : Answer) → IsAnswerAfter base events session answer
     → IsAnsweredIn front.known.items session answer)
 all_after base events session hints known None goes all = tt
 all_after base events session hints known (Some front) goes all = λ answer after.
-    let like = goes after.reached.moves after.config after.reached.runs in
-    all like.0 answer like.2 (like.1 session answer after.answered)
+    all after.config answer (goes after.reached.moves after.config after.reached.runs) after.answered
 
 -- if nothing was known of how a session's call ends, what is kept of a configuration is still kept of it once that is
--- noted: what the call returns, or that it isn't heard of any more. What the call is for stays noted
+-- noted: what the call returns, or that it isn't heard of any more
 alike_never : (hints : List Hint) (number : ℕ) (hint : Hint) (run kept : Config) → AreAlike hints run kept
     → (fact_of hints number).seen ≡ None → (fact_of hints number).never ≡ false
-    → hint.asked ≡ (fact_of hints number).asked → (was : Hint) → slice_get hints number ≡ Some was
     → AreAlike (set hints number hint) run kept
-alike_never hints number hint run kept alike unseen heard asked was at = record {
+alike_never hints number hint run kept alike unseen heard = record {
   state = alike.state;
   law = alike.law;
-  asked = record {
-    room = length-set hints number hint ∙ alike.asked.room;
-    calls = λ session request opened. elim (same_number number session) [
-      | inl is ↦ ap (λ (h : Option Hint). (unwrap_or h no_hint).asked) (written session is) ∙ asked
-          ∙ ap (λ n. (fact_of hints n).asked) is ∙ alike.asked.calls session request opened
-      | inr apart ↦ ap (λ (h : Option Hint). (unwrap_or h no_hint).asked) (get_apart hints number session hint apart)
-          ∙ alike.asked.calls session request opened
-    ];
-  };
   clients = λ session. elim (same_number number session) [
     | inl is ↦ at_it session is (subst (λ n. IsAlikeAt (fact_of hints n) run.state session
         (slice_get run.clients session) (slice_get kept.clients session)) (sym is) (alike.clients session))
@@ -158,10 +129,6 @@ alike_never hints number hint run kept alike unseen heard asked was at = record 
   ];
 }
   where
-    written : (session : ℕ) → number ≡ session → slice_get (set hints number hint) session ≡ Some hint
-    written session is = subst (λ n. slice_get (set hints number hint) n ≡ Some hint) is
-        (get_written hints number was hint at)
-
     at_it : (session : ℕ) → number ≡ session
         → IsAlikeAt (fact_of hints number) run.state session (slice_get run.clients session)
         (slice_get kept.clients session)
@@ -190,18 +157,17 @@ dead_never hints number hint run unseen dead = record {
 -- where orders go on from a list, they still do once it is noted at which place a session's call ends, if no such
 -- place was noted before
 pub noted_goes_on : (events : List Event) (places : List OpenCall) (number : ℕ) (old entry : OpenCall)
-    → slice_get places number ≡ Some old → old.returns ≡ None → entry.call ≡ old.call
+    → slice_get places number ≡ Some old → old.returns ≡ None
     → (known : List Configuration) (more : List Event) (end : Config)
     → GoesOn (hints_of events places) (Has known) more end
     → GoesOn (hints_of events (set places number entry)) (Has known) more end
-noted_goes_on events places number old entry at blank same known more end goes =
+noted_goes_on events places number old entry at blank known more end goes =
     subst (λ h. GoesOn h (Has known) more end) (sym (hints_set events places number entry)) (elim goes [
       | inl from ↦ inl (record {
         kept = from.kept;
         there = from.there;
         run = from.run;
-        alike = alike_never hints number hint from.run from.kept from.alike unseen heard asked
-            (hint_in events old) there;
+        alike = alike_never hints number hint from.run from.kept from.alike unseen heard;
         moves = from.moves;
         runs = from.runs;
       })
@@ -231,20 +197,17 @@ noted_goes_on events places number old entry at blank same known more end goes =
     heard : (fact_of hints number).never ≡ false
     heard = ap (λ (h : Hint). h.never) fact ∙ ap (never_by events) blank
 
-    asked : hint.asked ≡ (fact_of hints number).asked
-    asked = ap (asked_by events) same ∙ sym (ap (λ (h : Hint). h.asked) fact)
-
 -- before all events: each order from the base goes on from the list with the opening configuration alone, where the
--- lock law holds and there are 17 hints
+-- lock law holds
 pub goes_first : (base : State) (hints : List Hint) (list : List Configuration) (more : List Event)
     (moves : List Move) (end : Config) → IsOpening base list → LockLaw base
-    → length hints ≡ 17 → LeadsThrough (opening_config base) more moves end → GoesOn hints (Has list) more end
-goes_first base hints list more moves end is law room runs = inl (record {
+    → LeadsThrough (opening_config base) more moves end → GoesOn hints (Has list) more end
+goes_first base hints list more moves end is law runs = inl (record {
   kept = opening_config base;
   there = subst (λ l. Has l (opening_config base)) (sym is.1)
       (subst (λ c. Has (is.0 ∷ []) c) is.2 (place_mapped config_of (is.0 ∷ []) 0 is.0 refl));
   run = opening_config base;
-  alike = alike_first base hints law room;
+  alike = alike_first base hints law;
   moves = moves;
   runs = runs;
 })

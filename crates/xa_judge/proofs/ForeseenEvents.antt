@@ -7,7 +7,7 @@ use Rattle.xa_judge.specs.declared.{client_state.ClientState.ClientState, reques
 use Rattle.xa_judge.specs.declared.client_state.ClientState.TheVariants.{Idle, Called, Answered, Gone, Left}
 use Rattle.xa_judge.specs.declared.{event.Event.{Event, TheVariants.{Call, Return, Lost, Unknown}}, moves.Act.Act}
 use Rattle.xa_judge.specs.Explained.{lost, Config, with_client, effect_of, observed, called, returned, answered_unknown}
-use Rattle.xa_judge.specs.{Explained.shows_answer, Late.answered_so, Foreseen.{AreAsked, NotesCall, Hint, no_hint}}
+use Rattle.xa_judge.specs.{Explained.shows_answer, Late.answered_so, Foreseen.{Hint, no_hint}}
 use Rattle.xa_judge.specs.Foreseen.{fact_of, hint_of, IsAheadAt, IsBehindAt, IsAlikeAt, AreAlike, IsDead, FitsHints}
 use Rattle.xa_judge.{specs.Keys.session_of, proofs.Places.{same_number, get_written, get_apart, get_within}}
 use Rattle.xa_judge.proofs.Waits.{acted, Saw, saw_call, saw_return, saw_lost}
@@ -53,50 +53,15 @@ hint_apart : (hints : List Hint) (session other : ℕ) (hint : Hint) → session
     → hint_of (set hints session hint) other ≡ hint_of hints other
 hint_apart hints session other hint apart = ap (λ (h : Hint). h.seen) (fact_apart hints session other hint apart)
 
--- where the hints name each open request (`AreAsked`), they still do once one client and its hint are replaced, if
--- that hint names the request that the new client has open
-asked_set : (hints : List Hint) (run : Config) (session : ℕ) (hint : Hint) (c one : ClientState) → AreAsked hints run
-    → slice_get run.clients session ≡ Some one
-    → ((request : Request) → (c ≡ Called request) ⊎ (c ≡ Gone (Some request)) → hint.asked ≡ Some request)
-    → AreAsked (set hints session hint) (with_client run session c)
-asked_set hints run session hint c one asked here noted = record {
-  room = length-set hints session hint ∙ asked.room ∙ sym (length-set run.clients session c);
-  calls = λ other request opened. elim (same_number session other) [
-    | inl e ↦ subst (λ n. (fact_of (set hints session hint) n).asked ≡ Some request) e
-        (ap (λ (o : Option Hint). (unwrap_or o no_hint).asked) (get_written hints session place.0 hint place.1)
-        ∙ noted request (elim opened [
-          | inl is ↦ inl (same_Some c (Called request)
-              (sym now ∙ subst (λ n. slice_get (set run.clients session c) n ≡ Some (Called request)) (sym e) is))
-          | inr is ↦ inr (same_Some c (Gone (Some request))
-              (sym now ∙ subst (λ n. slice_get (set run.clients session c) n ≡ Some (Gone (Some request))) (sym e)
-              is))
-        ]))
-    | inr apart ↦ ap (λ (h : Hint). h.asked) (fact_apart hints session other hint apart)
-        ∙ asked.calls other request (elim opened [
-          | inl is ↦ inl (sym (get_apart run.clients session other c apart) ∙ is)
-          | inr is ↦ inr (sym (get_apart run.clients session other c apart) ∙ is)
-        ])
-  ];
-}
-  where
-    now : slice_get (set run.clients session c) session ≡ Some c
-    now = get_written run.clients session one c here
-
-    place : (h : Hint) × (slice_get hints session ≡ Some h)
-    place = get_within hints session (subst (λ n. session < n) (sym asked.room)
-        (slice_get_within run.clients session one here))
-
 -- what is kept of a configuration is still kept of it once one session's client is replaced by the same one in both,
--- with a hint that names what that client has open
+-- and its hint by any
 pub same_client : (hints : List Hint) (run kept : Config) (session : ℕ) (hint : Hint) (c : ClientState)
     (one other : ClientState) → AreAlike hints run kept → slice_get run.clients session ≡ Some one
     → slice_get kept.clients session ≡ Some other
-    → ((request : Request) → (c ≡ Called request) ⊎ (c ≡ Gone (Some request)) → hint.asked ≡ Some request)
     → AreAlike (set hints session hint) (with_client run session c) (with_client kept session c)
-same_client hints run kept session hint c one other are here there noted = record {
+same_client hints run kept session hint c one other are here there = record {
   state = are.state;
   law = are.law;
-  asked = asked_set hints run session hint c one are.asked here noted;
   clients = λ at. elim (same_number session at) [
     | inl e ↦ inl (subst (λ n. slice_get (set run.clients session c) n ≡ slice_get (set kept.clients session c) n) e
         (get_written run.clients session one c here ∙ sym (get_written kept.clients session other c there)))
@@ -109,142 +74,6 @@ same_client hints run kept session hint c one other are here there noted = recor
   ];
 }
 
--- if what an event calls for is noted (`NotesCall`), what its session has open afterwards is noted
-noted_event : (hints : List Hint) (hint : Hint) (run next : Config) (event : Event) (c : ClientState)
-    → AreAsked hints run → NotesCall hints hint event → observed run event ≡ Some next
-    → next ≡ with_client run (session_of event) c → (was : ClientState)
-    → slice_get run.clients (session_of event) ≡ Some was → (request : Request)
-    → (c ≡ Called request) ⊎ (c ≡ Gone (Some request)) → hint.asked ≡ Some request
-unfolding observed called returned lost answered_unknown
-noted_event hints hint run next event c asked notes sees is was here = by event notes sees is here
-  where
-    left : (it : ℕ) (x y before : ClientState) → slice_get run.clients it ≡ Some before
-        → with_client run it x ≡ with_client run it y → x ≡ y
-    left it x y before at e = same_Some x y (sym (get_written run.clients it before x at)
-        ∙ ap (λ (d : Config). slice_get d.clients it) e ∙ get_written run.clients it before y at)
-
-    called_is : (x : ClientState) (a b : Request) → x ≡ Called a → (x ≡ Called b) ⊎ (x ≡ Gone (Some b)) → a ≡ b
-    called_is x a b e (inl f) = both a b (sym e ∙ f)
-      where
-        both : (p q : Request) → Called p ≡ Called q → p ≡ q
-        both p q g = cc
-    called_is x a b e (inr f) = absurd (both a b (sym e ∙ f))
-      where
-        both : (p q : Request) → Called p ≡ Gone (Some q) → ⊥
-        both p q g = cc
-
-    gone_is : (x : ClientState) (a b : Request) → x ≡ Gone (Some a) → (x ≡ Called b) ⊎ (x ≡ Gone (Some b)) → a ≡ b
-    gone_is x a b e (inr f) = both a b (sym e ∙ f)
-      where
-        both : (p q : Request) → Gone (Some p) ≡ Gone (Some q) → p ≡ q
-        both p q g = cc
-    gone_is x a b e (inl f) = absurd (both a b (sym e ∙ f))
-      where
-        both : (p q : Request) → Gone (Some p) ≡ Called q → ⊥
-        both p q g = cc
-
-    shut : (x y : ClientState) (b : Request) → x ≡ y → ((r : Request) → y ≡ Called r → ⊥)
-        → ((r : Request) → y ≡ Gone (Some r) → ⊥) → (x ≡ Called b) ⊎ (x ≡ Gone (Some b)) → ⊥
-    shut x y b e first second (inl f) = first b (sym e ∙ f)
-    shut x y b e first second (inr f) = second b (sym e ∙ f)
-
-    idle_called : (r : Request) → Idle ≡ Called r → ⊥
-    idle_called r f = cc
-
-    idle_gone : (r : Request) → Idle ≡ Gone (Some r) → ⊥
-    idle_gone r f = cc
-
-    left_called : (r : Request) → Left ≡ Called r → ⊥
-    left_called r f = cc
-
-    left_gone : (r : Request) → Left ≡ Gone (Some r) → ⊥
-    left_gone r f = cc
-
-    none_called : (r : Request) → Gone None ≡ Called r → ⊥
-    none_called r f = cc
-
-    none_gone : (r : Request) → Gone None ≡ Gone (Some r) → ⊥
-    none_gone r f = cc
-
-    call : (it : ℕ) (asks : Request) (o : Option ClientState) → slice_get run.clients it ≡ o
-        → called o run it asks ≡ Some next → next ≡ with_client run it c → hint.asked ≡ Some asks
-        → (request : Request) → (c ≡ Called request) ⊎ (c ≡ Gone (Some request)) → hint.asked ≡ Some request
-    call it asks None at e f noted request opened = absurd (none-some next e)
-    call it asks (Some Idle) at e f noted request opened =
-        noted ∙ ap Some (called_is c asks request (sym (left it (Called asks) c Idle at (same_Some _ next e
-        ∙ f))) opened)
-    call it asks (Some (Called x)) at e f noted request opened = absurd (none-some next e)
-    call it asks (Some (Answered x)) at e f noted request opened = absurd (none-some next e)
-    call it asks (Some (Gone None)) at e f noted request opened =
-        noted ∙ ap Some (gone_is c asks request
-        (sym (left it (Gone (Some asks)) c (Gone None) at (same_Some _ next e ∙ f))) opened)
-    call it asks (Some (Gone (Some x))) at e f noted request opened = absurd (none-some next e)
-    call it asks (Some Left) at e f noted request opened =
-        absurd (shut c Left request (sym (left it Left c Left at (same_Some _ next e
-        ∙ f))) left_called left_gone opened)
-
-    back : (it : ℕ) (seen : Seen) (o : Option ClientState) → slice_get run.clients it ≡ o
-        → returned o run it seen ≡ Some next → next ≡ with_client run it c
-        → (request : Request) → (c ≡ Called request) ⊎ (c ≡ Gone (Some request)) → hint.asked ≡ Some request
-    back it seen None at e f request opened = absurd (none-some next e)
-    back it seen (Some Idle) at e f request opened = absurd (none-some next e)
-    back it seen (Some (Called x)) at e f request opened = absurd (none-some next e)
-    back it seen (Some (Answered x)) at e f request opened =
-        absurd (shut c Idle request (sym (left it Idle c (Answered x) at
-        ((cond_some (shows_answer seen x) (with_client run it Idle) next e).1 ∙ f))) idle_called idle_gone opened)
-    back it seen (Some (Gone x)) at e f request opened = absurd (none-some next e)
-    back it seen (Some Left) at e f request opened = absurd (none-some next e)
-
-    unheard : (it : ℕ) (o : Option ClientState) → slice_get run.clients it ≡ o → lost o run it ≡ Some next
-        → next ≡ with_client run it c → hint.asked ≡ (fact_of hints it).asked
-        → (request : Request) → (c ≡ Called request) ⊎ (c ≡ Gone (Some request)) → hint.asked ≡ Some request
-    unheard it None at e f noted request opened = absurd (none-some next e)
-    unheard it (Some Idle) at e f noted request opened =
-        absurd (shut c (Gone None) request (sym (left it (Gone None) c Idle at (same_Some _ next e ∙ f))) none_called
-        none_gone opened)
-    unheard it (Some (Called x)) at e f noted request opened =
-        noted ∙ asked.calls it x (inl at) ∙ ap Some (gone_is c x request
-        (sym (left it (Gone (Some x)) c (Called x) at (same_Some _ next e ∙ f))) opened)
-    unheard it (Some (Answered x)) at e f noted request opened =
-        absurd (shut c (Gone None) request (sym (left it (Gone None) c (Answered x) at (same_Some _ next e ∙ f)))
-        none_called none_gone opened)
-    unheard it (Some (Gone x)) at e f noted request opened = absurd (none-some next e)
-    unheard it (Some Left) at e f noted request opened = absurd (none-some next e)
-
-    over : (it : ℕ) (o : Option ClientState) → slice_get run.clients it ≡ o → answered_unknown o run it ≡ Some next
-        → next ≡ with_client run it c
-        → (request : Request) → (c ≡ Called request) ⊎ (c ≡ Gone (Some request)) → hint.asked ≡ Some request
-    over it None at e f request opened = absurd (none-some next e)
-    over it (Some Idle) at e f request opened = absurd (none-some next e)
-    over it (Some (Called x)) at e f request opened =
-        absurd (shut c Idle request (sym (left it Idle c (Called x) at (same_Some _ next e ∙ f))) idle_called idle_gone
-        opened)
-    over it (Some (Answered x)) at e f request opened =
-        absurd (shut c Idle request (sym (left it Idle c (Answered x) at (same_Some _ next e ∙ f))) idle_called
-        idle_gone opened)
-    over it (Some (Gone x)) at e f request opened = absurd (none-some next e)
-    over it (Some Left) at e f request opened = absurd (none-some next e)
-
-    by : (this : Event) → NotesCall hints hint this → observed run this ≡ Some next
-        → next ≡ with_client run (session_of this) c → slice_get run.clients (session_of this) ≡ Some was
-        → (request : Request) → (c ≡ Called request) ⊎ (c ≡ Gone (Some request)) → hint.asked ≡ Some request
-    by (Call it asks) noted e f at = call it asks (slice_get run.clients it) refl e f noted
-    by (Return it seen) noted e f at = back it seen (slice_get run.clients it) refl e f
-    by (Lost it) noted e f at = unheard it (slice_get run.clients it) refl e f noted
-    by (Unknown it) noted e f at = over it (slice_get run.clients it) refl e f
-
--- an idle client has no open call; if it had one, the hint would name its request
-pub idle_shut : (hint : Hint) (request : Request) → (Idle ≡ Called request) ⊎ (Idle ≡ Gone (Some request))
-    → hint.asked ≡ Some request
-idle_shut hint request (inl e) = absurd (no request e)
-  where
-    no : (r : Request) → Idle ≡ Called r → ⊥
-    no r f = cc
-idle_shut hint request (inr e) = absurd (no request e)
-  where
-    no : (r : Request) → Idle ≡ Gone (Some r) → ⊥
-    no r f = cc
-
 -- what is kept sees the event as well, and what that leads to stands for `next` (`AreAlike`), once the hint of the
 -- event's session is replaced
 abbrev pub SeesAlike : List Hint → Hint → Config → Event → Config → Type 0
@@ -253,18 +82,17 @@ SeesAlike hints hint kept event next = (new : Config) × (observed kept event �
 
 -- where the session of the event is as far in what is kept as in the order, what is kept sees the event as well
 equal_sees : (hints : List Hint) (hint : Hint) (run kept next : Config) (event : Event)
-    → AreAlike hints run kept → NotesCall hints hint event → observed run event ≡ Some next
+    → AreAlike hints run kept → observed run event ≡ Some next
     → slice_get run.clients (session_of event) ≡ slice_get kept.clients (session_of event)
     → SeesAlike hints hint kept event next
-equal_sees hints hint run kept next event are notes sees same =
+equal_sees hints hint run kept next event are sees same =
     let s = saw run next event sees in
     let there : slice_get kept.clients (session_of event) ≡ Some s.before = sym same ∙ s.found in (
       with_client kept (session_of event) s.next,
       s.again kept there,
       subst (λ c. AreAlike (set hints (session_of event) hint) c (with_client kept (session_of event) s.next))
           (sym s.is)
-          (same_client hints run kept (session_of event) hint s.next s.before s.before are s.found there
-          (noted_event hints hint run next event s.next are.asked notes sees s.is s.before s.found)),
+          (same_client hints run kept (session_of event) hint s.next s.before s.before are s.found there),
     )
 
 -- where the session of the event is ahead in what is kept (`IsAheadAt`), what is kept sees the event as well, if the
@@ -290,8 +118,7 @@ ahead_sees hints hint run kept next (Return session seen) are fits sees ahead = 
             ∙ ap (λ b. cond b (Some (with_client kept session Idle)) None)
             (subst (λ x. shows_answer x ahead.answer ≡ true) same ahead.shown),
         subst (λ c. AreAlike (set hints session hint) c (with_client kept session Idle)) (sym idle)
-            (same_client hints run kept session hint Idle s.before (Answered ahead.answer) are s.found ahead.kept
-            (idle_shut hint)),
+            (same_client hints run kept session hint Idle s.before (Answered ahead.answer) are s.found ahead.kept),
       )
 ]
   where
@@ -335,19 +162,19 @@ behind_sees hints hint run kept next (Unknown session) are fits sees behind = (
       (same_Some (with_client run session Idle) next
       (sym (ap (λ o. answered_unknown o run session) behind.run) ∙ sees))
       (same_client hints run kept session hint Idle (Answered behind.answer) (Called behind.request) are behind.run
-      behind.kept (idle_shut hint)),
+      behind.kept),
 )
 
--- whatever event an order sees, what is kept of it sees, if the event fits what is known and its call is noted
+-- whatever event an order sees, what is kept of it sees, if the event fits what is known
 pub alike_sees : (hints : List Hint) (hint : Hint) (run kept next : Config) (event : Event)
-    → AreAlike hints run kept → FitsHints hints event → NotesCall hints hint event → observed run event ≡ Some next
+    → AreAlike hints run kept → FitsHints hints event → observed run event ≡ Some next
     → SeesAlike hints hint kept event next
-alike_sees hints hint run kept next event are fits notes sees = by (are.clients (session_of event))
+alike_sees hints hint run kept next event are fits sees = by (are.clients (session_of event))
   where
     by : IsAlikeAt (fact_of hints (session_of event)) run.state (session_of event)
         (slice_get run.clients (session_of event)) (slice_get kept.clients (session_of event))
         → SeesAlike hints hint kept event next
-    by (inl same) = equal_sees hints hint run kept next event are notes sees same
+    by (inl same) = equal_sees hints hint run kept next event are sees same
     by (inr (inl ahead)) = ahead_sees hints hint run kept next event are fits sees ahead
     by (inr (inr behind)) = behind_sees hints hint run kept next event are fits sees behind
 

@@ -4,13 +4,13 @@
 --     expanded_more, closed_more, closed_all              loops over sessions and places;  after them a list is closed
 --     seen_added, unseen                                  what an event leads to is added;  or it can't be seen
 --     SeesBothFor, sees_more, sees_end                    a loop in which each of a list sees an event
-use Rattle.std.proofs.Common.{◌≡◌, ◌⊎◌, ℕ, false, Option, Some, None, List, [], ◌∷◌, ◌++◌, ap, sym, ◌∙◌, subst, inl}
+use Rattle.std.proofs.Common.{◌≡◌, ◌⊎◌, ℕ, Bool, false, Option, Some, None, List, [], ◌∷◌, ◌++◌, ap, sym, ◌∙◌, subst, inl}
 use Rattle.std.proofs.{Common.{inr, ◌+◌, ◌<◌, length, arith, append_assoc, append-nil}, lemmas.Bool.cases_lt}
 use Rattle.std.{proofs.lemmas.Option.{none-some, same_Some}, specs.{Prelude.slice_get, Option.option_map}}
 use Rattle.xa_judge.specs.declared.{configuration.Configuration.Configuration, moves.Act.Act, event.Event.Event}
 use Rattle.xa_judge.specs.{Explained.{Config, effect_of, observed, IsSession}, Found.{config_of, Has, AddsUnlessThere}}
-use Rattle.xa_judge.specs.{Late.is_over, Foreseen.{Hint, ReplacesFor, ExtendsBy, HasNextFor, IsAllowed, IsExpandedFor}}
-use Rattle.xa_judge.{specs.Foreseen.{AreClosedFor, IsClosedFor, HasSeenFor}, proofs.Loops.has_last}
+use Rattle.xa_judge.specs.{Late.call_is_answered, Foreseen.{Hint, ReplacesFor, ExtendsBy, HasNextFor, HasSeenFor}}
+use Rattle.xa_judge.{specs.Persistent.{IsIn, IsExpandedFor, IsTriedFor, AreClosedFor, IsClosedFor}, proofs.Loops.has_last}
 use Rattle.xa_judge.proofs.{Places.{get_front, get_within, mapped_place}, Growth.{has_more, has_added}}
 
 -- a list extends itself
@@ -73,63 +73,70 @@ both_added hints old mid new place session first then has after one at Act.State
 both_added hints old mid new place session first then has after one at Act.Disconnect next leads allowed =
     after one next (still_at old mid place one first at) leads
 
--- a list that has what sessions below a number lead to from a configuration (`IsExpandedFor`) has what those up to it
--- lead to, once it has this session's
-pub expanded_more : (hints : List Hint) (number : ℕ) (one : Config) (mid new : List Configuration)
-    → ExtendsBy mid new → IsExpandedFor hints number one mid
-    → (IsSession number → HasNextFor hints one number new)
-    → IsExpandedFor hints (number + 1) one new
-expanded_more hints number one mid new grows before here = λ session below is. elim (cases_lt session number) [
-  | inl less ↦ λ act next leads allowed.
-      let other = before session less is act next leads allowed in
-      (other.0, still_has mid new other.0 grows other.1, other.2)
-  | inr over ↦
-      let e : number ≡ session = omega (arith, below, over) in
-      subst (λ n. HasNextFor hints one n new) e (here (subst IsSession (sym e) is))
-]
+-- a list that has what sessions of a set below a number lead to from a configuration (`IsExpandedFor`) has what those
+-- up to it lead to, once it has this session's, if the set has that one
+pub expanded_more : (hints : List Hint) (all : List Bool) (number : ℕ) (one : Config) (mid new : List Configuration)
+    → ExtendsBy mid new → IsExpandedFor hints all number one mid
+    → (IsSession number → IsIn all number → HasNextFor hints one number new)
+    → IsExpandedFor hints all (number + 1) one new
+expanded_more hints all number one mid new grows before here = λ session below is inside.
+    elim (cases_lt session number) [
+      | inl less ↦ λ act next leads allowed.
+          let other = before session less is inside act next leads allowed in
+          (other.0, still_has mid new other.0 grows other.1, other.2)
+      | inr over ↦
+          let e : number ≡ session = omega (arith, below, over) in
+          subst (λ n. HasNextFor hints one n new) e (here (subst IsSession (sym e) is) (subst (IsIn all) (sym e) inside))
+    ]
 
--- a list that has what sessions below a number lead to still has it once extended
-expanded_still : (hints : List Hint) (count : ℕ) (one : Config) (old new : List Configuration)
-    → ExtendsBy old new → IsExpandedFor hints count one old → IsExpandedFor hints count one new
-expanded_still hints count one old new grows is = λ session below its act next leads allowed.
-    let other = is session below its act next leads allowed in
-    (other.0, still_has old new other.0 grows other.1, other.2)
+-- a list that has what acts of a persistent set lead to (`IsTriedFor`) still has it once extended
+tried_still : (hints : List Hint) (session : ℕ) (one : Config) (old new : List Configuration)
+    → ExtendsBy old new → IsTriedFor hints session one old → IsTriedFor hints session one new
+tried_still hints session one old new grows tried = (
+  tried.0,
+  tried.1,
+  λ other below its inside act next leads allowed.
+      let has = tried.2 other below its inside act next leads allowed in
+      (has.0, still_has old new has.0 grows has.1, has.2),
+)
 
--- a list that has what allowed acts lead to from each place before one (`AreClosedFor`) has it from each place up to
--- that one, once it has what they lead to from there
-pub closed_more : (hints : List Hint) (returning : Option ℕ) (place : ℕ) (old new : List Configuration)
-    → place < length old → ExtendsBy old new → AreClosedFor hints returning place old
-    → ((one : Configuration) → slice_get old place ≡ Some one → is_over returning (config_of one) ≡ false
-    → IsExpandedFor hints 17 (config_of one) new)
-    → AreClosedFor hints returning (place + 1) new
-closed_more hints returning place old new within grows before here = λ at one below there unanswered.
+-- a list that has what acts of persistent sets lead to from each place before one (`AreClosedFor`) has it from each
+-- place up to that one, once it has what they lead to from there
+pub closed_more : (hints : List Hint) (session : ℕ) (place : ℕ) (old new : List Configuration)
+    → place < length old → ExtendsBy old new → AreClosedFor hints session place old
+    → ((one : Configuration) → slice_get old place ≡ Some one → call_is_answered (config_of one) session ≡ false
+    → IsTriedFor hints session (config_of one) new)
+    → AreClosedFor hints session (place + 1) new
+closed_more hints session place old new within grows before here = λ at one below there unanswered.
     elim (cases_lt at place) [
       | inl less ↦
           let was = get_within old at (omega (arith, less, within)) in
           let same : was.0 ≡ one =
           same_Some was.0 one (sym (still_at old new at was.0 grows was.1) ∙ there) in
-          subst (λ r. IsExpandedFor hints 17 (config_of r) new) same
-          (expanded_still hints 17 (config_of was.0) old new grows (before at was.0 less was.1
-          (subst (λ r. is_over returning (config_of r) ≡ false) (sym same) unanswered)))
+          subst (λ r. IsTriedFor hints session (config_of r) new) same
+          (tried_still hints session (config_of was.0) old new grows (before at was.0 less was.1
+          (subst (λ r. call_is_answered (config_of r) session ≡ false) (sym same) unanswered)))
       | inr over ↦
           let e : at ≡ place = omega (arith, below, over) in
           let was = get_within old place within in
           let same : was.0 ≡ one =
           same_Some was.0 one (sym (still_at old new place was.0 grows was.1)
           ∙ subst (λ n. slice_get new n ≡ Some one) e there) in
-          subst (λ r. IsExpandedFor hints 17 (config_of r) new) same (here was.0 was.1
-          (subst (λ r. is_over returning (config_of r) ≡ false) (sym same) unanswered))
+          subst (λ r. IsTriedFor hints session (config_of r) new) same (here was.0 was.1
+          (subst (λ r. call_is_answered (config_of r) session ≡ false) (sym same) unanswered))
     ]
 
--- a list that has what allowed acts lead to from each of its places is closed
-pub closed_all : (hints : List Hint) (returning : Option ℕ) (list : List Configuration)
-    → AreClosedFor hints returning (length list) list → IsClosedFor hints returning (Has list)
-closed_all hints returning list closed = λ kept new session act there unanswered is leads allowed.
+-- a list that has what acts of persistent sets lead to from each of its places is closed
+pub closed_all : (hints : List Hint) (session : ℕ) (list : List Configuration)
+    → AreClosedFor hints session (length list) list → IsClosedFor hints session (Has list)
+closed_all hints session list closed = λ kept there unanswered.
     let at = mapped_place config_of list kept there in
-    let next = closed at.0 at.1 at.2 at.3 (subst (λ c. is_over returning c ≡ false) (sym at.4) unanswered) session
-    (omega (arith, is.1)) is in
-    next act new (ap (λ c. effect_of c session act) at.4 ∙ leads)
-    (subst (λ c. IsAllowed hints c session) (sym at.4) allowed)
+    let tried = subst (λ c. IsTriedFor hints session c list) at.4
+    (closed at.0 at.1 at.2 at.3 (subst (λ c. call_is_answered c session ≡ false) (sym at.4) unanswered)) in (
+      tried.0,
+      tried.1,
+      λ new other act is inside leads allowed. tried.2 other (omega (arith, is.1)) is inside act new leads allowed,
+    )
 
 -- once what the event leads to from a configuration, or what is as good (`ReplacesFor`), was added unless it was
 -- there, the list has it

@@ -1,16 +1,17 @@
 -- Lists of what is kept where later returns are known.
---     goes_closed, unheard_alike          past an event, from a closed list;  an open call that nobody hears
---     hints_set, unknown_at, noted_at     what is known of open calls, by their places
+--     left_past, seen_from, goes_called   past an event
+--     unheard_alike, answer_kept          an open call that nobody hears;  a client of which nothing is known
+--     hints_set, unknown_at               what is known of open calls, by their places
 use Rattle.std.proofs.Common.{◌≡◌, ℕ, false, Option, Some, None, List, [], ◌∷◌, set, map, zero, suc, refl, ap, sym, ◌∙◌}
 use Rattle.std.proofs.{Common.{inl, inr}, lemmas.{Bool.false≢true, Option.{none-some, slice_get-map}}}
 use Rattle.std.specs.{Option.{option_map, unwrap_or}, Prelude.slice_get}
 use Rattle.xa_judge.specs.declared.{client_state.ClientState.ClientState, event.Event.Event, moves.Move.Move}
 use Rattle.xa_judge.specs.declared.{moves.Move.TheVariants.{Event as Seeing, Effect}, open_call.OpenCall.OpenCall}
 use Rattle.xa_judge.specs.{declared.request.Request.Request, Explained.{Config, LeadsThrough, observed}}
-use Rattle.xa_judge.specs.{Late.{has_unheard, unheard_so}, Foreseen.{NotesCall, Hint, no_hint, fact_of, hint_of}}
-use Rattle.xa_judge.specs.Foreseen.{IsAlikeAt, AreAlike, IsDead, IsFollowed, IsLeft, GoesOn, IsClosedFor, HasSeenFor}
+use Rattle.xa_judge.specs.{Late.{has_unheard, unheard_so}, Foreseen.{Hint, no_hint, fact_of, hint_of}}
+use Rattle.xa_judge.specs.Foreseen.{IsAlikeAt, AreAlike, IsDead, IsFollowed, IsLeft, GoesOn, HasSeenFor}
 use Rattle.xa_judge.{specs.{Foreseen.{FitsHints, hint_in, hints_of}, Keys.session_of}, proofs.Waits.{later, CanWait}}
-use Rattle.xa_judge.proofs.{ForeseenSteps.alike_acts, ForeseenEvents.{alike_sees, dead_acts, dead_sees}}
+use Rattle.xa_judge.proofs.ForeseenEvents.{alike_sees, dead_acts, dead_sees}
 
 -- an order that can't go on past a return (`IsDead`) still can't after an event that fits what is known (`IsLeft`)
 pub left_past : (hints : List Hint) (hint : Hint) (event : Event) (run end : Config) (more : List Event)
@@ -29,12 +30,12 @@ left_past hints hint event run end more [] dead fits runs = absurd runs
 -- where an order sees the event, so does what is kept in its place, and the order is followed from what that leads to
 pub seen_from : (hints : List Hint) (hint : Hint) (event : Event) (old new : Config → Type 0)
     (kept run next end : Config) (more : List Event) (moves : List Move) → old kept → AreAlike hints run kept
-    → FitsHints hints event → NotesCall hints hint event
+    → FitsHints hints event
     → HasSeenFor (set hints (session_of event) hint) event old new
     → observed run event ≡ Some next → LeadsThrough next more moves end
     → IsFollowed (set hints (session_of event) hint) new more end
-seen_from hints hint event old new kept run next end more moves there alike fits notes seen sees runs =
-    let both = alike_sees hints hint run kept next event alike fits notes sees in
+seen_from hints hint event old new kept run next end more moves there alike fits seen sees runs =
+    let both = alike_sees hints hint run kept next event alike fits sees in
     let other = seen kept both.0 there both.1 in
     record {
       kept = other.0;
@@ -44,29 +45,6 @@ seen_from hints hint event old new kept run next end more moves there alike fits
       moves = moves;
       runs = runs;
     }
-
--- an order that is followed in a closed list is followed past its next event in the next list, unless it can't go on
--- past a return: its acts before the event lead to what is in the list already
-pub goes_closed : (hints : List Hint) (hint : Hint) (event : Event) (old new : Config → Type 0)
-    (kept run end : Config) (more : List Event) (moves : List Move) → IsClosedFor hints None old → old kept
-    → AreAlike hints run kept → FitsHints hints event → NotesCall hints hint event
-    → HasSeenFor (set hints (session_of event) hint) event old new
-    → LeadsThrough run (event ∷ more) moves end
-    → GoesOn (set hints (session_of event) hint) new more end
-goes_closed hints hint event old new kept run end more (Effect session act ∷ moves) closed there alike fits notes seen
-    runs =
-    elim (alike_acts hints run kept runs.0 session act alike runs.2) [
-      | inl same ↦ goes_closed hints hint event old new kept runs.0 end more moves closed there same fits notes seen
-          runs.3
-      | inr (inl follows) ↦
-          let other = closed kept follows.0 session act there refl runs.1 follows.1 follows.2 in
-          goes_closed hints hint event old new other.0 runs.0 end more moves closed other.1
-          (other.2 runs.0 follows.3) fits notes seen runs.3
-      | inr (inr dead) ↦ inr (left_past hints hint event runs.0 end more moves dead fits runs.3)
-    ]
-goes_closed hints hint event old new kept run end more (Seeing ∷ moves) closed there alike fits notes seen runs =
-    inl (seen_from hints hint event old new kept run runs.0 end more moves there alike fits notes seen runs.1 runs.2)
-goes_closed hints hint event old new kept run end more [] closed there alike fits notes seen runs = absurd runs
 
 -- if in what is kept the session's client isn't gone with an open call, it isn't so in the order's configuration
 -- either
@@ -84,14 +62,14 @@ unheard_alike hint run kept session (inr (inl ahead)) is = elim ahead.way [
 -- that event from the new one, which has what the event leads to. The old list needn't be closed
 pub goes_called : (hints : List Hint) (hint : Hint) (event : Event) (old new : Config → Type 0)
     (kept run end : Config) (more : List Event) (moves : List Move) → old kept
-    → AreAlike hints run kept → FitsHints hints event → NotesCall hints hint event
+    → AreAlike hints run kept → FitsHints hints event
     → HasSeenFor (set hints (session_of event) hint) event old new
     → CanWait run event
     → LeadsThrough run (event ∷ more) moves end
     → GoesOn (set hints (session_of event) hint) new more end
-goes_called hints hint event old new kept run end more moves there alike fits notes seen waits runs =
+goes_called hints hint event old new kept run end more moves there alike fits seen waits runs =
     let first = later run end event more moves waits runs in
-    inl (seen_from hints hint event old new kept run first.first end more first.moves there alike fits notes seen
+    inl (seen_from hints hint event old new kept run first.first end more first.moves there alike fits seen
     first.sees
     first.runs)
 
@@ -132,21 +110,3 @@ unknown_at events places session none =
         → (unwrap_or (option_map (hint_in events) o) no_hint).seen ≡ None
     by None at = refl
     by (Some place) at = none place at
-
--- if a request is noted of a session, the session has a place, and the call at that place is for this request
-pub noted_at : (events : List Event) (places : List OpenCall) (session : ℕ) (request : Request)
-    → (fact_of (hints_of events places) session).asked ≡ Some request
-    → (o : OpenCall) × (slice_get places session ≡ Some o) × ((hint_in events o).asked ≡ Some request)
-noted_at events places session request e = by (slice_get places session) refl
-  where
-    by : (o : Option OpenCall) → slice_get places session ≡ o
-        → (o : OpenCall) × (slice_get places session ≡ Some o) × ((hint_in events o).asked ≡ Some request)
-    by None at = absurd (none-some request
-        (sym (ap (λ (h : Option Hint). (unwrap_or h no_hint).asked) (slice_get-map (hint_in events) places session
-        ∙ ap (option_map (hint_in events)) at)) ∙ e))
-    by (Some o) at = (
-      o,
-      at,
-      sym (ap (λ (h : Option Hint). (unwrap_or h no_hint).asked) (slice_get-map (hint_in events) places session
-          ∙ ap (option_map (hint_in events)) at)) ∙ e,
-    )

@@ -1,6 +1,7 @@
 -- What is kept where later returns are known follows the moves of an order.
 --     quiet_keeps, still_quiet_for     a quiet request changes nothing;  and stays quiet after other sessions' acts
 --     Keeps, act_keeps                 an act keeps the lock law, and what other sessions have open
+--     ahead_answered                   a call that is ahead in what is kept has any answer
 --     Foresees, alike_acts             an act of a session
 --     alike_settles, settles_one       a call takes effect at once in what is kept
 use Rattle.std.proofs.Common.{◌≡◌, ◌≢◌, ◌⊎◌, ◌||◌, ℕ, Bool, true, false, Option, Some, None, List, set, refl, ap, sym}
@@ -18,12 +19,12 @@ use Rattle.xa_server.proofs.{Changes.refused_leaves, Others.others_left, Keeping
 use Rattle.xa_judge.specs.declared.{request.Request.Request, answer.Answer.{Answer, TheVariants.Reply as Replied}}
 use Rattle.xa_judge.specs.declared.{client_state.ClientState.ClientState, event.Seen.Seen, moves.Act.Act}
 use Rattle.xa_judge.specs.declared.client_state.ClientState.TheVariants.{Idle, Called, Answered, Gone, Left}
-use Rattle.xa_judge.specs.Explained.{Config, opening_config, effect_of, carried_out, disconnected, answer_to}
-use Rattle.xa_judge.specs.{Explained.{next_state, shows_answer}, Foreseen.{Hint, IsOpenFor, fact_of, is_free}}
+use Rattle.xa_judge.specs.Explained.{Config, with_client, opening_config, effect_of, carried_out, disconnected, answer_to}
+use Rattle.xa_judge.specs.{Explained.{next_state, shows_answer}, Foreseen.{Hint, fact_of, is_free}}
 use Rattle.xa_judge.specs.Foreseen.{is_reading, refuses, is_still, hint_of, IsQuiet, IsQuietFor, IsAheadAt, IsAlikeAt}
 use Rattle.xa_judge.specs.Foreseen.{AreAlike, IsDead, IsAllowed, CanSettle}
 use Rattle.xa_judge.proofs.{Places.{same_number, get_written, get_apart}, Waits.acted}
-use Rattle.xa_judge.proofs.{Acts.{asked_acts, asked_closed, answered_called, answered_gone}, KeyStates.free_get}
+use Rattle.xa_judge.proofs.KeyStates.{free_get}
 
 -- ---- quiet requests
 
@@ -197,7 +198,6 @@ both_act hints run kept next session act are leads same =
       record {
         state = sym (ap (λ (c : Config). c.state) a.is);
         law = keeps.law;
-        asked = asked_acts hints run next session act are.asked leads;
         clients = λ at. subst (λ l. IsAlikeAt (fact_of hints at) next.state at (slice_get l at)
             (slice_get (set kept.clients session a.next) at)) (sym (ap (λ (c : Config). c.clients) a.is))
             (elim (same_number session at) [
@@ -215,6 +215,32 @@ both_act hints run kept next session act are leads same =
             ]);
       },
     )
+
+-- where a session is ahead in what is kept (`IsAheadAt`) and its call is still open in the order, what is kept also
+-- stands for the order once the call has any answer there
+pub ahead_answered : (hints : List Hint) (run kept : Config) (session : ℕ) (request : Request) (given : Answer)
+    → AreAlike hints run kept
+    → IsAheadAt (hint_of hints session) run.state session (slice_get run.clients session)
+    (slice_get kept.clients session)
+    → slice_get run.clients session ≡ Some (Called request)
+    → AreAlike hints (with_client run session (Answered given)) kept
+ahead_answered hints run kept session request given are ahead at = record {
+  state = are.state;
+  law = are.law;
+  clients = λ other. elim (same_number session other) [
+    | inl e ↦ subst (λ n. IsAlikeAt (fact_of hints n) run.state n
+        (slice_get (set run.clients session (Answered given)) n) (slice_get kept.clients n)) e (inr (inl (record {
+          seen = ahead.seen;
+          hinted = ahead.hinted;
+          answer = ahead.answer;
+          kept = ahead.kept;
+          shown = ahead.shown;
+          way = inr (given, get_written run.clients session (Called request) (Answered given) at);
+        })))
+    | inr apart ↦ subst (λ o. IsAlikeAt (fact_of hints other) run.state other o (slice_get kept.clients other))
+        (sym (get_apart run.clients session other (Answered given) apart)) (are.clients other)
+  ];
+}
 
 -- where a session is ahead in what is kept (`IsAheadAt`), after its act what is kept stays as it is, or the call was
 -- answered otherwise than it returns (`IsDead`)
@@ -252,43 +278,12 @@ ahead_act hints run kept next session act are leads ahead = elim ahead.way [
     }))
     done request true at quiet shown is =
         let same = quiet_keeps run.state session request ahead.seen quiet shown in
-        let alike : AreAlike hints (record {
-          state = run.state;
-          clients = set run.clients session (Answered (answer_to run.state session request));
-        }) kept =
-        record {
-          state = are.state;
-          law = are.law;
-          asked = asked_closed hints run run.state session (Called request)
-              (Answered (answer_to run.state session request)) are.asked at
-              (answered_called (answer_to run.state session request))
-              (answered_gone (answer_to run.state session request));
-          clients = λ other. elim (same_number session other) [
-            | inl e ↦ subst (λ n. IsAlikeAt (fact_of hints n) run.state n
-                (slice_get (set run.clients session (Answered (answer_to run.state session request))) n)
-                (slice_get kept.clients n)) e (inr (inl (record {
-                  seen = ahead.seen;
-                  hinted = ahead.hinted;
-                  answer = ahead.answer;
-                  kept = ahead.kept;
-                  shown = ahead.shown;
-                  way = inr (
-                    answer_to run.state session request,
-                    get_written run.clients session (Called request)
-                        (Answered (answer_to run.state session request)) at,
-                  );
-                })))
-            | inr apart ↦ subst (λ o. IsAlikeAt (fact_of hints other) run.state other o
-                (slice_get kept.clients other))
-                (sym (get_apart run.clients session other (Answered (answer_to run.state session request)) apart))
-                (are.clients other)
-          ];
-        } in
         let make : State → Config = λ s. record {
           state = s;
           clients = set run.clients session (Answered (answer_to run.state session request));
         } in
-        inl (subst (λ c. AreAlike hints c kept) (ap make (sym same) ∙ is) alike)
+        inl (subst (λ c. AreAlike hints c kept) (ap make (sym same) ∙ is)
+        (ahead_answered hints run kept session request (answer_to run.state session request) are ahead at))
 
     by : (a : Act) (request : Request) → slice_get run.clients session ≡ Some (Called request)
         → IsQuietFor run.state session request ahead.seen → effect_of run session a ≡ Some next
@@ -399,8 +394,6 @@ waits_act hints run kept next session Act.Statement are leads same waits =
     alike = record {
       state = are.state;
       law = are.law;
-      asked = asked_closed hints run run.state session (Called waits.request) (Answered answer) are.asked here
-          (answered_called answer) (answered_gone answer);
       clients = λ other. elim (same_number session other) [
         | inl e ↦ subst (λ n. IsAlikeAt (fact_of hints n) run.state n
             (slice_get (set run.clients session (Answered answer)) n) (slice_get kept.clients n)) e
@@ -582,7 +575,6 @@ alike_settles hints run kept session request seen new are hinted at quiet shown 
     subst (AreAlike hints run) is (record {
       state = quiet_keeps kept.state session request seen quiet shown ∙ are.state;
       law = are.law;
-      asked = are.asked;
       clients = λ other. elim (same_number session other) [
         | inl e ↦ subst (λ n. IsAlikeAt (fact_of hints n) run.state n (slice_get run.clients n)
             (slice_get (set kept.clients session (Answered answer)) n)) e (here (are.clients session))
@@ -652,27 +644,8 @@ pub settles_one : (hints : List Hint) (run kept new : Config) (session : ℕ) (s
 settles_one hints run kept new session seen are hinted can leads =
     alike_settles hints run kept session can.request seen new are hinted can.at can.quiet can.shown leads
 
--- in a list of idle clients each one is idle
-all_idle : (n session : ℕ) (c : ClientState) → slice_get (replicate n Idle) session ≡ Some c → c ≡ Idle
-all_idle zero session c is = absurd (none-some c is)
-all_idle (suc n) zero c is = sym (same_Some Idle c is)
-all_idle (suc n) (suc session) c is = all_idle n session c is
-
--- before all events the opening configuration stands for itself (`AreAlike`), if the lock law holds and there are 17
--- hints
-pub alike_first : (base : State) (hints : List Hint) → LockLaw base → length hints ≡ 17
+-- before all events the opening configuration stands for itself (`AreAlike`), if the lock law holds
+pub alike_first : (base : State) (hints : List Hint) → LockLaw base
     → AreAlike hints (opening_config base) (opening_config base)
 unfolding opening_config
-alike_first base hints law room =
-    record { state = refl; law = law; asked = record { room = room; calls = none }; clients = λ session. inl refl }
-  where
-    none : (session : ℕ) (request : Request) → IsOpenFor (opening_config base) session request
-        → (fact_of hints session).asked ≡ Some request
-    none session request (inl is) = absurd (idle_called request (all_idle 17 session (Called request) is))
-      where
-        idle_called : (r : Request) → Called r ≡ Idle → ⊥
-        idle_called r e = cc
-    none session request (inr is) = absurd (idle_gone request (all_idle 17 session (Gone (Some request)) is))
-      where
-        idle_gone : (r : Request) → Gone (Some r) ≡ Idle → ⊥
-        idle_gone r e = cc
+alike_first base hints law = record { state = refl; law = law; clients = λ session. inl refl }

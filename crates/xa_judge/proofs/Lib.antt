@@ -24,11 +24,10 @@ pub mod Acts
 pub mod ForeseenSteps
 pub mod ForeseenEvents
 pub mod ForeseenLists
+pub mod FirstActs
+pub mod Sets
 pub mod ForeseenReturns
 pub mod ForeseenGrowth
 pub mod ForeseenAdvances
 pub mod Commuting
-pub mod HeldBack
-pub mod Eager
-pub mod OwnSteps
 pub mod KeyParts

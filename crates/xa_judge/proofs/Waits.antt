@@ -274,12 +274,12 @@ saw_lost (Some (Gone request)) old new session found is = absurd (none-some new 
 saw_lost (Some Left) old new session found is = absurd (none-some new is)
 
 -- from `old` the event is seen first, and then the act takes effect and leads to `new`
-abbrev Swapped : Config → Event → ℕ → Act → Config → Type 0
+abbrev pub Swapped : Config → Event → ℕ → Act → Config → Type 0
 Swapped old event session act new =
     (first : Config) × (observed old event ≡ Some first) × (effect_of first session act ≡ Some new)
 
 -- an act before an event of another session may come after it
-commute : (old mid new : Config) (session : ℕ) (act : Act) (event : Event) → Acted old session act mid
+pub commute : (old mid new : Config) (session : ℕ) (act : Act) (event : Event) → Acted old session act mid
     → Saw mid event new → session ≢ session_of event
     → Swapped old event session act new
 commute old mid new session act event a s apart =

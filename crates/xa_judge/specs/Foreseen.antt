@@ -3,17 +3,15 @@
 -- never change the state while it does, it takes effect at once.
 -- Every rule here is the project's own: crates/xa_judge/README.md.
 --     Hint, fact_of        what is known of an open call
---     IsOpenFor, AreAsked  a session has an open request, not answered yet;  the hints name these requests
 --     IsQuiet, IsQuietFor  the request changes nothing;  nor does it whenever the return shows its answer
 --     IsAheadAt, IsBehindAt, IsAlikeAt   how far a session is, in an order, and in what is kept
 --     CanSettle, IsAllowed   a call can take effect at once;  an act isn't known to be of no use
 --     IsFollowed, IsLeft   moves lead on to the end from what is kept;  from what can't go on past a return
---     GoesOn, GoesOnLike   one or the other;  to an end with the same answers (IsLike)
---     IsClosedFor, HasSeenFor   a list has what acts lead to;  what an event leads to
---     seen_in .. asked_by  what the event at a place tells of a call
+--     GoesOn               one or the other
+--     HasSeenFor, HasNextFor   a list has what an event leads to;  what acts of one session lead to
+--     seen_in .. never_by  what the event at a place tells of a call
 --     hint_in, hints_of    what is known of an open call, of all of them, by the places of calls and returns
---     HasNextFor, IsExpandedFor, AreClosedFor   a list has what acts of one session, of some, of all lead to
-use Rattle.std.specs.Prelude.{◌≡◌, length, ◌⊎◌, ◌||◌, ℕ, Bool, true, false, Option, Some, None, List, ◌<◌, ◌∷◌, ◌++◌}
+use Rattle.std.specs.Prelude.{◌≡◌, length, ◌⊎◌, ◌||◌, ℕ, Bool, true, false, Option, Some, None, List, ◌∷◌, ◌++◌}
 use Rattle.std.specs.{Prelude.{slice_get, map}, Option.unwrap_or}
 use Rattle.xa_xid.specs.declared.statement.Statement.TheVariants.{Get, Recover, Disconnect}
 use Rattle.xa_server.specs.{declared.association.Association.{Association, TheVariants.Free}, Step.is_refused}
@@ -22,31 +20,17 @@ use Rattle.xa_judge.specs.declared.{request.Request.{Request, TheVariants.Statem
 use Rattle.xa_judge.specs.declared.client_state.ClientState.{ClientState, TheVariants.{Called, Answered, Gone}}
 use Rattle.xa_judge.specs.declared.event.{Seen.Seen, Event.{Event, TheVariants.{Call, Return, Lost, Unknown}}}
 use Rattle.xa_judge.specs.declared.{configuration.Configuration.Configuration, open_call.OpenCall.OpenCall}
-use Rattle.xa_judge.specs.{declared.moves.{Act.Act, Move.Move}, Found.{config_of, Has}, Late.{has_unheard, is_over}}
+use Rattle.xa_judge.specs.{declared.moves.{Act.Act, Move.Move}, Found.{config_of, Has}, Late.has_unheard}
 use Rattle.xa_judge.specs.Explained.{Config, shows_answer, answer_to, effect_of, observed, LeadsThrough, IsSession}
 
--- what is known of an open call: what it returns (`seen`); or that it isn't heard of any more (`never`); and what was
--- called for (`asked`)
+-- what is known of an open call: what it returns (`seen`); or that it isn't heard of any more (`never`)
 pub record Hint : Type 0 where
   pub seen : Option Seen
   pub never : Bool
-  pub asked : Option Request
 
 -- nothing is known of the call
 abbrev pub no_hint : Hint
-no_hint = record { seen = None; never = false; asked = None }
-
--- a session that isn't answered has called for this; its client may be gone
-abbrev pub IsOpenFor : Config → ℕ → Request → Type 0
-IsOpenFor config session request =
-    (slice_get config.clients session ≡ Some (Called request))
-    ⊎ (slice_get config.clients session ≡ Some (Gone (Some request)))
-
--- each place of a client has a hint, and that names the session's open request (`IsOpenFor`), if there is one
-pub record AreAsked (hints : List Hint) (config : Config) : Type 0 where
-  pub room : length hints ≡ length config.clients
-  pub calls : (session : ℕ) (request : Request) → IsOpenFor config session request
-      → (unwrap_or (slice_get hints session) no_hint).asked ≡ Some request
+no_hint = record { seen = None; never = false }
 
 -- what is known of the session's open call
 abbrev pub fact_of : List Hint → ℕ → Hint
@@ -116,11 +100,10 @@ abbrev pub is_still : State → ℕ → Request → Bool
 is_still state session request = is_reading state session request || refuses (answer_to state session request)
 
 -- `kept` stands for `run`, a configuration that an order comes to: with the same state, and each session as far,
--- ahead or behind. The state keeps the lock law, and the hints name what is open
+-- ahead or behind. The state keeps the lock law
 pub record AreAlike (hints : List Hint) (run kept : Config) : Type 0 where
   pub state : kept.state ≡ run.state
   pub law : LockLaw run.state
-  pub asked : AreAsked hints run
   pub clients : (session : ℕ) → IsAlikeAt (fact_of hints session) run.state session (slice_get run.clients session)
       (slice_get kept.clients session)
 
@@ -187,28 +170,6 @@ pub record IsLeft (hints : List Hint) (events : List Event) (end : Config) : Typ
 abbrev pub GoesOn : List Hint → (Config → Type 0) → List Event → Config → Type 0
 GoesOn hints has events end = IsFollowed hints has events end ⊎ IsLeft hints events end
 
--- each session that is answered in `end` has the same answer in `last`
-abbrev pub IsLike : Config → Config → Type 0
-IsLike end last = (session : ℕ) (answer : Answer) → slice_get end.clients session ≡ Some (Answered answer)
-    → slice_get last.clients session ≡ Some (Answered answer)
-
--- moves lead on (`GoesOn`) to some `last` in which each session that is answered in `end` has the same answer
-abbrev pub GoesOnLike : List Hint → (Config → Type 0) → List Event → Config → Type 0
-GoesOnLike hints has events end = (last : Config) × IsLike end last × GoesOn hints has events last
-
--- where moves lead on from the first list to an end, some lead on from the second to one with the same answers
-abbrev pub KeepsEnds : List Hint → List Event → List Configuration → List Configuration → Type 0
-KeepsEnds hints events old new =
-    (end : Config) → GoesOn hints (Has old) events end → GoesOnLike hints (Has new) events end
-
--- a list has what each allowed act leads to, or what is as good, from each of its configurations in which the session
--- that is to return isn't answered
-abbrev pub IsClosedFor : List Hint → Option ℕ → (Config → Type 0) → Type 0
-IsClosedFor hints returning has = (kept new : Config) (session : ℕ) (act : Act) → has kept
-    → is_over returning kept ≡ false → IsSession session → effect_of kept session act ≡ Some new
-    → IsAllowed hints kept session
-    → (other : Config) × has other × ReplacesFor hints new other
-
 -- the new list has what the event leads to from each of the old one, or what is as good
 abbrev pub HasSeenFor : List Hint → Event → (Config → Type 0) → (Config → Type 0) → Type 0
 HasSeenFor hints event old new = (kept next : Config) → old kept → observed kept event ≡ Some next
@@ -236,30 +197,12 @@ abbrev pub never_by : List Event → Option ℕ → Bool
 never_by events None = false
 never_by events (Some place) = is_past (slice_get events place)
 
--- what the event calls for, if it is a call
-abbrev pub request_in : Option Event → Option Request
-request_in (Some (Call session request)) = Some request
-request_in other = None
-
--- what the call at a place is for, if that is known
-abbrev pub asked_by : List Event → Option ℕ → Option Request
-asked_by events None = None
-asked_by events (Some place) = request_in (slice_get events place)
-
--- what is known of an open call, by the places of the call and of its return
+-- what is known of an open call, by the place of its return
 abbrev pub hint_in : List Event → OpenCall → Hint
 hint_in events open_call = record {
   seen = seen_by events open_call.returns;
   never = never_by events open_call.returns;
-  asked = asked_by events open_call.call;
 }
-
--- the new hint names what its session has called for: at a call that request, at a lost client what was named before.
--- At another event it may name anything
-abbrev pub NotesCall : List Hint → Hint → Event → Type 0
-NotesCall hints hint (Call session request) = hint.asked ≡ Some request
-NotesCall hints hint (Lost session) = hint.asked ≡ (fact_of hints session).asked
-NotesCall hints hint event = Unit {0}
 
 -- what is known of each session's open call
 abbrev pub hints_of : List Event → List OpenCall → List Hint
@@ -273,23 +216,6 @@ ExtendsBy old new = (more : List Configuration) × (new ≡ old ++ more)
 abbrev pub HasNextFor : List Hint → Config → ℕ → List Configuration → Type 0
 HasNextFor hints one session list = (act : Act) (new : Config) → effect_of one session act ≡ Some new
     → IsAllowed hints one session → (other : Config) × Has list other × ReplacesFor hints new other
-
--- the list has what allowed acts of sessions below a number lead to from this configuration, or what is as good
-abbrev pub IsExpandedFor : List Hint → ℕ → Config → List Configuration → Type 0
-IsExpandedFor hints count one list = (session : ℕ) → session < count → IsSession session
-    → HasNextFor hints one session list
-
--- the list has what allowed acts lead to (`IsExpandedFor`) from each configuration before this place in which the
--- session that is to return isn't answered
-abbrev pub AreClosedFor : List Hint → Option ℕ → ℕ → List Configuration → Type 0
-AreClosedFor hints returning count list = (place : ℕ) (one : Configuration) → place < count
-    → slice_get list place ≡ Some one → is_over returning (config_of one) ≡ false
-    → IsExpandedFor hints 17 (config_of one) list
-
--- the session that an event returns to, if it is a return
-abbrev pub returning_in : Event → Option ℕ
-returning_in (Return session seen) = Some session
-returning_in other = None
 
 -- where moves go on past the event from the old list (`GoesOn`), they go on from the new one, by what is known later
 abbrev pub IsAdvanceFor : List Hint → List Hint → Event → List Configuration → List Configuration

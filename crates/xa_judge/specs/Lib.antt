@@ -12,4 +12,5 @@ pub mod Near
 pub mod Told
 pub mod Keys
 pub mod Foreseen
-pub mod Clear
+pub mod Apart
+pub mod Persistent

@@ -6,8 +6,8 @@
 ghost use Rattle.std.specs.Prelude.{◌≡◌, ◌<◌, true, false, None, Some, slice_get, vec_len, length, IfOk, OnOk};
 ghost use Rattle.xa_judge.specs.{declared.configuration.Configuration.Configuration as Found, Found.{config_of, Has}};
 ghost use Rattle.xa_judge.specs.Explained.{Config, answer_to, effect_of, observed, shows_answer, IsSession};
-ghost use Rattle.xa_judge.specs.Foreseen.{hints_of, IsAllowed, ReplacesFor, ExtendsBy, HasNextFor, IsExpandedFor};
-ghost use Rattle.xa_judge.specs.{Foreseen.{AreClosedFor, HasSeenFor}, Late.is_over};
+ghost use Rattle.xa_judge.specs.Foreseen.{hints_of, IsAllowed, ReplacesFor, ExtendsBy, HasNextFor, HasSeenFor};
+ghost use Rattle.xa_judge.specs.{Persistent.{IsIn, IsExpandedFor, IsTriedFor, AreClosedFor}, Late.call_is_answered};
 
 use crate::client_state::ClientState;
 use crate::configuration::Configuration;
@@ -18,6 +18,7 @@ use crate::hints::{hint_at, is_never_heard};
 use crate::known::{add, fit};
 use crate::moves::Act;
 use crate::open_call::OpenCall;
+use crate::persistent::persistent;
 use crate::quiet::{is_still_now, settled_one};
 use crate::request::Request;
 use crate::shared_lists::SharedLists;
@@ -179,65 +180,73 @@ fn add_allowed(
     Ok(())
 }
 
-/// Adds what allowed acts (`is_allowed`) of all sessions lead to from the configuration at this place.
+/// Adds what allowed acts (`is_allowed`) of the sessions in `all` lead to from the configuration at this place. `all` has
+/// `true` at the places of their numbers.
 fn add_all(
     known: &mut Vec<Configuration>,
     index: &mut FingerprintIndex,
     place: usize,
     events: &[Event],
     places: &[OpenCall],
+    all: &[bool; 17],
 ) -> Result<(), NoMemory>
     requires { place < vec_len known.old }
     ensures grows { OnOk result (ExtendsBy known.old.items known.new.items) }
     ensures all { OnOk result ((one : Found) → slice_get known.old.items place ≡ Some one
-        → IsExpandedFor (hints_of events.now places.now) 17 (config_of one) known.new.items) }
+        → IsExpandedFor (hints_of events.now places.now) all.now 17 (config_of one) known.new.items) }
 {
     // The numbers of sessions are those from 1 to 16.
     for number in 1..17 {
-        add_number(known, index, place, events, places, number)?;
+        add_number(known, index, place, events, places, all, number)?;
     }
     Ok(())
 }
 
-/// Adds what allowed acts of all sessions lead to from the configuration at this place, unless the session `returning`
-/// is answered there. With `returning` None it adds them in any case.
+/// Adds what allowed acts lead to from the configuration at this place, unless `session` is answered there: acts of
+/// those sessions that have to be tried before it is (`persistent`).
 fn expand(
     known: &mut Vec<Configuration>,
     index: &mut FingerprintIndex,
     place: usize,
     events: &[Event],
     places: &[OpenCall],
-    returning: &Option<SessionNo>,
+    session: SessionNo,
 ) -> Result<(), NoMemory>
     requires { place < vec_len known.old }
     ensures grows { OnOk result (ExtendsBy known.old.items known.new.items) }
     ensures all { OnOk result ((one : Found) → slice_get known.old.items place ≡ Some one
-        → is_over returning.now (config_of one) ≡ false
-        → IsExpandedFor (hints_of events.now places.now) 17 (config_of one) known.new.items) }
+        → call_is_answered (config_of one) session ≡ false
+        → IsTriedFor (hints_of events.now places.now) session (config_of one) known.new.items) }
 {
-    // Acts after that answer can as well come after the return.
-    if known[place].is_over(returning) {
+    // Acts after that answer can as well come after the event.
+    if known[place].is_answered(session) {
         return Ok(());
     }
-    add_all(known, index, place, events, places)?;
+    let all = persistent(&known[place], session)?;
+    add_all(known, index, place, events, places, &all)?;
     Ok(())
 }
 
 /// Adds what allowed acts of the session of this number lead to from the configuration at this place; nothing if no
-/// session has this number.
+/// session has this number, or if it isn't in `all`, which has `true` at the places of the numbers of its sessions.
 fn add_number(
     known: &mut Vec<Configuration>,
     index: &mut FingerprintIndex,
     place: usize,
     events: &[Event],
     places: &[OpenCall],
+    all: &[bool; 17],
     number: u64,
 ) -> Result<(), NoMemory>
-    requires { place < vec_len known.old }
+    requires place { place < vec_len known.old }
+    requires number { number < 17 }
     ensures grows { OnOk result (ExtendsBy known.old.items known.new.items) }
     ensures has { OnOk result ((one : Found) → slice_get known.old.items place ≡ Some one → IsSession number
-        → HasNextFor (hints_of events.now places.now) (config_of one) number known.new.items) }
+        → IsIn all.now number → HasNextFor (hints_of events.now places.now) (config_of one) number known.new.items) }
 {
+    if !all[number as usize] {
+        return Ok(());
+    }
     match SessionNo::of(number) {
         None => Ok(()),
         Some(session) => {
@@ -247,10 +256,10 @@ fn add_number(
     }
 }
 
-/// Adds to `known` all configurations to which allowed acts (`is_allowed`) lead from those in it, each after the calls
-/// that can take effect at once. Where the session `returning` is answered, no act is tried; if `returning` is None,
-/// acts are tried everywhere. Returns true; or false, with perhaps not all of them added, if `effort` doesn't allow
-/// more.
+/// Adds to `known` configurations to which allowed acts (`is_allowed`) lead from those in it, each after the calls that
+/// can take effect at once: all that have to be tried before the session's call ends. Where the session is answered, no
+/// act is tried; else acts of those sessions that `persistent` says. Returns true; or false, with perhaps not all of
+/// them added, if `effort` doesn't allow more.
 ///
 /// May return `NoMemory`.
 pub fn close(
@@ -258,12 +267,12 @@ pub fn close(
     index: &mut FingerprintIndex,
     events: &[Event],
     places: &[OpenCall],
-    returning: &Option<SessionNo>,
+    session: SessionNo,
     effort: &Effort,
 ) -> Result<bool, NoMemory>
     ensures grows { OnOk result (ExtendsBy known.old.items known.new.items) }
     ensures closed { IfOk result (λ done. done ≡ true
-        → AreClosedFor (hints_of events.now places.now) returning.now (length known.new.items) known.new.items) }
+        → AreClosedFor (hints_of events.now places.now) session (length known.new.items) known.new.items) }
 {
     // The index begins anew: what a fingerprint reads may have changed since places were taken up (`settle`).
     index.clear();
@@ -273,7 +282,7 @@ pub fn close(
         if !effort.allows(known.len(), index) {
             return Ok(false);
         }
-        expand(known, index, place, events, places, returning)?;
+        expand(known, index, place, events, places, session)?;
         place += 1;
     }
     Ok(true)

@@ -3,7 +3,7 @@ ghost use Rattle.std.specs.Prelude.{◌≡◌, ◌<◌, ◌≤◌, [], true, Som
 ghost use Rattle.std.specs.List.{Contains};
 ghost use Rattle.xa_judge.specs.declared.{answer.Answer.Answer as AnswerSeen, event.Event.Event as EventSeen};
 ghost use Rattle.xa_judge.specs.{declared.moves.Move.Move as Moved, Explained.{Config, opening_config, LeadsThrough}};
-ghost use Rattle.xa_judge.specs.{Found.{Has, IsAnsweredIn}, Foreseen.{hints_of, GoesOn, GoesOnLike}};
+ghost use Rattle.xa_judge.specs.{Found.{Has, IsAnsweredIn}, Foreseen.{hints_of, GoesOn}};
 ghost use Rattle.xa_judge.specs.Verdicts.{IsAnswerAfter, IsVerdict};
 
 use crate::client_state::ClientState;
@@ -22,7 +22,6 @@ use crate::hints::{
 use crate::known::opening;
 use crate::refuting::refuted;
 use crate::shared_answer::SharedAnswer;
-use crate::stepping::stepped;
 use crate::swept::Swept;
 use crate::trunk::{path_of, share};
 use crate::verdict::Verdict;
@@ -49,8 +48,8 @@ pub fn sweep_on(
     requires order { from ≤ until }
     requires within { until ≤ length events.now }
     ensures { IfOk result (λ swept. (last : _) (end : Config) → swept ≡ Swept.Kept last
-        → GoesOnLike (hints_of events.now front.places.items) (Has front.known.items) (drop from events.now) end
-        → GoesOnLike (hints_of events.now last.places.items) (Has last.known.items) (drop until events.now) end) }
+        → GoesOn (hints_of events.now front.places.items) (Has front.known.items) (drop from events.now) end
+        → GoesOn (hints_of events.now last.places.items) (Has last.known.items) (drop until events.now) end) }
 {
     let Frontier {
         mut known,
@@ -72,7 +71,7 @@ pub fn sweep_on(
             alloc, known, &mut index, event, events, before, after, effort,
         )? {
             None => return Ok(Swept::Unknown),
-            Some(list) => stepped(alloc, list, &mut index, events, after, place + 1)?,
+            Some(list) => list,
         };
         effort.spend(&mut index);
         if known.is_empty() {
@@ -83,8 +82,6 @@ pub fn sweep_on(
             return Ok(Swept::Nothing(place, last));
         }
         places = later;
-        // Only after `stepped`: it takes no step of a call that is noted as never heard of, and the call at this place
-        // may be a step.
         note_unheard(events, &mut places, place, event, asked);
         share(alloc, place, &mut trunk, &mut known)?;
     }
@@ -102,7 +99,7 @@ pub fn sweep_on(
 pub fn opened(alloc: Global, base: &Server) -> Result<Frontier, NoMemory>
     ensures { IfOk result (λ front. (events : List EventSeen) (moves : List Moved) (end : Config)
         → LeadsThrough (opening_config base.now) events moves end
-        → GoesOnLike (hints_of events front.places.items) (Has front.known.items) events end) }
+        → GoesOn (hints_of events front.places.items) (Has front.known.items) events end) }
 {
     // This does nothing at run time. The proof needs it: what is kept stands only for states with the lock law.
     base.keeps_lock_law();
@@ -124,7 +121,7 @@ fn sweep(
 ) -> Result<Swept, NoMemory>
     ensures { IfOk result (λ swept. (front : _) (moves : List Moved) (end : Config) → swept ≡ Swept.Kept front
         → LeadsThrough (opening_config base.now) events.now moves end
-        → GoesOnLike (hints_of events.now front.places.items) (Has front.known.items) [] end) }
+        → GoesOn (hints_of events.now front.places.items) (Has front.known.items) [] end) }
 {
     let first = opened(alloc, base)?;
     let swept = sweep_on(alloc, first, events, 0, events.len(), asked, effort)?;
@@ -153,7 +150,7 @@ fn closed_front(
     } = front;
     let mut all = known;
     let at = places.as_slice();
-    let is_closed = close(&mut all, &mut index, events, at, &Some(session), effort)?;
+    let is_closed = close(&mut all, &mut index, events, at, session, effort)?;
     // If it is known what a call returns, orders that answer it otherwise are left out. If the session's call isn't
     // heard of any more, it is tried only where it changes something.
     if !is_closed || !are_unknown(events, at) || !is_blank(events, at, session) {

@@ -3,7 +3,7 @@
 //! In these functions `event` is the next one of `events`. `places` has what is known of open calls before it, and
 //! `later` what is known of them after it.
 ghost use Rattle.std.specs.Prelude.{◌≡◌, slice_set, IfOk, IfSome};
-ghost use Rattle.xa_judge.specs.Foreseen.{hint_in, hints_of, NotesCall, returning_in, FitsHints, IsAdvanceFor};
+ghost use Rattle.xa_judge.specs.Foreseen.{hints_of, FitsHints, IsAdvanceFor};
 ghost use Rattle.xa_judge.specs.{Foreseen.NeedsNone, Advances.IsCallOf, Keys.session_of as session_in};
 
 use crate::advance::none_unheard;
@@ -12,25 +12,13 @@ use crate::effort::Effort;
 use crate::event::Event;
 use crate::fingerprint_index::FingerprintIndex;
 use crate::foreseeing::{close, see_all};
+use crate::hints::session_of;
 use crate::open_call::OpenCall;
 use std::alloc::Global;
 use xa_xid::{NoMemory, SessionNo};
 
-/// The session that the event returns to; None if it isn't a return.
-fn returning_of(event: &Event) -> Option<SessionNo>
-    ensures { result ≡ returning_in event.now }
-{
-    match event {
-        Event::Call(_, _) => None,
-        Event::Return(session, _) => Some(*session),
-        Event::Lost(_) => None,
-        Event::Unknown(_) => None,
-    }
-}
-
 /// The configurations after an event before which acts may have to take effect: a return, or an answer that stays
-/// unknown. All acts that what is known of open calls allows are tried first (`close`). None if that takes more than
-/// `effort` allows.
+/// unknown. Those acts are tried first (`close`). None if that takes more than `effort` allows.
 fn see_closed(
     alloc: Global,
     mut known: Vec<Configuration>,
@@ -42,13 +30,12 @@ fn see_closed(
     effort: &Effort,
 ) -> Result<Option<Vec<Configuration>>, NoMemory>
     requires fits { FitsHints (hints_of events.now places.now) event.now }
-    requires later { (entry : _) × (later.now ≡ slice_set places.now (session_in event.now) entry)
-        × NotesCall (hints_of events.now places.now) (hint_in events.now entry) event.now }
+    requires later { (entry : _) × (later.now ≡ slice_set places.now (session_in event.now) entry) }
     ensures { IfOk result (λ found. IfSome found (λ list. IsAdvanceFor (hints_of events.now places.now)
         (hints_of events.now later.now) event.now known.items list.items)) }
 {
-    let returning = returning_of(event);
-    let is_closed = close(&mut known, index, events, places, &returning, effort)?;
+    let session = session_of(event);
+    let is_closed = close(&mut known, index, events, places, session, effort)?;
     if !is_closed {
         return Ok(None);
     }
@@ -67,8 +54,7 @@ fn see_open(
     later: &[OpenCall],
 ) -> Result<Option<Vec<Configuration>>, NoMemory>
     requires fits { FitsHints (hints_of events.now places.now) event.now }
-    requires later { (entry : _) × (later.now ≡ slice_set places.now (session_in event.now) entry)
-        × NotesCall (hints_of events.now places.now) (hint_in events.now entry) event.now }
+    requires later { (entry : _) × (later.now ≡ slice_set places.now (session_in event.now) entry) }
     requires needs { NeedsNone known.items event.now }
     ensures { IfOk result (λ found. IfSome found (λ list. IsAdvanceFor (hints_of events.now places.now)
         (hints_of events.now later.now) event.now known.items list.items)) }
@@ -93,8 +79,7 @@ fn see_call(
 ) -> Result<Option<Vec<Configuration>>, NoMemory>
     requires call { IsCallOf session event.now }
     requires fits { FitsHints (hints_of events.now places.now) event.now }
-    requires later { (entry : _) × (later.now ≡ slice_set places.now (session_in event.now) entry)
-        × NotesCall (hints_of events.now places.now) (hint_in events.now entry) event.now }
+    requires later { (entry : _) × (later.now ≡ slice_set places.now (session_in event.now) entry) }
     ensures { IfOk result (λ found. IfSome found (λ list. IsAdvanceFor (hints_of events.now places.now)
         (hints_of events.now later.now) event.now known.items list.items)) }
 {
@@ -120,8 +105,7 @@ pub fn see_one(
     effort: &Effort,
 ) -> Result<Option<Vec<Configuration>>, NoMemory>
     requires fits { FitsHints (hints_of events.now places.now) event.now }
-    requires later { (entry : _) × (later.now ≡ slice_set places.now (session_in event.now) entry)
-        × NotesCall (hints_of events.now places.now) (hint_in events.now entry) event.now }
+    requires later { (entry : _) × (later.now ≡ slice_set places.now (session_in event.now) entry) }
     ensures { IfOk result (λ found. IfSome found (λ list. IsAdvanceFor (hints_of events.now places.now)
         (hints_of events.now later.now) event.now known.items list.items)) }
 {

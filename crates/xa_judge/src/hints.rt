@@ -2,7 +2,7 @@
 //! that of each session, at the session's number.
 ghost use Rattle.std.specs.Prelude.{◌≡◌, true, false, ℕ, Some, None, List, slice_get, slice_set, length, IfOk, IfSome};
 ghost use Rattle.std.specs.Option.{option_copied};
-ghost use Rattle.xa_judge.specs.Foreseen.{hint_in, hint_of, hints_of, fact_of, seen_in, FitsHints, NotesCall, GoesOn};
+ghost use Rattle.xa_judge.specs.Foreseen.{hint_in, hint_of, hints_of, fact_of, seen_in, FitsHints, GoesOn};
 ghost use Rattle.xa_judge.specs.declared.configuration.Configuration.{Configuration as Found};
 ghost use Rattle.xa_judge.specs.{declared.event.Event.Event as EventSeen, Explained.Config, Found.Has};
 ghost use Rattle.xa_judge.specs.Keys.{session_of as session_in};
@@ -46,10 +46,7 @@ pub fn no_places(alloc: Global) -> Result<Vec<OpenCall>, NoMemory>
 {
     let mut places = Vec::new(alloc);
     for _ in 0..17usize {
-        places.push(OpenCall {
-            call: None,
-            returns: None,
-        })?;
+        places.push(OpenCall { returns: None })?;
     }
     Ok(places)
 }
@@ -98,21 +95,6 @@ pub fn is_blank(events: &[Event], places: &[OpenCall], session: SessionNo) -> bo
     match places.get(session.get() as usize) {
         None => true,
         Some(open) => open.returns.is_none(),
-    }
-}
-
-/// Tells whether the session's open call may still be heard of: it isn't known that no event shows its answer. True
-/// also if it has no open call.
-pub fn may_be_heard(events: &[Event], places: &[OpenCall], session: SessionNo) -> bool
-    ensures { result ≡ true → (fact_of (hints_of events.now places.now) session).never ≡ false }
-{
-    match places.get(session.get() as usize) {
-        None => true,
-        Some(open) => match open.returns {
-            None => true,
-            // A place after all events notes that the call isn't heard of any more.
-            Some(place) => events.get(place).is_some(),
-        },
     }
 }
 
@@ -251,39 +233,15 @@ pub fn put_open(places: &mut Vec<OpenCall>, number: usize, entry: OpenCall)
     }
 }
 
-/// What is known of the open call of the event's session after `event`, which is at `place`. `places` has what is
-/// known of open calls before it. Of the call at the place `asked` it isn't known what it returns.
-fn open_after(
-    events: &[Event],
-    places: &[OpenCall],
-    place: usize,
-    event: &Event,
-    asked: usize,
-) -> OpenCall
-    requires { slice_get events.now place ≡ Some event.now }
-    ensures { NotesCall (hints_of events.now places.now) (hint_in events.now result) event.now }
-{
-    // No call is open any more.
-    let none = OpenCall {
-        call: None,
-        returns: None,
+/// What is known of the open call of the event's session after `event`, which is at `place`. Of the call at the place
+/// `asked` it isn't known what it returns.
+fn open_after(events: &[Event], place: usize, event: &Event, asked: usize) -> OpenCall {
+    let returns = match event {
+        Event::Call(_, _) => next_return(events, place, asked),
+        // No call is open any more, or nobody hears its answer.
+        _ => None,
     };
-    match event {
-        Event::Call(_, _) => OpenCall {
-            call: Some(place),
-            returns: next_return(events, place, asked),
-        },
-        Event::Return(_, _) => none,
-        // The call is still open, and may take effect later: nobody hears its answer.
-        Event::Lost(session) => match places.get(session.get() as usize) {
-            None => none,
-            Some(open) => OpenCall {
-                call: open.call,
-                returns: None,
-            },
-        },
-        Event::Unknown(_) => none,
-    }
+    OpenCall { returns }
 }
 
 /// Returns what is known of open calls after `event`, which is at this place; `places` has what is known of them
@@ -297,12 +255,10 @@ pub fn later_places(
     event: &Event,
     asked: usize,
 ) -> Result<Vec<OpenCall>, NoMemory>
-    requires { slice_get events.now place ≡ Some event.now }
     ensures { IfOk result (λ later. (entry : _)
-        × (later.items ≡ slice_set places.now.items (session_in event.now) entry)
-        × NotesCall (hints_of events.now places.now.items) (hint_in events.now entry) event.now) }
+        × (later.items ≡ slice_set places.now.items (session_in event.now) entry)) }
 {
-    let open = open_after(events, places.as_slice(), place, event, asked);
+    let open = open_after(events, place, event, asked);
     let mut later = places.clone()?;
     put_open(&mut later, session_of(event).get() as usize, open);
     Ok(later)
@@ -326,8 +282,7 @@ pub fn last_place(places: &[OpenCall], least: usize, count: usize) -> usize {
 /// The entry of the session of this number, noting now that its open call isn't heard of any more; None if there is
 /// no entry, or if it is known how the call ends.
 fn never_heard(events: &[Event], places: &[OpenCall], number: usize) -> Option<OpenCall>
-    ensures { IfSome result (λ entry. (old : _) × (slice_get places.now number ≡ Some old) × (old.returns ≡ None)
-        × (entry.call ≡ old.call)) }
+    ensures { IfSome result (λ entry. (old : _) × (slice_get places.now number ≡ Some old) × (old.returns ≡ None)) }
 {
     match places.get(number) {
         None => None,
@@ -335,7 +290,6 @@ fn never_heard(events: &[Event], places: &[OpenCall], number: usize) -> Option<O
             Some(_) => None,
             // A place after all events notes that.
             None => Some(OpenCall {
-                call: open.call,
                 returns: Some(events.len()),
             }),
         },

@@ -17,7 +17,7 @@ loop-place-preserved c =
     record {
       grows = extends_more c.args.known.now.items now new c.loop-place.invariant.grows grows;
       closed =
-          closed_more (hints_of c.args.events.now c.args.places.now) c.args.returning.now c.loop-place.place now new
+          closed_more (hints_of c.args.events.now c.args.places.now) c.args.session c.loop-place.place now new
           (omega (arith, c.loop-place-test.true, c.len.ensures, c.loop-place.known.ok.0)) grows
           c.loop-place.invariant.closed c.in_ok-expand.ensures.all;
       within =

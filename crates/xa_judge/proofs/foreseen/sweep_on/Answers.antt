@@ -1,6 +1,6 @@
 use Rattle.std.proofs.{Common.{◌≡◌, ◌+◌, ◌∷◌, drop, ap, sym, ◌∙◌, subst, arith}, lemmas.List.at_drop_more}
 use Rattle.std.specs.Prelude.{IfSome}
-use Rattle.xa_judge.{specs.{Found.Has, Foreseen.{hints_of, GoesOn, GoesOnLike, IsAdvanceFor}}, proofs.Places.stands_at}
+use Rattle.xa_judge.{specs.{Found.Has, Foreseen.{hints_of, GoesOn, IsAdvanceFor}}, proofs.Places.stands_at}
 use Rattle.xa_judge.proofs.ForeseenAdvances.{goes_shortened}
 use Rattle.xa_judge.proofs.foreseen.sweep_on.Goals as goal
 
@@ -19,7 +19,6 @@ loop-place-preserved c = λ end goes.
     let event = c.index-events-place.result in
     let known = c.loop-place.known.items in
     let list = c.in-Some.list.items in
-    let taken = c.in_ok-known-in-Some.known.items in
     let new = c.share.new.known.items in
     let place = c.loop-place.place in
     let more = drop (place + 1) events in
@@ -33,18 +32,11 @@ loop-place-preserved c = λ end goes.
     let parts : drop place events ≡ event ∷ more =
     at_drop_more (λ l. l) events place event (omega (arith, c.loop-place-test.true))
     ∙ ap (λ e. e ∷ more) (sym c.index-events-place.is) in
-    let before = c.loop-place.invariant end goes in
-    let seen : GoesOn (hints_of events later) (Has list) more before.0 =
-    leads more before.0 (subst (λ l. GoesOn (hints_of events places) (Has known) l before.0) parts before.2) in
-    let steps : GoesOnLike (hints_of events later) (Has taken) more before.0 =
-    subst (λ p. GoesOn (hints_of events p) (Has list) more before.0
-    → GoesOnLike (hints_of events p) (Has taken) more before.0)
-    c.as_slice-after.ensures.value (c.in_ok-known-in-Some.ensures before.0) seen in (
-      steps.0,
-      (λ at answer e. steps.1 at answer (before.1 at answer e)),
-      goes_shortened (hints_of events c.note_unheard.new.places.items) c.loop-place.trunk.items c.share.new.trunk.items
-          taken new more steps.0 c.in_ok-share.ensures (c.note_unheard.ensures taken more steps.0 steps.2),
-    )
+    let seen : GoesOn (hints_of events later) (Has list) more end =
+    leads more end (subst (λ l. GoesOn (hints_of events places) (Has known) l end) parts
+    (c.loop-place.invariant end goes)) in
+    goes_shortened (hints_of events c.note_unheard.new.places.items) c.loop-place.trunk.items c.share.new.trunk.items
+    list new more end c.in_ok-share.ensures (c.note_unheard.ensures list more end seen)
 
 pub returns : goal.returns
 returns c = λ last end is goes.
@@ -52,7 +44,7 @@ returns c = λ last end is goes.
     let at_end : c.loop-place.place ≡ c.args.until = omega (arith, c.loop-place-test.false, c.requires.order) in
     let places : c.loop-place.places ≡ last.places = cc in
     let known : c.loop-place.known ≡ last.known = cc in
-    subst (λ p. GoesOnLike (hints_of events p.items) (Has last.known.items) (drop c.args.until events) end) places
-    (subst (λ k. GoesOnLike (hints_of events c.loop-place.places.items) (Has k.items) (drop c.args.until events) end)
-    known (subst (λ n. GoesOnLike (hints_of events c.loop-place.places.items) (Has c.loop-place.known.items)
+    subst (λ p. GoesOn (hints_of events p.items) (Has last.known.items) (drop c.args.until events) end) places
+    (subst (λ k. GoesOn (hints_of events c.loop-place.places.items) (Has k.items) (drop c.args.until events) end)
+    known (subst (λ n. GoesOn (hints_of events c.loop-place.places.items) (Has c.loop-place.known.items)
     (drop n events) end) at_end (c.loop-place.invariant end goes)))

@@ -8,5 +8,5 @@ returns-in-Some c = λ known more end goes.
     let is = c.in-Some.ensures in
     let there = subst (λ l. slice_get l number ≡ Some is.0) c.as_slice.ensures.value is.1 in
     subst (λ p. GoesOn (hints_of c.args.events.now p) (Has known) more end) (sym c.put_open.ensures)
-    (noted_goes_on c.args.events.now c.args.places.now.items number is.0 c.in-Some.entry there is.2 is.3 known more end
+    (noted_goes_on c.args.events.now c.args.places.now.items number is.0 c.in-Some.entry there is.2 known more end
     goes)
