@@ -3,8 +3,9 @@
 --     AreLate, advance_return    a return, before which acts come as late as they can
 --     counts_closed, advance_closed   another event, before which the list is closed
 --     widens_call, NoneUnheard   an open call that nobody hears may come before a call;  there is none
+use Rattle.std.proofs.lemmas.{Bool.Decides.nat_tests, Grind.common_steps}
 use Rattle.std.proofs.Common.{◌≡◌, ℕ, false, Some, None, List, [], ◌∷◌, ◌++◌, length, slice_get, refl, ap, sym, ◌∙◌}
-use Rattle.std.{proofs.{Common.{subst, inl, inr, arith}, lemmas.Option.none-some}, specs.List.{All, Contains}}
+use Rattle.std.{proofs.{Common.{subst, inl, arith}, lemmas.Option.none-some}, specs.List.{All, Contains}}
 use Rattle.xa_server.specs.State.{State}
 use Rattle.xa_judge.specs.declared.{client_state.ClientState.TheVariants.Answered, moves.{Act.Act, Move.Move}}
 use Rattle.xa_judge.specs.declared.{moves.Move.TheVariants.{Event as Seeing, Effect}, answer.Answer.Answer}
@@ -60,8 +61,7 @@ settled_first : (old closed : List Configuration) (session : ℕ) (seen : Seen) 
     → IsClosedBelow (length closed) (Some session) closed → Continues old (Return session seen ∷ more) end
     → Settled closed session seen more end
 settled_first old closed session seen more end grows is_closed now =
-    settles closed session seen more now.one end now.moves is_closed
-    (has_still old closed now.one grows now.has) now.runs
+    grind (arith, common_steps, nat_tests, has_still, settles)
 
 -- the answers are those that the session has in the configurations of the list, and no others
 pub record AreAnswersIn (list : List Configuration) (session : ℕ) (answers : List Answer) : Type 0 where
@@ -195,10 +195,7 @@ closed_first list event more old end [] closed has runs = absurd runs
 -- before an event that isn't a return there are no answers
 no_answers : (list : List Configuration) (event : Event) (answers : List Answer) → IsNoReturn event → answers ≡ []
     → AreAnswers list event answers
-no_answers list (Call session request) answers is none = none
-no_answers list (Return session seen) answers is none = absurd is
-no_answers list (Lost session) answers is none = none
-no_answers list (Unknown session) answers is none = none
+no_answers list event answers is also = grind (arith)
 
 -- an order that goes on from a list past an event sees it first from a configuration of the closed list that grew out
 -- of it
@@ -212,20 +209,12 @@ from_closed old closed event more end grows is_closed now =
 pub counts_closed : (old closed : List Configuration) (event : Event) → IsNoReturn event → Widens (Has old) event
     → ((config : Config) → Has closed config → IsReachedFrom (Has old) None config)
     → (config : Config) → Has closed config → IsCounted (Has old) event config
-counts_closed old closed (Call session request) is widens reached config has =
-    record { widens = widens; reached = reached config has }
-counts_closed old closed (Return session seen) is widens reached config has = absurd is
-counts_closed old closed (Lost session) is widens reached config has = absurd widens
-counts_closed old closed (Unknown session) is widens reached config has =
-    record { widens = tt; reached = reached config has }
+counts_closed old closed event is widens reached config has = grind (arith)
 
 -- a configuration that counts for an event that isn't a return stands directly before that event
 ready_counted : (old : List Configuration) (event : Event) (config : Config) → IsNoReturn event
     → IsCounted (Has old) event config → IsReady (Has old) event config
-ready_counted old (Call session request) config is counted = inr counted
-ready_counted old (Return session seen) config is counted = absurd is
-ready_counted old (Lost session) config is counted = absurd counted.widens
-ready_counted old (Unknown session) config is counted = counted
+ready_counted old event config is counted = grind (arith)
 
 -- for an event that isn't a return: the old list grows into a closed one, whose configurations are all counted. What
 -- the event leaves of the closed list (`IsSeenFrom`) is then what it leads to from the old one (`IsAdvance`)

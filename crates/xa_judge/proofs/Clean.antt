@@ -1,13 +1,13 @@
 -- Sessions that have no branch.
-use Rattle.std.proofs.Common.{◌≡◌, ◌≢◌, ◌==◌, arith, ℕ, Bool, true, false, Option, Some, None, ap, sym, ◌∙◌, inl, inr}
+use Rattle.std.proofs.Common.{◌≡◌, ◌≢◌, ◌==◌, arith, ℕ, Bool, true, false, Option, None, ap, sym, ◌∙◌, inl, inr}
 use Rattle.std.{proofs.lemmas.Bool.{false≢true, Decides.nat_tests}, specs.Prelude.{is_some, cond}}
-use Rattle.std.specs.Option.{option_map, option_map_or, option_and_then}
+use Rattle.std.specs.Option.{option_map}
 use mathlib.Core.Bool.{true≢false}
 use Rattle.xa_xid.specs.{declared.{xid.Xid.Xid, statement.Statement.Statement}, Xid.same_xid}
 use Rattle.xa_xid.proofs.Orders.{xids_total, exact_xids}
-use Rattle.xa_server.specs.declared.association.Association.{Association, TheVariants.{Free, Active, Idle}}
+use Rattle.xa_server.specs.declared.association.Association.{Association}
 use Rattle.xa_server.specs.{declared.reply.Reply.TheVariants.Ok as Accepted, Replies.{table, reply_to}}
-use Rattle.xa_server.specs.{State.{Branch, State, owns, association_of}, Locks.{LockLaw, is_exclusive}, Step.is_refused}
+use Rattle.xa_server.specs.{State.{Branch, State, owns, association_of}, Locks.LockLaw, Step.is_refused}
 use Rattle.xa_server.proofs.{Maps.same_itself, Keeping.{is_free, owner_associated}, Accepted.own_is}
 use Rattle.xa_server.proofs.Changes.{detached, branch_after, effect-branch, outcome}
 use Rattle.xa_server.proofs.Others.{is_owned, IsOwn, IsStarted, own_association, accepted_prepare_own, owned_before}
@@ -47,51 +47,34 @@ gone_unowned session e = true≢false (sym e)
 -- a detached branch isn't the session's, nor is one that isn't there
 detached_unowned : (session : ℕ) (found : Option Branch) → is_owned session (option_map detached found) ≡ true → ⊥
 unfolding is_owned detached
-detached_unowned session None e = true≢false (sym e)
-detached_unowned session (Some branch) e = true≢false (sym e)
+detached_unowned session found e = grind (arith, true≢false)
 
 -- if what replaces the branch of `xid` isn't the session's, nor is what is at `at` then, since `at` is `xid`
 only_that : (session : ℕ) (at xid : Xid) (new found : Option Branch) → at ≡ xid
     → (is_owned session new ≡ true → ⊥)
     → is_owned session (cond (same_xid at xid) new found) ≡ true → ⊥
-only_that session at xid new found same not e =
-    not (ap (λ b. is_owned session (cond b new found))
-    (sym (ap (λ x. same_xid x xid) same ∙ same_itself xids_total exact_xids xid)) ∙ e)
+only_that session at xid new found same not e = grind (arith, exact_xids, is_owned, same_itself, xids_total)
 
 -- a session that has something open owns the branch of its XA COMMIT, unless that is refused
 committed_own : (state : State) (session : ℕ) (association : Association) (xid at : Xid) (one_phase : Bool)
     → IsOwn state session association → is_free association ≡ false
     → is_refused (table state association (Statement.Commit xid one_phase)) ≡ false → owns state session xid ≡ true
 unfolding table is_free
-committed_own state session Free xid at one_phase own held e = absurd (true≢false held)
-committed_own state session (Active associated) xid at false own held e = absurd (true≢false e)
-committed_own state session (Active associated) xid at true own held e = absurd (true≢false e)
-committed_own state session (Idle associated) xid at false own held e = absurd (true≢false e)
-committed_own state session (Idle associated) xid at true own held e =
-    ap (owns state session) (own_is xid associated _ e) ∙ own
+committed_own state session association xid at one_phase own held e = grind (arith, own_is, true≢false)
 
 -- a session that has something open owns the branch of its XA ROLLBACK, unless that is refused
 rolled_own : (state : State) (session : ℕ) (association : Association) (xid at : Xid)
     → IsOwn state session association → is_free association ≡ false
     → is_refused (table state association (Statement.Rollback xid)) ≡ false → owns state session xid ≡ true
 unfolding table is_free
-rolled_own state session Free xid at own held e = absurd (true≢false held)
-rolled_own state session (Active associated) xid at own held e = absurd (true≢false e)
-rolled_own state session (Idle associated) xid at own held e =
-    ap (owns state session) (own_is xid associated _ e) ∙ own
+rolled_own state session association xid at own held e = grind (arith, own_is, true≢false)
 
 -- a session that disconnects doesn't own the branch any more that it owned
 left_own : (state : State) (session : ℕ) (association : Association) (at : Xid) (found : Option Branch) → LockLaw state
     → IsOwn state session association → is_free association ≡ false → owns state session at ≡ true
     → is_owned session (branch_after session association Statement.Disconnect at found) ≡ true → ⊥
 unfolding branch_after is_free
-left_own state session Free at found law own held before e = absurd (true≢false held)
-left_own state session (Active associated) at found law own held before e =
-    only_that session at associated None found (law.one_branch session at associated before own)
-    (gone_unowned session) e
-left_own state session (Idle associated) at found law own held before e =
-    only_that session at associated None found (law.one_branch session at associated before own)
-    (gone_unowned session) e
+left_own state session association at found law own held before e = grind (arith, gone_unowned, only_that, true≢false)
 
 -- if a statement that ends or detaches its session's branch (`is_ending`) isn't refused, no branch that the session
 -- owned is the session's afterwards
@@ -132,8 +115,7 @@ ended_at state session (Statement.Del key) at law ends accepted before e = absur
 -- a statement that ends or detaches its session's branch (`is_ending`) starts none
 start_ends : (session : ℕ) (statement : Statement) (at : Xid) → is_ending (Request.Statement statement) ≡ true
     → IsStarted session session statement at → ⊥
-start_ends session statement at ends started =
-    true≢false (sym (ap (λ s. is_ending (Request.Statement s)) (sym started.0) ∙ ends))
+start_ends session statement at ends started = cc
 
 -- once a request that ends or detaches its session's branch (`is_ending`) is accepted, the session owns no branch
 pub ended_none : (state : State) (session : ℕ) (request : Request) → LockLaw state → is_ending request ≡ true
@@ -163,17 +145,7 @@ ended_none state session (Request.Statement statement) law ends accepted = elim 
 
 -- in a state without branches the lock law holds
 pub law_none : (state : State) → HasNoBranch state → LockLaw state
-law_none state none = record {
-  one_holder = λ xid other key e f. absurd (false≢true (sym (ap (λ (found : Option Branch).
-      is_exclusive (option_and_then (λ (b : Branch). map.get b.locks key) found)) (none xid)) ∙ e));
-  one_branch = λ session xid other e f. absurd (false≢true (sym (ap (λ (found : Option Branch).
-      option_map_or (λ owner. owner == session) (option_and_then (λ (b : Branch). b.owner) found) false)
-      (none xid)) ∙ e));
-  detached = λ xid e. ap (option_and_then (λ (b : Branch). b.owner)) (none xid);
-  attached = λ xid e f. absurd (false≢true (sym (ap is_some (none xid)) ∙ e));
-  held_writes = λ xid key e. absurd (false≢true (sym (ap (λ (found : Option Branch).
-      is_some (option_and_then (λ (b : Branch). map.get b.writes key) found)) (none xid)) ∙ e));
-}
+law_none state is = grind (arith, detached, false≢true, is_some)
 
 -- a number is equal to itself by the test
 pub same_test : (n : ℕ) → (n == n) ≡ true

@@ -6,7 +6,7 @@
 --     SeesBothFor, sees_more, sees_end                    a loop in which each of a list sees an event
 use Rattle.std.proofs.Common.{◌≡◌, ◌⊎◌, ℕ, Bool, false, Option, Some, None, List, [], ◌∷◌, ◌++◌, ap, sym, ◌∙◌, subst, inl}
 use Rattle.std.proofs.{Common.{inr, ◌+◌, ◌<◌, length, arith, append_assoc, append-nil}, lemmas.Bool.cases_lt}
-use Rattle.std.{proofs.lemmas.Option.{none-some, same_Some}, specs.{Prelude.slice_get, Option.option_map}}
+use Rattle.std.{proofs.lemmas.Option.same_Some, specs.Prelude.slice_get, specs.Option.option_map}
 use Rattle.xa_judge.specs.declared.{configuration.Configuration.Configuration, moves.Act.Act, event.Event.Event}
 use Rattle.xa_judge.specs.{Explained.{Config, effect_of, observed, IsSession}, Found.{config_of, Has, AddsUnlessThere}}
 use Rattle.xa_judge.specs.{Late.call_is_answered, Foreseen.{Hint, ReplacesFor, ExtendsBy, HasNextFor, HasSeenFor}}
@@ -19,14 +19,12 @@ extends_none list = ([], sym (append-nil list))
 
 -- a list that is extended twice is extended
 pub extends_more : (old mid new : List Configuration) → ExtendsBy old mid → ExtendsBy mid new → ExtendsBy old new
-extends_more old mid new first then =
-    (first.0 ++ then.0, then.1 ∙ ap (λ l. l ++ then.0) first.1 ∙ append_assoc old first.0 then.0)
+extends_more old mid new first then = grind (arith, append_assoc)
 
 -- what stands at a place of a list stands there in one that extends it
 pub still_at : (old new : List Configuration) (place : ℕ) (one : Configuration) → ExtendsBy old new
     → slice_get old place ≡ Some one → slice_get new place ≡ Some one
-still_at old new place one grows at =
-    subst (λ l. slice_get l place ≡ Some one) (sym grows.1) (get_front old grows.0 place one at)
+still_at old new place one grows at = grind (arith, get_front)
 
 -- a configuration of a list is in each list that extends it
 pub still_has : (old new : List Configuration) (one : Config) → ExtendsBy old new → Has old one → Has new one
@@ -34,8 +32,7 @@ still_has old new one grows has = subst (λ l. Has l one) (sym grows.1) (has_mor
 
 -- a list with one configuration added unless it is there extends the old one
 pub adds_one : (old new : List Configuration) (one : Configuration) → AddsUnlessThere old one new → ExtendsBy old new
-adds_one old new one (inl there) = ([], there.1 ∙ sym (append-nil old))
-adds_one old new one (inr more) = (one ∷ [], more)
+adds_one old new one is = grind (arith, append-nil)
 
 -- once what an act leads to from the configuration at a place, or what is as good (`ReplacesFor`), was added unless
 -- it was there, the list has it
@@ -157,8 +154,7 @@ seen_added hints old list one next added found event is some replaces adds new l
 -- where nothing was found to which the event leads, it can't be seen: if it is, anything follows
 pub unseen : (found : Option Configuration) (config new : Config) (event : Event) {P : Type 0}
     → option_map config_of found ≡ observed config event → found ≡ None → observed config event ≡ Some new → P
-unseen found config new event is none leads =
-    absurd (none-some new (sym (ap (option_map config_of) none) ∙ is ∙ leads))
+unseen found config new event is also leads = cc
 
 -- in a loop over a list: each configuration is still to come, or what the event leads to from it is there
 abbrev pub SeesBothFor : List Hint → Event → List Configuration → List Configuration → List Configuration → Type 0
@@ -184,10 +180,4 @@ sees_more hints event first known rest list new one parts grows here has = λ c 
 -- the new list has what the event leads to from each (`HasSeenFor`)
 pub sees_end : (hints : List Hint) (event : Event) (first rest list : List Configuration) → rest ≡ []
     → SeesBothFor hints event first rest list → HasSeenFor hints event (Has first) (Has list)
-sees_end hints event first rest list none has = λ kept next there sees. elim (has kept next there sees) [
-  | inl still ↦ absurd (empty (subst (λ l. Has l kept) none still))
-  | inr done ↦ done
-]
-  where
-    empty : {c : Config} → Has [] c → ⊥
-    empty h = omega (arith, h.1)
+sees_end hints event first rest list is has = grind (arith)

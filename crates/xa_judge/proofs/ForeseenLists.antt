@@ -2,13 +2,13 @@
 --     left_past, seen_from, goes_called   past an event
 --     unheard_alike, answer_kept          an open call that nobody hears;  a client of which nothing is known
 --     hints_set, unknown_at               what is known of open calls, by their places
-use Rattle.std.proofs.Common.{◌≡◌, ℕ, false, Option, Some, None, List, [], ◌∷◌, set, map, zero, suc, refl, ap, sym, ◌∙◌}
-use Rattle.std.proofs.{Common.{inl, inr}, lemmas.{Bool.false≢true, Option.{none-some, slice_get-map}}}
-use Rattle.std.specs.{Option.{option_map, unwrap_or}, Prelude.slice_get}
+use Rattle.std.proofs.Common.{◌≡◌, ℕ, false, Option, Some, None, List, [], ◌∷◌, set, map, zero, suc, refl, ap, arith}
+use Rattle.std.proofs.{Common.inl, lemmas.Bool.false≢true, lemmas.Option.{none-some, slice_get-map}}
+use Rattle.std.specs.Prelude.{slice_get}
 use Rattle.xa_judge.specs.declared.{client_state.ClientState.ClientState, event.Event.Event, moves.Move.Move}
 use Rattle.xa_judge.specs.declared.{moves.Move.TheVariants.{Event as Seeing, Effect}, open_call.OpenCall.OpenCall}
-use Rattle.xa_judge.specs.{declared.request.Request.Request, Explained.{Config, LeadsThrough, observed}}
-use Rattle.xa_judge.specs.{Late.{has_unheard, unheard_so}, Foreseen.{Hint, no_hint, fact_of, hint_of}}
+use Rattle.xa_judge.specs.{Explained.{Config, LeadsThrough, observed}, Late.has_unheard}
+use Rattle.xa_judge.specs.Foreseen.{Hint, fact_of, hint_of}
 use Rattle.xa_judge.specs.Foreseen.{IsAlikeAt, AreAlike, IsDead, IsFollowed, IsLeft, GoesOn, HasSeenFor}
 use Rattle.xa_judge.{specs.{Foreseen.{FitsHints, hint_in, hints_of}, Keys.session_of}, proofs.Waits.{later, CanWait}}
 use Rattle.xa_judge.proofs.ForeseenEvents.{alike_sees, dead_acts, dead_sees}
@@ -51,12 +51,7 @@ seen_from hints hint event old new kept run next end more moves there alike fits
 pub unheard_alike : (hint : Hint) (run kept : Config) (session : ℕ)
     → IsAlikeAt hint run.state session (slice_get run.clients session) (slice_get kept.clients session)
     → has_unheard kept session ≡ false → has_unheard run session ≡ false
-unheard_alike hint run kept session (inl same) is = ap unheard_so same ∙ is
-unheard_alike hint run kept session (inr (inr behind)) is = ap unheard_so behind.run
-unheard_alike hint run kept session (inr (inl ahead)) is = elim ahead.way [
-  | inl asked ↦ ap unheard_so asked.1
-  | inr given ↦ ap unheard_so given.1
-]
+unheard_alike hint run kept session also is = grind (arith)
 
 -- where acts can wait until the event (`CanWait`), an order of which something is kept in the old list goes on past
 -- that event from the new one, which has what the event leads to. The old list needn't be closed
@@ -77,13 +72,7 @@ goes_called hints hint event old new kept run end more moves there alike fits se
 pub answer_kept : (hints : List Hint) (run kept : Config) (session : ℕ) (c : Option ClientState)
     → AreAlike hints run kept → hint_of hints session ≡ None → (fact_of hints session).never ≡ false
     → slice_get run.clients session ≡ c → slice_get kept.clients session ≡ c
-answer_kept hints run kept session c alike none heard at = by (alike.clients session)
-  where
-    by : IsAlikeAt (fact_of hints session) run.state session (slice_get run.clients session)
-        (slice_get kept.clients session) → slice_get kept.clients session ≡ c
-    by (inl same) = sym same ∙ at
-    by (inr (inl ahead)) = absurd (none-some ahead.seen (sym none ∙ ahead.hinted))
-    by (inr (inr behind)) = absurd (false≢true (sym heard ∙ behind.never))
+answer_kept hints run kept session c alike is heard at = grind (arith, false≢true, none-some)
 
 -- ---- places of returns
 
@@ -102,11 +91,4 @@ hints_set events places session place = set_mapped (hint_in events) places sessi
 pub unknown_at : (events : List Event) (places : List OpenCall) (session : ℕ)
     → ((o : OpenCall) → slice_get places session ≡ Some o → (hint_in events o).seen ≡ None)
     → hint_of (hints_of events places) session ≡ None
-unknown_at events places session none =
-    ap (λ o. (unwrap_or o no_hint).seen) (slice_get-map (hint_in events) places session)
-    ∙ by (slice_get places session) refl
-  where
-    by : (o : Option OpenCall) → slice_get places session ≡ o
-        → (unwrap_or (option_map (hint_in events) o) no_hint).seen ≡ None
-    by None at = refl
-    by (Some place) at = none place at
+unknown_at events places session is = grind (arith, hint_in, slice_get-map)

@@ -4,22 +4,21 @@
 --     grows_none, grows_more, grows_added     a list grows
 --     reaches_effect, reaches_event           what an effect leads to is reached;  what an event does
 --     all_added, all_at                       what holds of each of a list
-use Rattle.std.proofs.Common.{◌≡◌, ℕ, Some, List, [], ◌∷◌, ◌++◌, ap, sym, ◌∙◌, subst, inl, inr, append_assoc}
+use Rattle.std.proofs.lemmas.{Bool.Decides.nat_tests, Grind.common_steps}
+use Rattle.std.proofs.Common.{◌≡◌, ℕ, Some, List, [], ◌∷◌, ◌++◌, sym, ◌∙◌, subst, inl, inr, append_assoc, arith}
 use Rattle.std.proofs.{Common.append-nil, lemmas.Option.{slice_get_within, get_or_from_slice_get}}
-use Rattle.std.{proofs.lemmas.List.Elements.{All-push, Contains-append_left, Contains-push}, specs.Prelude.slice_get}
-use Rattle.std.specs.List.{All, Contains}
+use Rattle.std.{proofs.lemmas.List.Elements.Contains-push, specs.Prelude.slice_get, specs.List.{All, Contains}}
 use Rattle.xa_server.specs.State.{State}
 use Rattle.xa_judge.specs.declared.{event.Event.Event, moves.{Act.Act, Move.Move}}
 use Rattle.xa_judge.specs.declared.moves.Move.TheVariants.{Event as Seeing, Effect}
 use Rattle.xa_judge.{specs.declared.configuration.Configuration.Configuration, proofs.Places.{map_append, get_front}}
-use Rattle.xa_judge.specs.Explained.{Config, opening_config, effect_of, observed, LeadsThrough, IsSession}
+use Rattle.xa_judge.specs.Explained.{Config, effect_of, observed, IsSession}
 use Rattle.xa_judge.specs.Found.{config_of, configs, Has, Grows, Reaches, AddsUnlessThere}
 use Rattle.xa_judge.proofs.Waits.{runs_effect, runs_event}
 
 -- what is in a list is in it with more behind it
 pub has_more : (old more : List Configuration) (one : Config) → Has old one → Has (old ++ more) one
-has_more old more one has = subst (λ l. Contains l one) (sym (map_append config_of old more))
-    (Contains-append_left (configs old) (configs more) one has)
+has_more old more one has = grind (arith, common_steps, nat_tests, map_append)
 
 -- what was in a list is in one that grew out of it
 pub has_still : (old new : List Configuration) (one : Config) → Grows old new → Has old one → Has new one
@@ -29,8 +28,7 @@ has_still old new one grows has = subst (λ l. Has l one) (sym grows.parts) (has
 pub still_there : (old new : List Configuration) (place : ℕ) (one : Configuration) → Grows old new
     → slice_get old place ≡ Some one
     → slice_get new place ≡ Some one
-still_there old new place one grows found =
-    subst (λ l. slice_get l place ≡ Some one) (sym grows.parts) (get_front old grows.more place one found)
+still_there old new place one grows found = grind (arith, get_front)
 
 -- a configuration that is added unless it is there is there afterwards
 pub has_added : (old new : List Configuration) (one : Configuration) → AddsUnlessThere old one new
@@ -44,8 +42,7 @@ has_added old new one (inr is) =
 -- what was in a list stays in it when a configuration is added unless it is there
 pub has_kept : (old new : List Configuration) (one : Configuration) (other : Config) → AddsUnlessThere old one new
     → Has old other → Has new other
-has_kept old new one other (inl was) has = subst (λ l. Has l other) (sym was.1) has
-has_kept old new one other (inr is) has = subst (λ l. Has l other) (sym is) (has_more old (one ∷ []) other has)
+has_kept old new one other is has = grind (arith, common_steps, nat_tests, has_more)
 
 -- a list has grown out of itself
 pub grows_none : (list : List Configuration) → Grows list list
@@ -53,11 +50,7 @@ grows_none list = record { more = []; parts = sym (append-nil list); reach = λ 
 
 -- a list that grew twice has grown
 pub grows_more : (old mid new : List Configuration) → Grows old mid → Grows mid new → Grows old new
-grows_more old mid new first second = record {
-  more = first.more ++ second.more;
-  parts = second.parts ∙ ap (λ l. l ++ second.more) first.parts ∙ append_assoc old first.more second.more;
-  reach = λ base events trunk all. second.reach base events trunk (first.reach base events trunk all);
-}
+grows_more old mid new first second = grind (arith, append_assoc)
 
 -- what an effect leads to from a configuration that is reached is reached
 pub reaches_effect : (base : State) (events : List Event) (trunk : List Move) (old new : Configuration) (session : ℕ)
@@ -66,11 +59,7 @@ pub reaches_effect : (base : State) (events : List Event) (trunk : List Move) (o
     → effect_of (config_of old) session act ≡ Some (config_of new) → new.path ≡ old.path ++ Effect session act ∷ []
     → Reaches base events trunk new
 unfolding Reaches
-reaches_effect base events trunk old new session act reach is at path =
-    let more = runs_effect (opening_config base) (config_of old) (config_of new) events
-    (trunk ++ old.path) session act reach is at in
-    subst (λ l. LeadsThrough (opening_config base) events l (config_of new))
-    (append_assoc trunk old.path (Effect session act ∷ []) ∙ ap (λ l. trunk ++ l) (sym path)) more
+reaches_effect base events trunk old new session act reach is at path = grind (arith, append_assoc, runs_effect)
 
 -- if events lead to a configuration, they lead with one more to the configuration that has seen it
 pub reaches_event : (base : State) (events : List Event) (trunk : List Move) (old new : Configuration) (event : Event)
@@ -78,27 +67,18 @@ pub reaches_event : (base : State) (events : List Event) (trunk : List Move) (ol
     → observed (config_of old) event ≡ Some (config_of new) → new.path ≡ old.path ++ Seeing ∷ []
     → Reaches base (events ++ event ∷ []) trunk new
 unfolding Reaches
-reaches_event base events trunk old new event reach at path =
-    let more = runs_event (opening_config base) (config_of old) (config_of new) events
-    (trunk ++ old.path) event reach at in
-    subst (λ l. LeadsThrough (opening_config base) (events ++ event ∷ []) l (config_of new))
-    (append_assoc trunk old.path (Seeing ∷ []) ∙ ap (λ l. trunk ++ l) (sym path)) more
+reaches_event base events trunk old new event reach at path = grind (arith, append_assoc, runs_event)
 
 -- what holds of each configuration of a list, and of one more, holds of each of the list once that one is added
 -- unless it is there
 pub all_added : (P : Configuration → Type 0) (old new : List Configuration) (one : Configuration)
     → AddsUnlessThere old one new → All P old → P one → All P new
-all_added P old new one (inl was) all p = subst (λ l. All P l) (sym was.1) all
-all_added P old new one (inr is) all p = subst (λ l. All P l) (sym is) (All-push P old one all p)
+all_added P old new one is all p = grind (arith, common_steps, nat_tests)
 
 -- what holds of each holds of the one at a place
 pub all_at : (P : Configuration → Type 0) (list : List Configuration) (place : ℕ) (one : Configuration) → All P list
     → slice_get list place ≡ Some one → P one
-all_at P list place one all found = at list place all found
-  where
-    at : (list : List Configuration) (place : ℕ) → All P list → slice_get list place ≡ Some one → P one
-    at list place all found = subst P (get_or_from_slice_get list place one one found)
-        (all place one (slice_get_within list place one found))
+all_at P list place one all found = grind (arith, get_or_from_slice_get, slice_get_within)
 
 -- a list grows if what an act leads to from one of its configurations is added unless it is there
 pub grows_added : (old new : List Configuration) (place : ℕ) (one next : Configuration) (session : ℕ) (act : Act)

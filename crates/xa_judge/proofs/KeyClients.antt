@@ -13,13 +13,14 @@
 --     absent_rests, idle_rests     a session that isn't there, or is idle, has no act
 --     same_chosen, same_rest       where an event may stand in one part, the whole has the client of that part
 --     other_turn, IsIdleIf         the turn of an event of the other part;  the client is idle if the turn is Nobody
+use Rattle.std.proofs.Common.{arith}
 use Rattle.std.proofs.Common.{◌≡◌, ◌≢◌, ◌⊎◌, ℕ, Bool, true, false, cond, Option, Some, None, List, set, refl, ap, sym}
 use Rattle.std.proofs.{Common.{◌∙◌, subst, inl, inr}, lemmas.Option.{none-some, same_Some, cond_some}}
 use Rattle.std.{proofs.lemmas.Bool.false≢true, specs.{Prelude.slice_get, Option.{option_map, option_map_or, unwrap_or}}}
-use Rattle.xa_xid.specs.declared.statement.Statement.TheVariants.{Start, Get, Put, Del, Disconnect as DisconnectGiven}
-use Rattle.xa_server.specs.{State.State, declared.reply.Reply.TheVariants.{Ok as Accepted, Value, Recovered, Refused}}
+use Rattle.xa_xid.specs.declared.statement.Statement.TheVariants.{Disconnect as DisconnectGiven}
+use Rattle.xa_server.specs.{State.State, declared.reply.Reply.TheVariants.Ok as Accepted}
 use Rattle.xa_server.{specs.{Locks.LockLaw, Step.after}, proofs.Keeping.law_after}
-use Rattle.xa_judge.specs.declared.request.Request.{Request, TheVariants.{Statement as Given, Unread}}
+use Rattle.xa_judge.specs.declared.request.Request.{Request, TheVariants.Statement as Given}
 use Rattle.xa_judge.specs.declared.{answer.Answer.Answer, event.{Seen.Seen, Event.Event}}
 use Rattle.xa_judge.specs.declared.event.Event.TheVariants.{Call, Return, Lost, Unknown}
 use Rattle.xa_judge.specs.declared.{client_state.ClientState.ClientState, moves.Act.Act}
@@ -45,20 +46,14 @@ Together P one other = ⊥
 pub forth : {A B : Type 0} (P : A → B → Type 0) (one : Option A) (other : Option B) (x : A) → Together P one other
     → one ≡ Some x
     → (y : B) × (other ≡ Some y) × P x y
-forth P None None x both is = absurd (none-some x is)
-forth P None (Some y) x both is = absurd both
-forth P (Some a) None x both is = absurd both
-forth P (Some a) (Some y) x both is = (y, refl, subst (λ c. P c y) (same_Some a x is) both)
+forth P one other x both is = grind (arith, none-some, same_Some)
 
 -- if two results are missing or belong together (`Together`), and the other is there, so is the one, with which it
 -- belongs together
 pub back : {A B : Type 0} (P : A → B → Type 0) (one : Option A) (other : Option B) (y : B) → Together P one other
     → other ≡ Some y
     → (x : A) × (one ≡ Some x) × P x y
-back P None None y both is = absurd (none-some y is)
-back P None (Some b) y both is = absurd both
-back P (Some a) None y both is = absurd both
-back P (Some x) (Some b) y both is = (x, refl, subst (P x) (same_Some b y is) both)
+back P one other y both is = grind (arith, none-some, same_Some)
 
 -- ---- what events and acts do
 
@@ -84,52 +79,7 @@ pub observed_is : (config : Config) (event : Event)
     → observed config event
     ≡ option_map (placed config (session_of event)) (client_after event (slice_get config.clients (session_of event)))
 unfolding observed called returned lost answered_unknown client_after
-observed_is config (Call session request) = by (slice_get config.clients session)
-  where
-    by : (o : Option ClientState) → called o config session request
-        ≡ option_map (placed config session) (client_after (Call session request) o)
-    by None = refl
-    by (Some Idle) = refl
-    by (Some (Called other)) = refl
-    by (Some (Answered answer)) = refl
-    by (Some (Gone None)) = refl
-    by (Some (Gone (Some other))) = refl
-    by (Some Left) = refl
-observed_is config (Return session seen) = by (slice_get config.clients session)
-  where
-    shown : (b : Bool) → cond b (Some (with_client config session Idle)) None
-        ≡ option_map (placed config session) (cond b (Some Idle) None)
-    shown true = refl
-    shown false = refl
-
-    by : (o : Option ClientState) → returned o config session seen
-        ≡ option_map (placed config session) (client_after (Return session seen) o)
-    by None = refl
-    by (Some Idle) = refl
-    by (Some (Called other)) = refl
-    by (Some (Answered answer)) = shown (shows_answer seen answer)
-    by (Some (Gone other)) = refl
-    by (Some Left) = refl
-observed_is config (Lost session) = by (slice_get config.clients session)
-  where
-    by : (o : Option ClientState) → lost o config session
-        ≡ option_map (placed config session) (client_after (Lost session) o)
-    by None = refl
-    by (Some Idle) = refl
-    by (Some (Called other)) = refl
-    by (Some (Answered answer)) = refl
-    by (Some (Gone other)) = refl
-    by (Some Left) = refl
-observed_is config (Unknown session) = by (slice_get config.clients session)
-  where
-    by : (o : Option ClientState) → answered_unknown o config session
-        ≡ option_map (placed config session) (client_after (Unknown session) o)
-    by None = refl
-    by (Some Idle) = refl
-    by (Some (Called other)) = refl
-    by (Some (Answered answer)) = refl
-    by (Some (Gone other)) = refl
-    by (Some Left) = refl
+observed_is config event = grind (arith, option_map)
 
 -- what an act makes: the state, and the client of its session
 pub record Deed : Type 0 where
@@ -155,27 +105,7 @@ pub effect_is : (config : Config) (session : ℕ) (act : Act)
     → effect_of config session act
     ≡ option_map (done_in config session) (deed_of session act config.state (slice_get config.clients session))
 unfolding effect_of carried_out disconnected deed_of
-effect_is config session Statement = by (slice_get config.clients session)
-  where
-    by : (o : Option ClientState) → carried_out o config session
-        ≡ option_map (done_in config session) (deed_of session Statement config.state o)
-    by None = refl
-    by (Some Idle) = refl
-    by (Some (Called request)) = refl
-    by (Some (Answered answer)) = refl
-    by (Some (Gone None)) = refl
-    by (Some (Gone (Some request))) = refl
-    by (Some Left) = refl
-effect_is config session Disconnect = by (slice_get config.clients session)
-  where
-    by : (o : Option ClientState) → disconnected o config session
-        ≡ option_map (done_in config session) (deed_of session Disconnect config.state o)
-    by None = refl
-    by (Some Idle) = refl
-    by (Some (Called request)) = refl
-    by (Some (Answered answer)) = refl
-    by (Some (Gone request)) = refl
-    by (Some Left) = refl
+effect_is config session act = grind (arith, option_map)
 
 -- ---- the whole, by its parts
 
@@ -229,23 +159,13 @@ is_rest Ending = true
 -- that in the whole
 rested : (named : List ℕ → Bool) (turn : Turn) (whole chosen rest : Option ClientState) → is_rest turn ≡ true
     → AreClients named (Some turn) whole chosen rest → IsRested named turn whole chosen rest
-rested named Nobody whole chosen rest is are = absurd (false≢true is)
-rested named Chosen whole chosen rest is are = absurd (false≢true is)
-rested named Other whole chosen rest is are = are
-rested named Within whole chosen rest is are = are
-rested named Rest whole chosen rest is are = are
-rested named Ending whole chosen rest is are = are
+rested named turn whole chosen rest is are = grind (arith, false≢true)
 
 -- if a session's turn is of the other part (`is_rest`), clients of which `IsRested` holds belong together by it
 -- (`AreClients`)
 are_rested : (named : List ℕ → Bool) (turn : Turn) (whole chosen rest : Option ClientState) → is_rest turn ≡ true
     → IsRested named turn whole chosen rest → AreClients named (Some turn) whole chosen rest
-are_rested named Nobody whole chosen rest is are = absurd (false≢true is)
-are_rested named Chosen whole chosen rest is are = absurd (false≢true is)
-are_rested named Other whole chosen rest is are = are
-are_rested named Within whole chosen rest is are = are
-are_rested named Rest whole chosen rest is are = are
-are_rested named Ending whole chosen rest is are = are
+are_rested named turn whole chosen rest is are = grind (arith, false≢true)
 
 -- a session whose turn is Ending, and whose call was accepted, owns no branch
 abbrev pub AreEnded : List Turn → Config → Type 0
@@ -265,11 +185,7 @@ pub record AreParts (named : List ℕ → Bool) (turns : List Turn) (whole chose
 -- what holds of a turn and its three clients (`AreClients`) holds of equal ones
 told : (named : List ℕ → Bool) (t u : Option Turn) (a b c x y z : Option ClientState)
     → t ≡ u → a ≡ x → b ≡ y → c ≡ z → AreClients named t a b c → AreClients named u x y z
-told named t u a b c x y z e f g h are =
-    subst (λ t. AreClients named t x y z) e
-    (subst (λ a. AreClients named t a y z) f
-    (subst (λ b. AreClients named t a b z) g
-    (subst (λ c. AreClients named t a b c) h are)))
+told named t u a b c x y z e f g h are = grind (arith)
 
 -- if one session's turn and clients are replaced by such that belong together (`AreClients`), and all others are as
 -- they were, those of each session belong together
@@ -286,12 +202,7 @@ clients_set : (named : List ℕ → Bool) (session : ℕ) (turns new_turns : Lis
     → (other : ℕ) → AreClients named (slice_get new_turns other) (slice_get new_whole other)
     (slice_get new_chosen other) (slice_get new_rest other)
 clients_set named session turns new_turns whole chosen rest new_whole new_chosen new_rest were t w c r here other =
-    elim (same_number session other) [
-      | inl e ↦ subst (λ n. AreClients named (slice_get new_turns n) (slice_get new_whole n)
-          (slice_get new_chosen n) (slice_get new_rest n)) e here
-      | inr apart ↦ told named _ _ _ _ _ _ _ _ (t other apart) (w other apart) (c other apart) (r other apart)
-          (were other)
-    ]
+    grind (arith, here, same_number, told)
 
 -- a write leaves what stands at another place
 aside : {A : Type 0} (xs : List A) (session : ℕ) (x : A) (other : ℕ) → session ≢ other
@@ -316,37 +227,25 @@ free_turn turns session turn at = ap (λ o. option_map_or has_none o false) at
 -- a statement on a chosen row may stand in the chosen part if its session has no branch
 on_rows : (named : List ℕ → Bool) (free : ℕ → Bool) (session : ℕ) (request : Request) → free session ≡ true
     → IsOnRows named request → IsFreeRequest named free session request
-on_rows named free session (Given (Get key)) none is = (none, is)
-on_rows named free session (Given (Put key value)) none is = (none, is)
-on_rows named free session (Given (Del key)) none is = (none, is)
-on_rows named free session request none is = absurd is
+on_rows named free session request also is = grind (arith)
 
 -- a request that names no chosen row may stand in the other part if it starts no branch, or its session may have one
 off_rows : (named : List ℕ → Bool) (free : ℕ → Bool) (session : ℕ) (request : Request)
     → (is_start request ≡ true → free session ≡ false) → IsOffRows named request
     → IsOtherRequest named free session request
-off_rows named free session (Given (Get key)) starts is = is
-off_rows named free session (Given (Put key value)) starts is = is
-off_rows named free session (Given (Del key)) starts is = is
-off_rows named free session (Given (Start xid)) starts is = starts refl
-off_rows named free session request starts is = tt
+off_rows named free session request starts is = grind (arith)
 
 -- a session whose request is XA START may have a branch by its turn, if with a turn by which it has none (`has_none`)
 -- the request would be no XA START
 starts_within : (turns : List Turn) (session : ℕ) (turn : Turn) (request : Request)
     → slice_get turns session ≡ Some turn → (has_none turn ≡ true → is_start request ≡ false)
     → is_start request ≡ true → free_in turns session ≡ false
-starts_within turns session turn request at plain starts = free_turn turns session turn at ∙ by (has_none turn) refl
-  where
-    by : (b : Bool) → has_none turn ≡ b → has_none turn ≡ false
-    by true none = absurd (false≢true (sym (plain none) ∙ starts))
-    by false none = none
+starts_within turns session turn request at plain starts = grind (arith, false≢true, free_turn)
 
 -- a request keeps the lock law
 law_next : (state : State) (session : ℕ) (request : Request) → LockLaw state
     → LockLaw (next_state state session request)
-law_next state session Unread law = law
-law_next state session (Given statement) law = law_after state session statement law
+law_next state session request law = grind (arith, law_after)
 
 -- after a session's request `AreEnded` still holds, if the session has no branch then where its turn is Ending and
 -- the request was accepted
@@ -359,14 +258,7 @@ ended_next : (turns : List Turn) (whole : Config) (session : ℕ) (request : Req
       clients = set whole.clients session next;
     })
 ended_next turns whole session request client next ended at own other ending answered =
-    elim (same_number session other) [
-      | inl e ↦ subst (OwnsNone (next_state whole.state session request)) e
-          (own (ap (slice_get turns) e ∙ ending) (same_Some next (Answered (Answer.Reply Accepted))
-          (sym (get_written whole.clients session client next at)
-          ∙ ap (slice_get (set whole.clients session next)) e ∙ answered)))
-      | inr apart ↦ others_none whole.state session other request apart
-          (ended other ending (aside whole.clients session next other apart ∙ answered))
-    ]
+    grind (arith, aside, get_written, others_none, same_Some, same_number)
 
 -- ---- acts
 
@@ -419,8 +311,7 @@ chosen_deed named turns whole chosen rest session act Left parts turn is at ther
 -- results that are equal to two that belong together, or are both missing, do so too
 pub together_told : {A B : Type 0} (P : A → B → Type 0) (one new : Option A) (other new_other : Option B)
     → new ≡ one → new_other ≡ other → Together P one other → Together P new new_other
-together_told P one new other new_other e f both =
-    subst (λ o. Together P o new_other) (sym e) (subst (Together P one) (sym f) both)
+together_told P one new other new_other e f both = grind (arith)
 
 -- an act of a session whose open call is in the chosen part can take effect in the whole and in that part, or in
 -- neither, and leads to parts again
@@ -557,25 +448,13 @@ rest_acts named turns whole chosen rest session turn act parts there_turn rests 
 pub absent_rests : (config new : Config) (session : ℕ) (act : Act) → slice_get config.clients session ≡ None
     → effect_of config session act ≡ Some new → ⊥
 unfolding deed_of
-absent_rests config new session act at leads = none-some new (sym (effect_is config session act
-    ∙ ap (λ o. option_map (done_in config session) (deed_of session act config.state o)) at
-    ∙ ap (option_map (done_in config session)) (nothing act)) ∙ leads)
-  where
-    nothing : (act : Act) → deed_of session act config.state None ≡ None
-    nothing Statement = refl
-    nothing Disconnect = refl
+absent_rests config new session act at leads = grind (arith, effect_is, none-some, option_map)
 
 -- a session that is idle has no act
 pub idle_rests : (config new : Config) (session : ℕ) (act : Act) → slice_get config.clients session ≡ Some Idle
     → effect_of config session act ≡ Some new → ⊥
 unfolding deed_of
-idle_rests config new session act at leads = none-some new (sym (effect_is config session act
-    ∙ ap (λ o. option_map (done_in config session) (deed_of session act config.state o)) at
-    ∙ ap (option_map (done_in config session)) (nothing act)) ∙ leads)
-  where
-    nothing : (act : Act) → deed_of session act config.state (Some Idle) ≡ None
-    nothing Statement = refl
-    nothing Disconnect = refl
+idle_rests config new session act at leads = grind (arith, effect_is, none-some, option_map)
 
 -- ---- events
 
@@ -586,20 +465,12 @@ turn_is turns session turn at = ap (λ o. unwrap_or o Nobody) at
 
 -- the turn of an open call of the chosen part is Chosen
 chosen_is : (turn : Turn) → is_chosen turn ≡ true → turn ≡ Chosen
-chosen_is Nobody is = absurd (false≢true is)
-chosen_is Chosen is = refl
-chosen_is Other is = absurd (false≢true is)
-chosen_is Within is = absurd (false≢true is)
-chosen_is Rest is = absurd (false≢true is)
-chosen_is Ending is = absurd (false≢true is)
+chosen_is turn is = grind (arith, false≢true)
 
 -- an event of the chosen part stands only where the turn of its session is Nobody or Chosen
 chosen_turns : (named : List ℕ → Bool) (turn : Turn) (event : Event) → FitsTurn named turn event true
     → (turn ≡ Nobody) ⊎ (turn ≡ Chosen)
-chosen_turns named turn (Call session request) fits = inl fits.0
-chosen_turns named turn (Return session seen) fits = inr (chosen_is turn fits)
-chosen_turns named turn (Lost session) fits = absurd fits
-chosen_turns named turn (Unknown session) fits = inr (chosen_is turn fits)
+chosen_turns named turn event fits = grind (arith, chosen_is)
 
 -- where an event of the chosen part may stand, its session has the same client in the whole and in that part, and is
 -- idle in the other one
@@ -607,26 +478,12 @@ pub same_chosen : (named : List ℕ → Bool) (turn : Turn) (event : Event)
     (whole chosen rest : Option ClientState) → FitsTurn named turn event true
     → AreClients named (Some turn) whole chosen rest
     → (client : ClientState) × (whole ≡ Some client) × (chosen ≡ Some client) × (rest ≡ Some Idle)
-same_chosen named turn event whole chosen rest fits are = elim (chosen_turns named turn event fits) [
-  | inl nobody ↦ by_nobody (subst (λ t. AreClients named (Some t) whole chosen rest) nobody are)
-  | inr is ↦ by_chosen (subst (λ t. AreClients named (Some t) whole chosen rest) is are)
-]
-  where
-    by_nobody : AreClients named (Some Nobody) whole chosen rest
-        → (client : ClientState) × (whole ≡ Some client) × (chosen ≡ Some client) × (rest ≡ Some Idle)
-    by_nobody idle = (Idle, idle.0, idle.1, idle.2)
-
-    by_chosen : AreClients named (Some Chosen) whole chosen rest
-        → (client : ClientState) × (whole ≡ Some client) × (chosen ≡ Some client) × (rest ≡ Some Idle)
-    by_chosen same = (same.0, same.2, same.3, same.4)
+same_chosen named turn event whole chosen rest fits are = grind (arith, chosen_turns)
 
 -- an event of the other part stands only where its session's open call isn't one of the chosen part
 pub other_turn : (named : List ℕ → Bool) (turn : Turn) (event : Event) → FitsTurn named turn event false
     → is_chosen turn ≡ false
-other_turn named turn (Call session request) fits = fits.0
-other_turn named turn (Return session seen) fits = fits
-other_turn named turn (Lost session) fits = fits
-other_turn named turn (Unknown session) fits = fits
+other_turn named turn event fits = grind (arith)
 
 -- if the turn is Nobody, which is that of a session with no open call and no branch, the client is idle
 abbrev pub IsIdleIf : Turn → ClientState → Type 0
@@ -639,45 +496,27 @@ pub same_rest : (named : List ℕ → Bool) (turn : Turn) (whole chosen rest : O
     → AreClients named (Some turn) whole chosen rest
     → (client : ClientState) × (IsOtherClient named turn client × IsIdleIf turn client) × (whole ≡ Some client)
     × (chosen ≡ Some Idle) × (rest ≡ Some client)
-same_rest named Nobody whole chosen rest not are = (Idle, (tt, λ e. refl), are.0, are.1, are.2)
-same_rest named Chosen whole chosen rest not are = absurd (false≢true (sym not))
-same_rest named Other whole chosen rest not are = (are.0, (are.1, λ e. cc), are.2, are.3, are.4)
-same_rest named Within whole chosen rest not are = (are.0, (are.1, λ e. cc), are.2, are.3, are.4)
-same_rest named Rest whole chosen rest not are = (are.0, (are.1, λ e. cc), are.2, are.3, are.4)
-same_rest named Ending whole chosen rest not are = (are.0, (are.1, λ e. cc), are.2, are.3, are.4)
+same_rest named turn whole chosen rest not are = grind (arith, false≢true)
 
 -- after a return its session is idle
 return_idle : (session : ℕ) (seen : Seen) (client next : ClientState)
     → client_after (Return session seen) (Some client) ≡ Some next
     → next ≡ Idle
 unfolding client_after
-return_idle session seen Idle next is = absurd (none-some next is)
-return_idle session seen (Called request) next is = absurd (none-some next is)
-return_idle session seen (Answered answer) next is = sym (cond_some (shows_answer seen answer) Idle next is).1
-return_idle session seen (Gone request) next is = absurd (none-some next is)
-return_idle session seen Left next is = absurd (none-some next is)
+return_idle session seen client next is = grind (arith, cond_some, none-some)
 
 -- a session whose return was seen had an answer that the return shows
 return_shows : (session : ℕ) (seen : Seen) (client next : ClientState)
     → client_after (Return session seen) (Some client) ≡ Some next
     → (answer : Answer) × (client ≡ Answered answer) × (shows_answer seen answer ≡ true)
 unfolding client_after
-return_shows session seen Idle next is = absurd (none-some next is)
-return_shows session seen (Called request) next is = absurd (none-some next is)
-return_shows session seen (Answered answer) next is =
-    (answer, refl, (cond_some (shows_answer seen answer) Idle next is).0)
-return_shows session seen (Gone request) next is = absurd (none-some next is)
-return_shows session seen Left next is = absurd (none-some next is)
+return_shows session seen client next is = grind (arith, cond_some, none-some)
 
 -- after an answer that isn't known its session is idle
 unknown_idle : (session : ℕ) (client next : ClientState) → client_after (Unknown session) (Some client) ≡ Some next
     → next ≡ Idle
 unfolding client_after
-unknown_idle session Idle next is = absurd (none-some next is)
-unknown_idle session (Called request) next is = sym (same_Some Idle next is)
-unknown_idle session (Answered answer) next is = sym (same_Some Idle next is)
-unknown_idle session (Gone request) next is = absurd (none-some next is)
-unknown_idle session Left next is = absurd (none-some next is)
+unknown_idle session client next is = grind (arith, none-some, same_Some)
 
 -- after a call that names no chosen row and suits the new turn, its session's client is one of the other part, if it
 -- was idle or the session may have a branch by that turn
@@ -686,19 +525,7 @@ call_other : (named : List ℕ → Bool) (new : Turn) (session : ℕ) (request :
     → client_after (Call session request) (Some client) ≡ Some next
     → IsOtherClient named new next
 unfolding client_after
-call_other named new session request Idle next off call idle is =
-    subst (IsOtherClient named new) (same_Some (Called request) next is) (off, call)
-call_other named new session request (Called before) next off call idle is = absurd (none-some next is)
-call_other named new session request (Answered answer) next off call idle is = absurd (none-some next is)
-call_other named new session request (Gone None) next off call (inl idle) is = absurd (gone_idle None idle)
-  where
-    gone_idle : (o : Option Request) → Gone o ≡ Idle → ⊥
-    gone_idle o e = cc
-call_other named new session request (Gone None) next off call (inr within) is =
-    subst (IsOtherClient named new) (same_Some (Gone (Some request)) next is) (within, off)
-call_other named new session request (Gone (Some before)) next off call idle is = absurd (none-some next is)
-call_other named new session request Left next off call idle is =
-    subst (IsOtherClient named new) (same_Some Left next is) tt
+call_other named new session request client next off call idle is = grind (arith, none-some, same_Some)
 
 -- after it is lost, a client of the other part is still one, with the turn Within
 lost_other : (named : List ℕ → Bool) (turn : Turn) (session : ℕ) (client next : ClientState)
@@ -706,14 +533,7 @@ lost_other : (named : List ℕ → Bool) (turn : Turn) (session : ℕ) (client n
     → client_after (Lost session) (Some client) ≡ Some next
     → IsOtherClient named Within next
 unfolding client_after
-lost_other named turn session Idle next other is =
-    subst (IsOtherClient named Within) (same_Some (Gone None) next is) tt
-lost_other named turn session (Called request) next other is =
-    subst (IsOtherClient named Within) (same_Some (Gone (Some request)) next is) (refl, other.0)
-lost_other named turn session (Answered answer) next other is =
-    subst (IsOtherClient named Within) (same_Some (Gone None) next is) tt
-lost_other named turn session (Gone request) next other is = absurd (none-some next is)
-lost_other named turn session Left next other is = absurd (none-some next is)
+lost_other named turn session client next other is = grind (arith, none-some, same_Some)
 
 -- once an idle session's call is seen, its client has called for that request
 idle_calls : (session : ℕ) (request : Request) (next : ClientState)
@@ -728,26 +548,8 @@ chosen_next : (named : List ℕ → Bool) (turn : Turn) (event : Event) (client 
     → AreClients named (Some turn) (Some client) (Some client) rest
     → client_after event (Some client) ≡ Some next
     → AreClients named (Some (turn_after turn event true)) (Some next) (Some next) rest
-chosen_next named turn (Call session request) client next rest fits are is =
-    let idle = subst (λ t. AreClients named (Some t) (Some client) (Some client) rest) fits.0 are in
-    let e = idle_calls session request next (ap (client_after (Call session request)) (sym idle.0) ∙ is) in
-    (Called request, fits.1, ap Some (sym e), ap Some (sym e), idle.2)
-chosen_next named turn (Return session seen) client next rest fits are is =
-    let e = return_idle session seen client next is in
-    subst (λ t. AreClients named (Some (turn_returned t seen)) (Some next) (Some next) rest)
-    (sym (chosen_is turn fits)) (
-      ap Some e,
-      ap Some e,
-      (same_chosen named turn (Return session seen) (Some client) (Some client) rest fits are).3,
-    )
-chosen_next named turn (Lost session) client next rest fits are is = absurd fits
-chosen_next named turn (Unknown session) client next rest fits are is =
-    let e = unknown_idle session client next is in
-    subst (λ t. AreClients named (Some (turn_unknown t)) (Some next) (Some next) rest) (sym (chosen_is turn fits)) (
-      ap Some e,
-      ap Some e,
-      (same_chosen named turn (Unknown session) (Some client) (Some client) rest fits are).3,
-    )
+chosen_next named turn event client next rest fits are is =
+    grind (arith, chosen_is, idle_calls, return_idle, same_chosen, turn_returned, turn_unknown, unknown_idle)
 
 -- after a call in the other part its session's clients belong together by the new turn (`AreClients`)
 called_next : (named : List ℕ → Bool) (turn : Turn) (session : ℕ) (request : Request) (client next : ClientState)
@@ -755,82 +557,22 @@ called_next : (named : List ℕ → Bool) (turn : Turn) (session : ℕ) (request
     → chosen ≡ Some Idle
     → client_after (Call session request) (Some client) ≡ Some next
     → AreClients named (Some (turn_called turn request)) (Some next) chosen (Some next)
-called_next named turn session request client next chosen not off idle rests is = by turn not idle
-  where
-    within : (b : Bool) → is_ending request ≡ b
-        → AreClients named (Some (cond b Ending Rest)) (Some next) chosen (Some next)
-    within true ends = (
-      next,
-      call_other named Ending session request client next off (λ e. absurd (false≢true e), λ e. ends) (inr refl) is,
-      refl,
-      rests,
-      refl,
-    )
-    within false ends = (
-      next,
-      call_other named Rest session request client next off (λ e. absurd (false≢true e), λ e. cc) (inr refl) is,
-      refl,
-      rests,
-      refl,
-    )
-
-    starting : (b : Bool) → is_start request ≡ b → client ≡ Idle
-        → AreClients named (Some (cond b Rest Other)) (Some next) chosen (Some next)
-    starting true starts at = (
-      next,
-      call_other named Rest session request client next off (λ e. absurd (false≢true e), λ e. cc) (inl at) is,
-      refl,
-      rests,
-      refl,
-    )
-    starting false starts at = (
-      next,
-      call_other named Other session request client next off (λ e. starts, λ e. cc) (inl at) is,
-      refl,
-      rests,
-      refl,
-    )
-
-    by : (t : Turn) → is_chosen t ≡ false → IsIdleIf t client
-        → AreClients named (Some (turn_called t request)) (Some next) chosen (Some next)
-    by Nobody chosen idle_if = starting (is_start request) refl (idle_if refl)
-    by Chosen chosen idle_if = absurd (false≢true (sym chosen))
-    by Other chosen idle_if = within (is_ending request) refl
-    by Within chosen idle_if = within (is_ending request) refl
-    by Rest chosen idle_if = within (is_ending request) refl
-    by Ending chosen idle_if = within (is_ending request) refl
+called_next named turn session request client next chosen not off idle rests is = grind (arith, call_other, false≢true)
 
 -- a session that is idle in all three has clients that belong together by the turns Nobody and Within, as after a
 -- return or an unknown answer
 idle_next : (named : List ℕ → Bool) (turn : Turn) (next : ClientState) (chosen : Option ClientState)
     → (turn ≡ Nobody) ⊎ (turn ≡ Within) → next ≡ Idle → chosen ≡ Some Idle
     → AreClients named (Some turn) (Some next) chosen (Some next)
-idle_next named turn next chosen (inl nobody) e idle =
-    subst (λ t. AreClients named (Some t) (Some next) chosen (Some next)) (sym nobody) (ap Some e, idle, ap Some e)
-idle_next named turn next chosen (inr within) e idle =
-    subst (λ t. AreClients named (Some t) (Some next) chosen (Some next)) (sym within)
-    (Idle, tt, ap Some e, idle, ap Some e)
+idle_next named turn next chosen is e idle = grind (arith)
 
 -- after a return its session's turn is Nobody or Within
 returned_turns : (turn : Turn) (seen : Seen) → (turn_returned turn seen ≡ Nobody) ⊎ (turn_returned turn seen ≡ Within)
-returned_turns Nobody seen = inr refl
-returned_turns Chosen seen = inl refl
-returned_turns Other seen = inl refl
-returned_turns Within seen = inr refl
-returned_turns Rest seen = inr refl
-returned_turns Ending Seen.Ok = inl refl
-returned_turns Ending (Seen.Value value) = inr refl
-returned_turns Ending (Seen.Rows rows) = inr refl
-returned_turns Ending (Seen.Error numbers) = inr refl
+returned_turns turn seen = grind (arith)
 
 -- after an answer that isn't known its session's turn is Nobody or Within
 unknown_turns : (turn : Turn) → (turn_unknown turn ≡ Nobody) ⊎ (turn_unknown turn ≡ Within)
-unknown_turns Nobody = inr refl
-unknown_turns Chosen = inl refl
-unknown_turns Other = inl refl
-unknown_turns Within = inr refl
-unknown_turns Rest = inr refl
-unknown_turns Ending = inr refl
+unknown_turns turn = grind (arith)
 
 -- after an event of the other part its session's clients belong together by the new turn (`AreClients`)
 rest_next : (named : List ℕ → Bool) (turn : Turn) (event : Event) (client next : ClientState)
@@ -854,59 +596,27 @@ rest_next named turn (Unknown session) client next chosen fits other idle_if idl
 -- where an event of the chosen part may stand, its session has no branch, by its turn
 chosen_none : (named : List ℕ → Bool) (turn : Turn) (event : Event) → FitsTurn named turn event true
     → has_none turn ≡ true
-chosen_none named turn event fits = elim (chosen_turns named turn event fits) [
-  | inl nobody ↦ ap has_none nobody
-  | inr is ↦ ap has_none is
-]
+chosen_none named turn event fits = grind (arith, chosen_turns)
 
 -- the answer that a return of OK shows is that the statement was accepted
 ok_accepted : (answer : Answer) → shows_answer Seen.Ok answer ≡ true → answer ≡ Answer.Reply Accepted
-ok_accepted (Answer.Reply Accepted) is = refl
-ok_accepted (Answer.Reply (Value value)) is = absurd (false≢true is)
-ok_accepted (Answer.Reply (Recovered xids)) is = absurd (false≢true is)
-ok_accepted (Answer.Reply (Refused error)) is = absurd (false≢true is)
-ok_accepted Answer.Unread is = absurd (false≢true is)
+ok_accepted answer is = grind (arith, false≢true)
 
 -- a session that has no branch by its turn after a call in the other part had none before it
 within_called : (turn : Turn) (request : Request) → is_chosen turn ≡ false
     → has_none (turn_called turn request) ≡ true → has_none turn ≡ true
-within_called turn request not none = by turn not none
-  where
-    within : (b : Bool) → has_none (cond b Ending Rest) ≡ true → ⊥
-    within true e = false≢true e
-    within false e = false≢true e
-
-    by : (t : Turn) → is_chosen t ≡ false → has_none (turn_called t request) ≡ true → has_none t ≡ true
-    by Nobody chosen e = refl
-    by Chosen chosen e = refl
-    by Other chosen e = refl
-    by Within chosen e = absurd (within (is_ending request) e)
-    by Rest chosen e = absurd (within (is_ending request) e)
-    by Ending chosen e = absurd (within (is_ending request) e)
+within_called turn request not is = grind (arith, false≢true)
 
 -- a session that has no branch by its turn after a return had none before it, or its call to end its branch was
 -- accepted
 returned_none : (turn : Turn) (seen : Seen) (answer : Answer) → shows_answer seen answer ≡ true
     → has_none (turn_returned turn seen) ≡ true
     → (has_none turn ≡ true) ⊎ ((turn ≡ Ending) × (answer ≡ Answer.Reply Accepted))
-returned_none Nobody seen answer shows none = inl refl
-returned_none Chosen seen answer shows none = inl refl
-returned_none Other seen answer shows none = inl refl
-returned_none Within seen answer shows none = absurd (false≢true none)
-returned_none Rest seen answer shows none = absurd (false≢true none)
-returned_none Ending Seen.Ok answer shows none = inr (refl, ok_accepted answer shows)
-returned_none Ending (Seen.Value value) answer shows none = absurd (false≢true none)
-returned_none Ending (Seen.Rows rows) answer shows none = absurd (false≢true none)
-returned_none Ending (Seen.Error numbers) answer shows none = absurd (false≢true none)
+returned_none turn seen answer shows is = grind (arith, false≢true, ok_accepted)
 
 -- a session that has no branch by its turn after an answer that isn't known had none before it
 unknown_none : (turn : Turn) → has_none (turn_unknown turn) ≡ true → has_none turn ≡ true
-unknown_none Nobody none = refl
-unknown_none Chosen none = refl
-unknown_none Other none = refl
-unknown_none Within none = absurd (false≢true none)
-unknown_none Rest none = absurd (false≢true none)
-unknown_none Ending none = absurd (false≢true none)
+unknown_none turn is = grind (arith, false≢true)
 
 -- a session that has no branch by its turn after an event of the other part had none before it, or its call to end
 -- its branch was accepted
@@ -915,58 +625,20 @@ rest_none : (named : List ℕ → Bool) (turn : Turn) (event : Event) (client ne
     → client_after event (Some client) ≡ Some next
     → has_none (turn_after turn event false) ≡ true
     → (has_none turn ≡ true) ⊎ ((turn ≡ Ending) × (client ≡ Answered (Answer.Reply Accepted)))
-rest_none named turn (Call session request) client next fits is none = inl (within_called turn request fits.0 none)
-rest_none named turn (Return session seen) client next fits is none =
-    let shown = return_shows session seen client next is in
-    elim (returned_none turn seen shown.0 shown.2 none) [
-      | inl before ↦ inl before
-      | inr ended ↦ inr (ended.0, shown.1 ∙ ap Answered ended.1)
-    ]
-rest_none named turn (Lost session) client next fits is none = absurd (false≢true none)
-rest_none named turn (Unknown session) client next fits is none = inl (unknown_none turn none)
+rest_none named turn event client next fits is also =
+    grind (arith, false≢true, return_shows, returned_none, unknown_none, within_called)
 
 -- after its call a session isn't answered yet
 called_unanswered : (session : ℕ) (request : Request) (client : ClientState) (answer : Answer)
     → client_after (Call session request) (Some client) ≡ Some (Answered answer) → ⊥
 unfolding client_after
-called_unanswered session request Idle answer is = apart (same_Some (Called request) (Answered answer) is)
-  where
-    apart : Called request ≡ Answered answer → ⊥
-    apart e = cc
-called_unanswered session request (Called before) answer is = none-some (Answered answer) is
-called_unanswered session request (Answered other) answer is = none-some (Answered answer) is
-called_unanswered session request (Gone None) answer is = apart (same_Some (Gone (Some request)) (Answered answer) is)
-  where
-    apart : Gone (Some request) ≡ Answered answer → ⊥
-    apart e = cc
-called_unanswered session request (Gone (Some before)) answer is = none-some (Answered answer) is
-called_unanswered session request Left answer is = left_answered answer (same_Some Left (Answered answer) is)
+called_unanswered session request client answer is = grind (arith, left_answered, none-some, same_Some)
 
 -- a session whose turn is Ending after an event isn't answered then: its call to end its branch has only begun
 open_by_call : (turn : Turn) (event : Event) (side : Bool) (client next : ClientState) (answer : Answer)
     → client_after event (Some client) ≡ Some next → turn_after turn event side ≡ Ending → next ≡ Answered answer → ⊥
-open_by_call turn (Call session request) side client next answer is ending answered =
-    called_unanswered session request client answer (is ∙ ap Some answered)
-open_by_call turn (Return session seen) side client next answer is ending answered =
-    elim (returned_turns turn seen) [
-      | inl nobody ↦ apart Nobody (λ e. cc) (sym nobody ∙ ending)
-      | inr within ↦ apart Within (λ e. cc) (sym within ∙ ending)
-    ]
-  where
-    apart : (t : Turn) → (t ≡ Ending → ⊥) → t ≡ Ending → ⊥
-    apart t never e = never e
-open_by_call turn (Lost session) side client next answer is ending answered = apart ending
-  where
-    apart : Within ≡ Ending → ⊥
-    apart e = cc
-open_by_call turn (Unknown session) side client next answer is ending answered =
-    elim (unknown_turns turn) [
-      | inl nobody ↦ apart Nobody (λ e. cc) (sym nobody ∙ ending)
-      | inr within ↦ apart Within (λ e. cc) (sym within ∙ ending)
-    ]
-  where
-    apart : (t : Turn) → (t ≡ Ending → ⊥) → t ≡ Ending → ⊥
-    apart t never e = never e
+open_by_call turn event side client next answer is ending answered =
+    grind (arith, called_unanswered, returned_turns, unknown_turns)
 
 -- an event of a session with this turn, where the whole and its parts belong together (`AreParts`)
 module _ (named : List ℕ → Bool) (turns : List Turn) (whole chosen rest : Config) (event : Event)
@@ -975,15 +647,12 @@ module _ (named : List ℕ → Bool) (turns : List Turn) (whole chosen rest : Co
   -- the clients of the event's session belong together, by its turn (`AreClients`)
   here : AreClients named (Some turn) (slice_get whole.clients (session_of event))
       (slice_get chosen.clients (session_of event)) (slice_get rest.clients (session_of event))
-  here = subst (λ t. AreClients named t (slice_get whole.clients (session_of event))
-      (slice_get chosen.clients (session_of event)) (slice_get rest.clients (session_of event))) at
-      (parts.clients (session_of event))
+  here = grind (arith)
 
   -- after the event, its session's turn is the one that `turn_after` gives
   written : (side : Bool) → slice_get (turns_past turns side event) (session_of event)
       ≡ Some (turn_after turn event side)
-  written side = get_written turns (session_of event) turn _ at
-      ∙ ap (λ t. Some (turn_after t event side)) (turn_is turns (session_of event) turn at)
+  written side = grind (arith, get_written, turn_is)
 
   -- who has no branch by the turns after the event had none before it, or owns none, if that is so of the event's
   -- session

@@ -3,6 +3,7 @@
 --     same_side, other_side                    two truth values are the same by a test;  or differ
 --     picked_in, picked_out                    an event is picked;  or isn't
 --     picked_next, picked_past, picked_end     the events of one part, while they are picked
+use Rattle.std.proofs.lemmas.{Bool.Decides.nat_tests, Grind.common_steps}
 use Rattle.std.proofs.Common.{◌≡◌, ◌≢◌, ◌⊎◌, ℕ, ◌+◌, ◌<◌, ◌≤◌, zero, suc, Bool, true, false, Some, List, [], ◌∷◌, ◌++◌}
 use Rattle.std.proofs.Common.{length, take, drop, get_or, refl, ap, sym, ◌∙◌, subst, inl, inr, arith, append_assoc}
 use Rattle.std.proofs.{Common.{append-nil, min}, lemmas.{Bool.false≢true, Option.{none-some, same_Some}}}
@@ -55,47 +56,29 @@ cut_all named turns sides events place so_far over =
 
 -- two truth values are the same if the test for that holds
 pub same_side : (left right : Bool) → beq left right ≡ true → left ≡ right
-same_side true true is = refl
-same_side true false is = absurd (false≢true is)
-same_side false true is = absurd (false≢true is)
-same_side false false is = refl
+same_side left right is = grind (arith, false≢true)
 
 -- two truth values differ if the test whether they are the same fails
 pub other_side : (left right : Bool) → beq left right ≡ false → left ≢ right
-other_side true true is = absurd (false≢true (sym is))
-other_side true false is = λ e. false≢true (sym e)
-other_side false true is = λ e. false≢true e
-other_side false false is = absurd (false≢true (sym is))
+other_side left right is = grind (arith, false≢true)
 
 -- an event of the wanted part is picked, before those that are picked behind it
 pub picked_in : (wanted side : Bool) (sides : List Bool) (event : Event) (events : List Event) → side ≡ wanted
     → picked wanted (side ∷ sides) (event ∷ events) ≡ event ∷ picked wanted sides events
-picked_in true true sides event events is = refl
-picked_in true false sides event events is = absurd (false≢true is)
-picked_in false true sides event events is = absurd (false≢true (sym is))
-picked_in false false sides event events is = refl
+picked_in wanted side sides event events is = grind (arith, event, false≢true)
 
 -- an event of the part that isn't wanted isn't picked
 pub picked_out : (wanted side : Bool) (sides : List Bool) (event : Event) (events : List Event) → side ≢ wanted
     → picked wanted (side ∷ sides) (event ∷ events) ≡ picked wanted sides events
-picked_out true true sides event events is = absurd (is refl)
-picked_out true false sides event events is = refl
-picked_out false true sides event events is = refl
-picked_out false false sides event events is = absurd (is refl)
+picked_out wanted side sides event events is = grind (arith, event)
 
 -- of no events none is picked
 picked_none : (wanted : Bool) (sides : List Bool) → picked wanted sides [] ≡ []
-picked_none true [] = refl
-picked_none false [] = refl
-picked_none true (true ∷ sides) = refl
-picked_none true (false ∷ sides) = refl
-picked_none false (true ∷ sides) = refl
-picked_none false (false ∷ sides) = refl
+picked_none wanted sides = grind (arith)
 
 -- no event is picked of which it isn't told to which part it belongs
 none_picked : (wanted : Bool) (events : List Event) → picked wanted [] events ≡ []
-none_picked true events = refl
-none_picked false events = refl
+none_picked wanted events = grind (arith)
 
 -- past the end of either list no event is picked
 pub picked_end : (wanted : Bool) (place : ℕ) (sides : List Bool) (events : List Event)
@@ -124,19 +107,7 @@ pub picked_next : (wanted d : Bool) (place : ℕ) (sides : List Bool) (event : E
     × ((get_or sides place d ≢ wanted) → part ++ picked wanted (drop (place + 1) sides) (drop (place + 1) events)
     ≡ picked wanted sides events)
 picked_next wanted d place sides event events part in_sides in_events there so_far =
-    let side = get_or sides place d in
-    let tail = drop (place + 1) sides in
-    let later = drop (place + 1) events in
-    let one : drop place sides ≡ side ∷ tail =
-    at_drop_more (λ l. l) sides place d in_sides in
-    let other : drop place events ≡ event ∷ later =
-    at_drop_more (λ l. l) events place event in_events ∙ ap (λ e. e ∷ later) (sym there) in
-    let here : picked wanted (drop place sides) (drop place events) ≡ picked wanted (side ∷ tail) (event ∷ later) =
-    ap (λ l. picked wanted l (drop place events)) one ∙ ap (picked wanted (side ∷ tail)) other in (
-      λ e. append_assoc part (event ∷ []) (picked wanted tail later)
-          ∙ ap (λ l. part ++ l) (sym (here ∙ picked_in wanted side tail event later e)) ∙ so_far,
-      λ e. ap (λ l. part ++ l) (sym (here ∙ picked_out wanted side tail event later e)) ∙ so_far,
-    )
+    grind (arith, common_steps, nat_tests, append_assoc, at_drop_more, event, picked_in, picked_out)
 
 -- ---- how many there are
 
@@ -161,17 +132,11 @@ count_in_here false side (suc place) (false ∷ sides) at =
 
 -- an event of the wanted part counts as one
 one_in : (wanted side : Bool) → side ≡ wanted → count_in wanted (side ∷ []) ≡ 1
-one_in true true is = refl
-one_in true false is = absurd (false≢true is)
-one_in false true is = absurd (false≢true (sym is))
-one_in false false is = refl
+one_in wanted side is = grind (arith, false≢true)
 
 -- an event of the part that isn't wanted doesn't count
 one_out : (wanted side : Bool) → side ≢ wanted → count_in wanted (side ∷ []) ≡ 0
-one_out true true is = absurd (is refl)
-one_out true false is = refl
-one_out false true is = refl
-one_out false false is = absurd (is refl)
+one_out wanted side is = grind (arith)
 
 -- what is read at a place of the list stands there
 got : (xs : List Bool) (i : ℕ) (d : Bool) → i < length xs → slice_get xs i ≡ Some (get_or xs i d)
@@ -197,18 +162,7 @@ count_next wanted d place sides within =
 
 -- if the least of two numbers is at most a third one, so is one of the two
 pub one_at_most : (m n place : ℕ) → min m n ≤ place → (m ≤ place) ⊎ (n ≤ place)
-one_at_most m n place le = elim (either m place) [
-  | inl few ↦ inl few
-  | inr more ↦ elim (either n place) [
-    | inl few ↦ inr few
-    | inr many ↦ absurd (omega arith)
-  ]
-]
-  where
-    either : (m n : ℕ) → (m ≤ n) ⊎ (n < m)
-    either zero n = inl (omega arith)
-    either (suc m) zero = inr (omega arith)
-    either (suc m) (suc n) = elim (either m n) [ inl le ↦ inl (omega arith) | inr lt ↦ inr (omega arith) ]
+one_at_most m n place le = grind (arith)
 
 -- what stands at a place is read there
 read_at : (xs : List Event) (i : ℕ) (x : Event) → slice_get xs i ≡ Some x → x ≡ get_or xs i x

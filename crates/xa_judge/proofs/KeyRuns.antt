@@ -2,6 +2,7 @@
 --     first_then, split         acts before the next event
 --     IsInParts, in_parts       moves through the whole lead through each part as well
 --     IsWhole, whole_of         moves through both parts lead through the whole
+use Rattle.std.proofs.Common.{arith}
 use Rattle.std.proofs.Common.{◌≡◌, ℕ, Bool, true, false, Option, Some, None, List, [], ◌∷◌, ◌++◌, refl, sym, subst}
 use Rattle.std.specs.Prelude.{slice_get}
 use Rattle.xa_judge.specs.declared.{event.Event.Event, moves.{Act.Act, Move.Move}, turn.Turn.Turn}
@@ -68,51 +69,23 @@ pub clients_at : (named : List ℕ → Bool) (turns : List Turn) (whole chosen r
     → slice_get turns session ≡ turn
     → AreClients named turn (slice_get whole.clients session) (slice_get chosen.clients session)
     (slice_get rest.clients session)
-clients_at named turns whole chosen rest session turn parts at =
-    subst (λ t. AreClients named t (slice_get whole.clients session) (slice_get chosen.clients session)
-    (slice_get rest.clients session)) at (parts.clients session)
+clients_at named turns whole chosen rest session turn parts at = grind (arith)
 
 -- an act in the chosen part is of a session whose open call belongs to it
 chosen_turn : (named : List ℕ → Bool) (turns : List Turn) (whole chosen rest mid : Config)
     (session : ℕ) (act : Act) → AreParts named turns whole chosen rest
     → effect_of chosen session act ≡ Some mid
     → slice_get turns session ≡ Some Turn.Chosen
-chosen_turn named turns whole chosen rest mid session act parts leads = by (slice_get turns session) refl
-  where
-    by : (turn : Option Turn) → slice_get turns session ≡ turn → turn ≡ Some Turn.Chosen
-    by None at = absurd (absent_rests chosen mid session act
-        (clients_at named turns whole chosen rest session None parts at).1 leads)
-    by (Some Turn.Nobody) at = absurd (idle_rests chosen mid session act
-        (clients_at named turns whole chosen rest session (Some Turn.Nobody) parts at).1 leads)
-    by (Some Turn.Chosen) at = refl
-    by (Some Turn.Other) at = absurd (idle_rests chosen mid session act
-        (clients_at named turns whole chosen rest session (Some Turn.Other) parts at).3 leads)
-    by (Some Turn.Within) at = absurd (idle_rests chosen mid session act
-        (clients_at named turns whole chosen rest session (Some Turn.Within) parts at).3 leads)
-    by (Some Turn.Rest) at = absurd (idle_rests chosen mid session act
-        (clients_at named turns whole chosen rest session (Some Turn.Rest) parts at).3 leads)
-    by (Some Turn.Ending) at = absurd (idle_rests chosen mid session act
-        (clients_at named turns whole chosen rest session (Some Turn.Ending) parts at).3 leads)
+chosen_turn named turns whole chosen rest mid session act parts leads =
+    grind (arith, absent_rests, clients_at, idle_rests)
 
 -- an act in the other part is of a session whose open call belongs to that part, or that may have a branch
 rest_turn : (named : List ℕ → Bool) (turns : List Turn) (whole chosen rest mid : Config)
     (session : ℕ) (act : Act) → AreParts named turns whole chosen rest
     → effect_of rest session act ≡ Some mid
     → (turn : Turn) × (slice_get turns session ≡ Some turn) × (is_rest turn ≡ true)
-rest_turn named turns whole chosen rest mid session act parts leads = by (slice_get turns session) refl
-  where
-    by : (found : Option Turn) → slice_get turns session ≡ found
-        → (turn : Turn) × (slice_get turns session ≡ Some turn) × (is_rest turn ≡ true)
-    by None at = absurd (absent_rests rest mid session act
-        (clients_at named turns whole chosen rest session None parts at).2 leads)
-    by (Some Turn.Nobody) at = absurd (idle_rests rest mid session act
-        (clients_at named turns whole chosen rest session (Some Turn.Nobody) parts at).2 leads)
-    by (Some Turn.Chosen) at = absurd (idle_rests rest mid session act
-        (clients_at named turns whole chosen rest session (Some Turn.Chosen) parts at).4 leads)
-    by (Some Turn.Other) at = (Turn.Other, at, refl)
-    by (Some Turn.Within) at = (Turn.Within, at, refl)
-    by (Some Turn.Rest) at = (Turn.Rest, at, refl)
-    by (Some Turn.Ending) at = (Turn.Ending, at, refl)
+rest_turn named turns whole chosen rest mid session act parts leads =
+    grind (arith, absent_rests, clients_at, idle_rests, is_rest)
 
 -- ---- from the whole to the parts
 

@@ -4,20 +4,19 @@
 --     free_join, other_join            a request of one part is answered there as in the whole;  states stay joined
 --     none_apart, none_listed          a state without branches
 --     joined_first, joined_with        before all events;  if other sessions count as those that have no branch
-use Rattle.std.proofs.Common.{◌≡◌, ◌⊎◌, ℕ, ◌==◌, List, [], ◌∷◌, refl, ap, sym, ◌∙◌, subst, Bool, true, false, inl, inr}
-use Rattle.std.specs.{Prelude.{Option, Some, None, cond, not, is_some, ◌&&◌, ◌||◌, map as map_list}, List.list_any}
-use Rattle.std.specs.{Option.{option_map, option_map_or, option_and_then}, Ordering.eq_by_cmp}
+use Rattle.std.proofs.Common.{◌≡◌, ◌⊎◌, ℕ, List, [], ◌∷◌, refl, ap, sym, ◌∙◌, subst, Bool, true, false, inl, inr, arith}
+use Rattle.std.specs.{Prelude.{Option, Some, None, cond, not, ◌||◌, map as map_list}, List.list_any}
+use Rattle.std.specs.{Option.{option_map, option_map_or}, Ordering.eq_by_cmp}
 use Rattle.std.specs.FinMap.{get-empty, get-insert, get-remove, get-entries}
 use mathlib.Core.Bool.{true≢false}
 use Rattle.xa_xid.specs.declared.{xid.Xid.Xid, statement.Statement.Statement}
 use Rattle.xa_xid.{specs.Xid.{Text, bytes_cmp, xid_cmp, same_xid}, proofs.Orders.{bytes_total, exact_texts}}
-use Rattle.xa_server.specs.declared.{branch.Phase.Phase, reply.Reply.Reply, xa_error.XaError.XaError}
+use Rattle.xa_server.specs.declared.{branch.Phase.Phase, reply.Reply.Reply}
 use Rattle.xa_server.specs.declared.{association.Association.Association, overview.BranchEntry.BranchEntry}
-use Rattle.xa_server.specs.State.{Write, Branch, State, Shared, Exclusive, owner_at, association_in, association_of}
-use Rattle.xa_server.specs.{State.{phase_at, committed_value}, Overview.{entry_of, branches_of}}
-use Rattle.xa_server.specs.{Locks.{is_another, holds, is_held_against}, Replies.{refused_if, table, reply_to}}
-use Rattle.xa_server.specs.Step.{started_by, with_branch, with_changed, with_write, with_writes, with_lock}
-use Rattle.xa_server.specs.Step.{with_own_write, without_branch, row_written, committed, unless_refused, effect, after}
+use Rattle.xa_server.specs.State.{committed_value, Write, Branch, State, association_of}
+use Rattle.xa_server.specs.{Overview.{entry_of, branches_of}, Locks.is_held_against, Replies.{table, reply_to}}
+use Rattle.xa_server.specs.Step.{started_by, with_changed, with_write, with_writes, with_lock}
+use Rattle.xa_server.specs.Step.{with_own_write, without_branch, row_written, committed, effect, after}
 use Rattle.xa_server.proofs.{Maps.{same_or_apart, get_inserted_apart, get_removed_apart}, Seen.owned_is}
 use Rattle.xa_server.proofs.{Changes.{idle, detached, branch_after, effect-branch, outcome}, Others.none_found}
 use Rattle.xa_judge.specs.{declared.{request.Request.Request, answer.Answer.Answer}, Explained.{answer_to, next_state}}
@@ -31,24 +30,19 @@ use Rattle.std.specs.FinMap as map
 -- a key that is named differs from one that isn't
 unlike : (named : List ℕ → Bool) (key other : List ℕ) → named other ≡ false → named key ≡ true
     → eq_by_cmp bytes_cmp key other ≡ false
-unlike named key other unnamed is = elim (same_or_apart bytes_total exact_texts key other) [
-  | inl e ↦ absurd (true≢false (sym is ∙ ap named e ∙ unnamed))
-  | inr apart ↦ apart
-]
+unlike named key other unnamed is = grind (arith, bytes_total, exact_texts, same_or_apart, true≢false)
 
 -- if two branches are apart (`IsApartAt`), so is the one of them that a test picks
 either_apart : (named : List ℕ → Bool) (free : ℕ → Bool) (b : Bool) (one other : Option Branch)
     → IsApartAt named free one → IsApartAt named free other → IsApartAt named free (cond b one other)
-either_apart named free true one other is was = is
-either_apart named free false one other is was = was
+either_apart named free b one other is was = grind (arith)
 
 -- if a change keeps each branch apart, a branch that is there and apart (`IsApartAt`) is still apart once it was
 -- changed
 changed_apart : (named : List ℕ → Bool) (free : ℕ → Bool) (change : Branch → Branch) (found : Option Branch)
     → ((branch : Branch) → IsApartBranch named free branch → IsApartBranch named free (change branch))
     → IsApartAt named free found → IsApartAt named free (option_map change found)
-changed_apart named free change None keeps was = tt
-changed_apart named free change (Some branch) keeps was = keeps branch was
+changed_apart named free change found keeps was = grind (arith)
 
 -- a branch that a session starts is apart, if the session may have one
 start_apart : (named : List ℕ → Bool) (free : ℕ → Bool) (session : ℕ) → free session ≡ false
@@ -65,41 +59,19 @@ start_apart named free session not_free = record {
 -- a branch that is apart stays so once it shares a row that isn't chosen
 lock_apart : (named : List ℕ → Bool) (free : ℕ → Bool) (key : List ℕ) (branch : Branch) → named key ≡ false
     → IsApartBranch named free branch → IsApartBranch named free (with_lock key branch)
-lock_apart named free key branch unnamed was = record {
-  owner = was.owner;
-  writes = was.writes;
-  locks = λ other is. by (map.contains_key branch.locks key) other is;
-}
-  where
-    by : (b : Bool) (other : List ℕ) → named other ≡ true
-        → map.get (cond b branch.locks (map.insert branch.locks key Shared)) other ≡ None
-    by true other is = was.locks other is
-    by false other is = get_inserted_apart bytes_total exact_texts branch.locks key Shared other
-        (unlike named other key unnamed is) ∙ was.locks other is
+lock_apart named free key branch unnamed was = grind (arith, bytes_total, exact_texts, get_inserted_apart, unlike)
 
 -- a branch that is apart stays so once it writes a row that isn't chosen
 write_apart : (named : List ℕ → Bool) (free : ℕ → Bool) (key : List ℕ) (write : Write) (branch : Branch)
     → named key ≡ false → IsApartBranch named free branch → IsApartBranch named free (with_own_write key write branch)
-write_apart named free key write branch unnamed was = record {
-  owner = was.owner;
-  writes = λ other is. get_inserted_apart bytes_total exact_texts branch.writes key write other
-      (unlike named other key unnamed is) ∙ was.writes other is;
-  locks = λ other is. get_inserted_apart bytes_total exact_texts branch.locks key Exclusive other
-      (unlike named other key unnamed is) ∙ was.locks other is;
-}
+write_apart named free key write branch unnamed was =
+    grind (arith, bytes_total, exact_texts, get_inserted_apart, unlike)
 
 -- a branch that is apart stays so once it is detached
 detached_apart : (named : List ℕ → Bool) (free : ℕ → Bool) (branch : Branch) → IsApartBranch named free branch
     → IsApartBranch named free (detached branch)
 unfolding detached
-detached_apart named free branch was = record {
-  owner = λ session is e. not_owned session e;
-  writes = was.writes;
-  locks = was.locks;
-}
-  where
-    not_owned : (session : ℕ) → ◌≡◌ {A = Option ℕ} None (Some session) → ⊥
-    not_owned session e = cc
+detached_apart named free branch was = grind (arith)
 
 -- a branch that is apart stays so once the work on it has ended
 idle_apart : (named : List ℕ → Bool) (free : ℕ → Bool) (branch : Branch) → IsApartBranch named free branch
@@ -113,43 +85,20 @@ branch_apart : (named : List ℕ → Bool) (free : ℕ → Bool) (session : ℕ)
     → IsOtherRequest named free session (Request.Statement statement)
     → IsApartAt named free found → IsApartAt named free (branch_after session association statement at found)
 unfolding branch_after
-branch_apart named free session association (Statement.Start xid) at found other was =
-    either_apart named free (same_xid at xid) (Some (started_by session)) found
-    (start_apart named free session other) was
-branch_apart named free session association (Statement.End xid) at found other was =
-    either_apart named free (same_xid at xid) (option_map idle found) found
-    (changed_apart named free idle found (idle_apart named free) was) was
-branch_apart named free session association (Statement.Prepare xid) at found other was =
-    either_apart named free (same_xid at xid) (option_map detached found) found
-    (changed_apart named free detached found (detached_apart named free) was) was
-branch_apart named free session association (Statement.Commit xid one_phase) at found other was =
-    either_apart named free (same_xid at xid) None found tt was
-branch_apart named free session association (Statement.Rollback xid) at found other was =
-    either_apart named free (same_xid at xid) None found tt was
-branch_apart named free session association (Statement.Recover convert) at found other was = was
-branch_apart named free session association Statement.Unsupported at found other was = was
-branch_apart named free session Association.Free (Statement.Get key) at found other was = was
-branch_apart named free session (Association.Active own) (Statement.Get key) at found other was =
-    either_apart named free (same_xid at own) (option_map (with_lock key) found) found
-    (changed_apart named free (with_lock key) found (λ b. lock_apart named free key b other) was) was
-branch_apart named free session (Association.Idle own) (Statement.Get key) at found other was = was
-branch_apart named free session Association.Free (Statement.Put key value) at found other was = was
-branch_apart named free session (Association.Active own) (Statement.Put key value) at found other was =
-    either_apart named free (same_xid at own) (option_map (with_own_write key (Some value)) found) found
-    (changed_apart named free (with_own_write key (Some value)) found
-    (λ b. write_apart named free key (Some value) b other) was) was
-branch_apart named free session (Association.Idle own) (Statement.Put key value) at found other was = was
-branch_apart named free session Association.Free (Statement.Del key) at found other was = was
-branch_apart named free session (Association.Active own) (Statement.Del key) at found other was =
-    either_apart named free (same_xid at own) (option_map (with_own_write key None) found) found
-    (changed_apart named free (with_own_write key None) found
-    (λ b. write_apart named free key None b other) was) was
-branch_apart named free session (Association.Idle own) (Statement.Del key) at found other was = was
-branch_apart named free session Association.Free Statement.Disconnect at found other was = was
-branch_apart named free session (Association.Active own) Statement.Disconnect at found other was =
-    either_apart named free (same_xid at own) None found tt was
-branch_apart named free session (Association.Idle own) Statement.Disconnect at found other was =
-    either_apart named free (same_xid at own) None found tt was
+branch_apart named free session association statement at found other was =
+    grind (
+      arith,
+      changed_apart,
+      detached,
+      detached_apart,
+      either_apart,
+      idle,
+      idle_apart,
+      lock_apart,
+      same_xid,
+      start_apart,
+      write_apart,
+    )
 
 -- a statement of the other part leaves every branch apart (`IsApart`)
 statement_apart : (named : List ℕ → Bool) (free : ℕ → Bool) (state : State) (session : ℕ) (statement : Statement)
@@ -167,9 +116,7 @@ statement_apart named free state session statement other was = elim (outcome sta
 pub apart_after : (named : List ℕ → Bool) (free : ℕ → Bool) (state : State) (session : ℕ) (request : Request)
     → IsOtherRequest named free session request
     → IsApart named free state → IsApart named free (next_state state session request)
-apart_after named free state session Request.Unread other was = was
-apart_after named free state session (Request.Statement statement) other was =
-    statement_apart named free state session statement other was
+apart_after named free state session request other was = grind (arith, statement_apart)
 
 -- ---- what follows for the sessions that have no branch, and for the chosen rows
 
@@ -178,18 +125,7 @@ pub free_of : (named : List ℕ → Bool) (free : ℕ → Bool) (state : State) 
     → free session ≡ true
     → association_of state session ≡ Association.Free
 unfolding association_of
-free_of named free state session are is =
-    ap (λ own. option_map_or (λ xid. association_in (phase_at state xid) xid) own Association.Free)
-    (none_found state session (λ xid e. by (map.get state.branches xid) (are xid)
-    (owned_is (owner_at state xid) session e)))
-  where
-    not_owned : ◌≡◌ {A = Option ℕ} None (Some session) → ⊥
-    not_owned e = cc
-
-    by : (found : Option Branch) → IsApartAt named free found
-        → option_and_then (λ (b : Branch). b.owner) found ≡ Some session → ⊥
-    by None at e = not_owned e
-    by (Some branch) at e = at.owner session is e
+free_of named free state session are is = grind (arith, none_found, owned_is)
 
 -- a test that nothing passes is passed by none of a list
 none_any : (p : Xid → Bool) (xs : List Xid) → ((x : Xid) → p x ≡ false) → list_any p xs ≡ false
@@ -201,14 +137,7 @@ pub unheld : (named : List ℕ → Bool) (free : ℕ → Bool) (state : State) (
     → named key ≡ true
     → is_held_against state Association.Free key ≡ false
 unfolding is_held_against
-unheld named free state key are is =
-    none_any (λ xid. is_another Association.Free xid && holds state xid key) (map.keys state.branches)
-    (λ xid. by (map.get state.branches xid) (are xid))
-  where
-    by : (found : Option Branch) → IsApartAt named free found
-        → is_some (option_and_then (λ (b : Branch). map.get b.locks key) found) ≡ false
-    by None at = refl
-    by (Some branch) at = ap is_some (at.locks key is)
+unheld named free state key are is = grind (arith, none_any)
 
 -- ---- what a request of the other part does to chosen rows
 
@@ -238,12 +167,7 @@ unwritten key (write ∷ writes) rows none =
 -- changing a branch leaves all committed values
 changed_rows : (state : State) (xid : Xid) (change : Branch → Branch)
     → (with_changed state xid change).rows ≡ state.rows
-changed_rows state xid change = by (map.get state.branches xid)
-  where
-    by : (found : Option Branch)
-        → (option_map_or (λ branch. with_branch state xid (change branch)) found state).rows ≡ state.rows
-    by None = refl
-    by (Some branch) = refl
+changed_rows state xid change = grind (arith)
 
 -- committing a branch leaves the values of the chosen rows, if every branch is apart
 committed_rows : (named : List ℕ → Bool) (free : ℕ → Bool) (state : State) (xid : Xid) (key : List ℕ)
@@ -264,13 +188,8 @@ committed_rows named free state xid key are is = by (map.get state.branches xid)
 written_rows : (named : List ℕ → Bool) (state : State) (association : Association) (other key : List ℕ)
     (write : Write) → named other ≡ false → named key ≡ true
     → committed_value (row_written state association other write) key ≡ committed_value state key
-written_rows named state Association.Free other key None unnamed is =
-    get_removed_apart bytes_total exact_texts state.rows other key (unlike named key other unnamed is)
-written_rows named state Association.Free other key (Some value) unnamed is =
-    get_inserted_apart bytes_total exact_texts state.rows other value key (unlike named key other unnamed is)
-written_rows named state (Association.Active own) other key write unnamed is =
-    ap (λ rows. map.get rows key) (changed_rows state own (with_own_write other write))
-written_rows named state (Association.Idle own) other key write unnamed is = refl
+written_rows named state association other key write unnamed is =
+    grind (arith, bytes_total, changed_rows, exact_texts, get_inserted_apart, get_removed_apart, unlike)
 
 -- the effect of a statement of the other part leaves the values of the chosen rows, if every branch is apart
 effect_rows : (named : List ℕ → Bool) (free : ℕ → Bool) (state : State) (session : ℕ) (association : Association)
@@ -322,10 +241,7 @@ pub free_get : (state : State) (session : ℕ) (key : List ℕ) → association_
     → (reply_to state session (Statement.Get key) ≡ Reply.Value (committed_value state key)) ×
     (after state session (Statement.Get key) ≡ state)
 unfolding reply_to table effect after
-free_get state session key free = (
-  ap (λ a. table state a (Statement.Get key)) free,
-  ap (λ a. unless_refused (table state a (Statement.Get key)) state (effect state session a (Statement.Get key))) free,
-)
+free_get state session key free = grind (arith)
 
 -- a session that has nothing open writes a row at once that nobody holds
 pub free_put : (state : State) (session : ℕ) (key : List ℕ) (value : Text) → association_of state session ≡
@@ -334,13 +250,7 @@ pub free_put : (state : State) (session : ℕ) (key : List ℕ) (value : Text) �
     → (reply_to state session (Statement.Put key value) ≡ Reply.Ok)
     × (after state session (Statement.Put key value) ≡ record state { rows = with_write key (Some value) state.rows })
 unfolding reply_to table effect after
-free_put state session key value free nobody = (
-  ap (λ a. table state a (Statement.Put key value)) free ∙ ap (λ b. refused_if b XaError.RowLocked Reply.Ok) nobody,
-  ap (λ a. unless_refused (table state a (Statement.Put key value)) state
-      (effect state session a (Statement.Put key value))) free
-      ∙ ap (λ b. unless_refused (refused_if b XaError.RowLocked Reply.Ok) state
-      (record state { rows = with_write key (Some value) state.rows })) nobody,
-)
+free_put state session key value free nobody = grind (arith)
 
 -- a session that has nothing open deletes a row at once that nobody holds
 pub free_del : (state : State) (session : ℕ) (key : List ℕ) → association_of state session ≡ Association.Free
@@ -348,12 +258,7 @@ pub free_del : (state : State) (session : ℕ) (key : List ℕ) → association_
     → (reply_to state session (Statement.Del key) ≡ Reply.Ok)
     × (after state session (Statement.Del key) ≡ record state { rows = with_write key None state.rows })
 unfolding reply_to table effect after
-free_del state session key free nobody = (
-  ap (λ a. table state a (Statement.Del key)) free ∙ ap (λ b. refused_if b XaError.RowLocked Reply.Ok) nobody,
-  ap (λ a. unless_refused (table state a (Statement.Del key)) state (effect state session a (Statement.Del key))) free
-      ∙ ap (λ b. unless_refused (refused_if b XaError.RowLocked Reply.Ok) state
-      (record state { rows = with_write key None state.rows })) nobody,
-)
+free_del state session key free nobody = grind (arith)
 
 -- ---- the whole, by its parts
 
@@ -444,8 +349,7 @@ free_join named free whole chosen rest session request joined is = absurd is
 reads_others : (named : List ℕ → Bool) (free : ℕ → Bool) (session : ℕ) (request : Request)
     → IsOtherRequest named free session request
     → ReadsNamed (unnamed named) request
-reads_others named free session (Request.Statement (Statement.Get key)) other = ap not other
-reads_others named free session request other = tt
+reads_others named free session request other = grind (arith)
 
 -- a request of the other part is answered there as in the whole, and leaves the three states joined (`AreJoined`)
 pub other_join : (named : List ℕ → Bool) (free : ℕ → Bool) (whole chosen rest : State) (session : ℕ)
@@ -479,40 +383,11 @@ none_listed state none xid = get-entries state.branches xid ∙ by (map.entries 
 -- before all events a base without branches is the whole and both parts (`AreJoined`)
 pub joined_first : (named : List ℕ → Bool) (free : ℕ → Bool) (base : State) → HasNoBranch base
     → AreJoined named free base base base
-joined_first named free base none = record {
-  near = near_refl (unnamed named) base;
-  rows = λ key is. refl;
-  apart = none_apart named free base none;
-  none = none;
-}
+joined_first named free base is = grind (arith, near_refl, none_apart)
 
 -- the three states stay joined if `more` are the sessions that count as those without a branch: each of them did
 -- before, or owns no branch in the whole
 pub joined_with : (named : List ℕ → Bool) (free more : ℕ → Bool) (whole chosen rest : State)
     → ((session : ℕ) → more session ≡ true → (free session ≡ true) ⊎ OwnsNone whole session)
     → AreJoined named free whole chosen rest → AreJoined named more whole chosen rest
-joined_with named free more whole chosen rest has joined = record {
-  near = joined.near;
-  rows = joined.rows;
-  apart = λ xid. by xid (map.get whole.branches xid) refl (joined.apart xid);
-  none = joined.none;
-}
-  where
-    owned : (found : Option Branch) (branch : Branch) (session : ℕ) → found ≡ Some branch
-        → branch.owner ≡ Some session
-        → option_map_or (λ owner. owner == session) (option_and_then (λ (b : Branch). b.owner) found) false ≡ true
-    owned found branch session at is =
-        ap (λ f. option_map_or (λ owner. owner == session) (option_and_then (λ (b : Branch). b.owner) f) false) at
-        ∙ ap (λ o. option_map_or (λ owner. owner == session) o false) is ∙ same_test session
-
-    by : (xid : Xid) (found : Option Branch) → map.get whole.branches xid ≡ found → IsApartAt named free found
-        → IsApartAt named more found
-    by xid None at was = tt
-    by xid (Some branch) at was = record {
-      owner = λ session is e. elim (has session is) [
-        | inl before ↦ was.owner session before e
-        | inr none ↦ none xid (owned (map.get whole.branches xid) branch session at e)
-      ];
-      writes = was.writes;
-      locks = was.locks;
-    }
+joined_with named free more whole chosen rest has joined = grind (arith, same_test)

@@ -12,7 +12,7 @@ use Rattle.xa_judge.specs.declared.{answer.Answer.Answer, event.{Seen.Seen, Even
 use Rattle.xa_judge.specs.declared.{client_state.ClientState.TheVariants.Idle, moves.Move.Move, verdict.Verdict.Verdict}
 use Rattle.xa_judge.specs.declared.turn.Turn.{Turn, TheVariants.{Nobody, Ending}}
 use Rattle.xa_judge.specs.{Explained.{Config, opening_config, LeadsThrough, Explained}, Keys.{FitsTurn, first_turns}}
-use Rattle.xa_judge.specs.Keys.{free_in, IsCut, turns_after, turns_past, picked, count_in, session_of, HasNoBranch}
+use Rattle.xa_judge.specs.Keys.{IsCut, turns_after, turns_past, picked, count_in, session_of, HasNoBranch}
 use Rattle.xa_judge.{specs.Verdicts.{IsRefuted, CouldBe, AreAllAnswers, IsVerdict}, proofs.Places.get_within}
 use Rattle.xa_judge.proofs.{Clean.law_none, KeyStates.joined_first, KeyRuns.{clients_at, in_parts, whole_of}}
 use Rattle.xa_judge.proofs.KeyClients.{AreClients, AreParts, same_chosen, same_rest}
@@ -40,12 +40,7 @@ none_ends (suc count) (suc at) e = none_ends count at e
 pub parts_first : (named : List ℕ → Bool) (base : State) → HasNoBranch base
     → AreParts named first_turns (opening_config base) (opening_config base) (opening_config base)
 unfolding opening_config first_turns
-parts_first named base none = record {
-  states = joined_first named (free_in first_turns) base none;
-  clients = λ session. clients_first named 17 session;
-  law = law_none base none;
-  ended = λ session ending answered xid e. absurd (none_ends 17 session ending);
-}
+parts_first named base is = grind (arith, clients_first, joined_first, law_none, none_ends)
 
 -- ---- places
 
@@ -229,14 +224,8 @@ same_client : (named : List ℕ → Bool) (turns : List Turn) (whole chosen rest
     → slice_get turns session ≡ Some turn
     → FitsTurn named turn (Return session seen) wanted
     → slice_get whole.clients session ≡ slice_get ((part_of wanted chosen rest).clients) session
-same_client named turns whole chosen rest session seen turn true parts at fits =
-    let same = same_chosen named turn (Return session seen) _ _ _ fits
-    (clients_at named turns whole chosen rest session (Some turn) parts at) in
-    same.1 ∙ sym same.2
-same_client named turns whole chosen rest session seen turn false parts at fits =
-    let same = same_rest named turn _ _ _ fits
-    (clients_at named turns whole chosen rest session (Some turn) parts at) in
-    same.2 ∙ sym same.4
+same_client named turns whole chosen rest session seen turn wanted parts at fits =
+    grind (arith, clients_at, same_chosen, same_rest)
 
 -- an answer that a call could have in its part, it could have in the record, if the other part is explained up to
 -- there
@@ -352,12 +341,8 @@ pub answers_part : (named : List ℕ → Bool) (base : State) (sides : List Bool
     → Explained base (picked (not wanted) (take place sides) (take place events))
     → AreAllAnswers base (picked wanted sides events) (count_in wanted (take place sides)) answers
     → AreAllAnswers base events place answers
-answers_part named base sides events wanted place answers apart cut at other are = record {
-  each = λ k answer below. could_whole named base sides events wanted place (slice_index_or answers k answer)
-      apart cut at other (are.each k answer below);
-  all = λ answer could. are.all answer (could_part named base sides events wanted place answer apart cut at
-      could);
-}
+answers_part named base sides events wanted place answers apart cut at other are =
+    grind (arith, could_part, could_whole, slice_index_or)
 
 -- ---- verdicts
 

@@ -4,6 +4,7 @@
 --     SettledOnly, SeenOnly, settled_none  what is left of a list, and what was made;  before the first step
 --     settled_only, seen_only     what was made of a list comes of it
 --     opens_kept, kept_on      all of a list may be kept before all events;  after one event more
+use Rattle.std.proofs.lemmas.{Bool.Decides.nat_tests, Grind.common_steps}
 use Rattle.std.proofs.Common.{◌≡◌, ◌≢◌, ◌⊎◌, ℕ, ◌+◌, ◌<◌, suc, Option, Some, List, [], ◌∷◌, ◌++◌, length, get_or, true}
 use Rattle.std.{proofs.Common.{false, refl, ap, sym, ◌∙◌, subst, inl, inr, arith}, specs.Option.option_map}
 use Rattle.std.{proofs.lemmas.{Option.{same_Some, slice_get_read}, Bool.cases_lt}, specs.Prelude.slice_get}
@@ -23,8 +24,7 @@ has_none c has = omega (arith, has.1)
 -- what a list has once a configuration was added unless it was there, it had before or is that one
 added_last : (old new : List Configuration) (one : Configuration) (c : Config) → AddsUnlessThere old one new → Has new c
     → Has old c ⊎ (config_of one ≡ c)
-added_last old new one c (inl was) has = inl (subst (λ l. Has l c) was.1 has)
-added_last old new one c (inr is) has = has_last old new one c is has
+added_last old new one c is has = grind (arith, common_steps, nat_tests, has_last)
 
 -- if a list stays as it is, nothing was added but what an act that counts leads to from `one` (`AddsOnly`)
 pub adds_none : (returning : Option ℕ) (one : Config) (list : List Configuration) → AddsOnly returning one list list
@@ -34,10 +34,7 @@ adds_none returning one list = λ config has. inl has
 pub adds_more : (returning : Option ℕ) (one : Config) (old mid new : List Configuration)
     → AddsOnly returning one old mid
     → AddsOnly returning one mid new → AddsOnly returning one old new
-adds_more returning one old mid new first second = λ config has. elim (second config has) [
-  | inl there ↦ first config there
-  | inr next ↦ inr next
-]
+adds_more returning one old mid new first second = grind (arith)
 
 -- if what an act leads to from the configuration at a place is added unless it is there, and the act is of another
 -- session than the returning one, which isn't answered, only what an act that counts leads to is added (`AddsOnly`)
@@ -49,19 +46,8 @@ pub adds_effect : (old new : List Configuration) (place : ℕ) (one next : Confi
     → (other : Configuration) (returning : Option ℕ) → slice_get old place ≡ Some other → returning ≢ Some session
     → is_over returning (config_of other) ≡ false
     → AddsOnly returning (config_of other) old new
-adds_effect old new place one next found session act at is effect some added other returning there apart unanswered =
-    λ config has. elim (added_last old new next config added has) [
-      | inl was ↦ inl was
-      | inr same ↦ inr (record {
-        session = session;
-        act = act;
-        is = is;
-        other = apart;
-        unanswered = unanswered;
-        leads = ap (λ o. effect_of (config_of o) session act) (same_Some other one (sym there ∙ at)) ∙ sym effect
-            ∙ ap (option_map config_of) some ∙ ap Some same;
-      })
-    ]
+adds_effect old new place one next found session act at is effect also added other returning there apart unanswered =
+    grind (arith, common_steps, nat_tests, added_last, option_map, same_Some)
 
 -- if acts that count lead from the first list to all of the old one (`IsReachedFrom`), they lead to all of the new
 -- one, to which only what one such act leads to from the configuration at a place was added (`AddsOnly`)
@@ -98,8 +84,7 @@ last_of first known rest one parts of = of (config_of one) (has_pushed rest know
 -- if all of a list is in a first one, so is all of it but its last configuration
 rest_of : (first known rest : List Configuration) (one : Configuration) → known ≡ rest ++ one ∷ []
     → ((config : Config) → Has known config → Has first config) → (config : Config) → Has rest config → Has first config
-rest_of first known rest one parts of config has =
-    of config (subst (λ l. Has l config) (sym parts) (has_more rest (one ∷ []) config has))
+rest_of first known rest one parts of config has = grind (arith, common_steps, nat_tests, has_more)
 
 -- one round of the loop that settles configurations: `SettledOnly` still holds once the last one was taken off, and
 -- what it settles to put behind the list
@@ -154,14 +139,8 @@ pub heard_more : (known : List Configuration) (place session : ℕ) (one : Confi
     → has_unheard (config_of other) session ≡ false)
     → (k : ℕ) (other : Configuration) → k < place + 1 → slice_get known k ≡ Some other
     → has_unheard (config_of other) session ≡ false
-heard_more known place session one within at is before k other below found = elim (cases_lt k place) [
-  | inl less ↦ before k other less found
-  | inr more ↦
-      let here : slice_get known place ≡ Some one = slice_get_read known (length known) place one refl within at in
-      let same : k ≡ place = omega (arith, below, more) in
-      let one_is : one ≡ other = same_Some one other (sym here ∙ ap (slice_get known) (sym same) ∙ found) in
-      ap (λ o. has_unheard (config_of o) session) (sym one_is) ∙ is
-]
+heard_more known place session one within at is before k other below found =
+    grind (arith, cases_lt, same_Some, slice_get_read)
 
 -- what is reached by acts (`IsReachedFrom`) if some configurations are kept is reached if more are
 reached_of_more : (P Q : Config → Type 0) (returning : Option ℕ) (config : Config)
@@ -181,10 +160,7 @@ widens_of_more P Q (Unknown session) wider is = is
 -- a configuration that counts for an event (`IsCounted`) if some are kept counts for it if more are
 pub counted_of_more : (P Q : Config → Type 0) (event : Event) (config : Config) → ((one : Config) → P one → Q one)
     → IsCounted P event config → IsCounted Q event config
-counted_of_more P Q event config wider is = record {
-  widens = widens_of_more P Q event wider is.widens;
-  reached = reached_of_more P Q _ config wider is.reached;
-}
+counted_of_more P Q event config wider is = grind (arith, reached_of_more, widens_of_more)
 
 -- a configuration that stands directly before an event (`IsReady`) if some are kept stands there if more are
 ready_of_more : (P Q : Config → Type 0) (event : Event) (config : Config) → ((one : Config) → P one → Q one)
@@ -200,10 +176,7 @@ ready_of_more P Q (Unknown session) config wider is = counted_of_more P Q (Unkno
 -- the opening configuration, which alone is in the list, is the one that is kept before all events
 pub opens_kept : (base : State) (events : List Event) (list : List Configuration) → IsOpening base list
     → (config : Config) → Has list config → IsKept base events 0 config
-opens_kept base events list is config has = elim (has_last [] list is.0 config is.1 has) [
-  | inl there ↦ absurd (has_none config there)
-  | inr same ↦ sym same ∙ is.2
-]
+opens_kept base events list is config has = grind (arith, has_last, has_none)
 
 -- if each of the old list may be kept before the event at a place (`IsKept`), and each of the next list after that
 -- event (`IsKeptAfter`), each of the new list may be kept before the next place. The new list is the next one with

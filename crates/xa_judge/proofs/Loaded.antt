@@ -3,7 +3,7 @@
 --                                       state after it, and nowhere else
 --     refuted_behind, answers_behind    what is refuted from the state is refuted behind the events, with the same
 --                                       answers
-use Rattle.std.proofs.Common.{◌≡◌, ◌≢◌, ◌==◌, ℕ, ◌+◌, ◌<◌, zero, suc, true, cond, Some, None, List, [], ◌∷◌, ◌++◌}
+use Rattle.std.proofs.Common.{◌≡◌, ◌≢◌, ◌==◌, ℕ, ◌+◌, ◌<◌, zero, suc, true, Some, List, [], ◌∷◌, ◌++◌}
 use Rattle.std.proofs.Common.{length, set, take, get_or, refl, ap, sym, ◌∙◌, subst, inl, inr, arith, append_assoc}
 use Rattle.std.proofs.{Common.length-append, lemmas.{Grind.common_steps, Option.{none-some, same_Some, cond_some}}}
 use Rattle.std.proofs.{lemmas.List.{set-set, get_or-replicate, length-replicate}, Math.Seq.take-append-add}
@@ -59,54 +59,39 @@ idle_at n session within =
 alone_opening : (state : State) (session : ℕ) → IsSession session
     → IsAlone ((opening_config state).clients) session Idle
 unfolding opening_config
-alone_opening state session is = record {
-  here = idle_at 17 session (omega (arith, is.1));
-  others = λ other among apart. idle_at 17 other (omega (arith, among.1));
-}
+alone_opening state session is = grind (arith, idle_at)
 
 -- once a session's client is replaced where all others are idle, it has the new one, and the others are still idle
 alone_written : (clients : List ClientState) (session : ℕ) (old new : ClientState) → IsAlone clients session old
     → IsAlone (set clients session new) session new
-alone_written clients session old new alone = record {
-  here = get_written clients session old new alone.here;
-  others = λ other among apart. get_apart clients session other new (λ e. apart (sym e))
-      ∙ alone.others other among apart;
-}
+alone_written clients session old new alone = grind (arith, get_apart, get_written)
 
 -- no act of an idle session can take effect
 idle_rests : (config new : Config) (session : ℕ) (act : Act) → slice_get config.clients session ≡ Some Idle
     → effect_of config session act ≡ Some new → ⊥
 unfolding effect_of carried_out disconnected
-idle_rests config new session Act.Statement found is =
-    none-some new (sym (ap (λ o. carried_out o config session) found) ∙ is)
-idle_rests config new session Act.Disconnect found is =
-    none-some new (sym (ap (λ o. disconnected o config session) found) ∙ is)
+idle_rests config new session act found is = grind (arith, none-some)
 
 -- no act of a session that has its answer can take effect
 answered_rests : (config new : Config) (session : ℕ) (act : Act) (answer : Answer)
     → slice_get config.clients session ≡ Some (Answered answer)
     → effect_of config session act ≡ Some new → ⊥
 unfolding effect_of carried_out disconnected
-answered_rests config new session Act.Statement answer found is =
-    none-some new (sym (ap (λ o. carried_out o config session) found) ∙ is)
-answered_rests config new session Act.Disconnect answer found is =
-    none-some new (sym (ap (λ o. disconnected o config session) found) ∙ is)
+answered_rests config new session act answer found is = grind (arith, none-some)
 
 -- the DISCONNECT of a session that has called and isn't answered can't take effect
 called_stays : (config new : Config) (session : ℕ) (request : Request)
     → slice_get config.clients session ≡ Some (Called request)
     → effect_of config session Act.Disconnect ≡ Some new → ⊥
 unfolding effect_of disconnected
-called_stays config new session request found is =
-    none-some new (sym (ap (λ o. disconnected o config session) found) ∙ is)
+called_stays config new session request found is = cc
 
 -- the call of a session whose request hasn't taken effect doesn't return
 called_open : (config new : Config) (session : ℕ) (request : Request) (seen : Seen)
     → slice_get config.clients session ≡ Some (Called request)
     → observed config (Return session seen) ≡ Some new → ⊥
 unfolding observed returned
-called_open config new session request seen found is =
-    none-some new (sym (ap (λ o. returned o config session seen) found) ∙ is)
+called_open config new session request seen found is = cc
 
 -- a call of an idle session can be seen
 idle_calls : (config : Config) (session : ℕ) (request : Request) → slice_get config.clients session ≡ Some Idle
@@ -119,18 +104,14 @@ answered_returns : (config : Config) (session : ℕ) (seen : Seen) (answer : Ans
     → slice_get config.clients session ≡ Some (Answered answer)
     → shows_answer seen answer ≡ true → observed config (Return session seen) ≡ Some (with_client config session Idle)
 unfolding observed returned
-answered_returns config session seen answer found shows =
-    ap (λ o. returned o config session seen) found ∙ ap (λ b. cond b
-    (Some (with_client config session Idle)) None) shows
+answered_returns config session seen answer found shows = cc
 
 -- a return makes its session idle, and changes nothing else
 returns_idle : (config new : Config) (session : ℕ) (seen : Seen) (answer : Answer)
     → slice_get config.clients session ≡ Some (Answered answer)
     → observed config (Return session seen) ≡ Some new → with_client config session Idle ≡ new
 unfolding observed returned
-returns_idle config new session seen answer found is =
-    (cond_some (shows_answer seen answer) (with_client config session Idle) new
-    (sym (ap (λ o. returned o config session seen) found) ∙ is)).1
+returns_idle config new session seen answer found is = grind (arith, cond_some)
 
 -- the configuration after the session's request took effect
 abbrev answered_config : Config → ℕ → Request → Config
@@ -220,12 +201,7 @@ idle_again : (state next : State) (session : ℕ) (one two : ClientState) → Is
           Idle;
     }
 unfolding opening_config
-idle_again state next session one two is =
-    let idle = replicate 17 Idle in
-    let back : set (set (set idle session one) session two) session Idle ≡ idle =
-    set-set (set idle session one) session two Idle ∙ set-set idle session one Idle
-    ∙ set_same idle session Idle (idle_at 17 session (omega (arith, is.1))) in
-    ap (λ l. record { state = next; clients = l }) (sym back)
+idle_again state next session one two is = grind (arith, idle_at, set-set, set_same)
 
 -- a call that returns its answer at once, where all are idle, leads to the state after it
 pub alone_leads : (state : State) (session : ℕ) (request : Request) (seen : Seen) → IsSession session
@@ -377,6 +353,4 @@ answers_behind base full first later place answers loaded are = record {
 
 -- a list of length 0 is empty
 pub none_left : (list : List Event) → (length list == 0) ≡ true → list ≡ []
-none_left [] empty = refl
-none_left (event ∷ list) empty =
-    absurd (let none : length (event ∷ list) ≡ 0 = grind (arith, common_steps) in omega arith)
+none_left list empty = grind (arith, common_steps)

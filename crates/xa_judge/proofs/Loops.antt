@@ -8,16 +8,17 @@
 --     effect_added, effects_added       what one act leads to is added;  what both acts of a session lead to
 --     others_more, closed_more          what acts of sessions up to one lead to is there;  from each place up to one
 --     contained_more, contained_end     elements that are taken up one after another
+use Rattle.std.proofs.lemmas.{Bool.Decides.nat_tests, Grind.common_steps}
 use Rattle.std.proofs.Common.{◌≡◌, ◌≢◌, ◌⊎◌, ℕ, ◌+◌, ◌<◌, ◌≤◌, take, Option, Some, None, List, [], ◌∷◌, ◌++◌, length}
 use Rattle.std.{proofs.Common.{get_or, refl, ap, sym, ◌∙◌, subst, inl, inr, arith}, specs.Prelude.{slice_get, IfSome}}
 use Rattle.std.proofs.lemmas.{Option.{same_Some, none-some, slice_get_read}, Bool.cases_lt, List.{take_more, take_all}}
-use Rattle.std.proofs.lemmas.List.Elements.{All-push, All-pop, Contains-append_left, Contains-push, Contains-push_cases}
+use Rattle.std.proofs.lemmas.List.Elements.{All-push, All-pop, Contains-append_left, Contains-push}
 use Rattle.std.specs.{Option.option_map, List.{All, Contains}}
 use Rattle.xa_server.specs.State.{State}
 use Rattle.xa_judge.specs.declared.{answer.Answer.Answer, client_state.ClientState.ClientState, event.Event.Event}
 use Rattle.xa_judge.specs.declared.{moves.{Act.Act, Move.Move}, configuration.Configuration.Configuration}
 use Rattle.xa_judge.specs.{Explained.{Config, effect_of, observed, IsSession}, Late.after_settling, Found.config_of}
-use Rattle.xa_judge.specs.Found.{configs, Has, Reaches, Grows, AddsUnlessThere, IsSettledFrom, IsSeenAdded}
+use Rattle.xa_judge.specs.Found.{Has, Reaches, Grows, AddsUnlessThere, IsSettledFrom, IsSeenAdded}
 use Rattle.xa_judge.specs.Found.{IsAnsweredIn, IsAnswerAdded, IsExpandedBelow, IsClosedBelow}
 use Rattle.xa_judge.proofs.{Places.{map_append, get_within, place_mapped}, Growth.{has_still, has_added, has_kept}}
 use Rattle.xa_judge.proofs.Growth.{still_there, all_added, reaches_effect, reaches_event, grows_added}
@@ -55,9 +56,7 @@ has_pushed list new one is = has_added list new one (inr is)
 pub has_last : (rest known : List Configuration) (one : Configuration) (c : Config) → known ≡ rest ++ one ∷ []
     → Has known c
     → Has rest c ⊎ (config_of one ≡ c)
-has_last rest known one c parts has =
-    Contains-push_cases (configs rest) (config_of one) c (subst (λ l. Contains l c)
-    (ap configs parts ∙ map_append config_of rest (one ∷ [])) has)
+has_last rest known one c parts has = grind (arith, common_steps, nat_tests, map_append)
 
 -- one round of the loop that settles: the last of `known` is taken off, and what it settles to is put behind the
 -- list. Each of the first list is still to come, or has what it settles to in the list (`SettlesBoth`), also after
@@ -79,9 +78,7 @@ settles_step session first known rest list new one next parts pushed is has = λ
 reaches_settled : (base : State) (events : List Event) (trunk : List Move) (session : ℕ) (one next : Configuration)
     → IsSettledFrom session one next
     → Reaches base events trunk one → Reaches base events trunk next
-reaches_settled base events trunk session one next (inl same) reach = subst (Reaches base events trunk) (sym same) reach
-reaches_settled base events trunk session one next (inr effect) reach =
-    reaches_effect base events trunk one next session Act.Statement reach effect.0 effect.1 effect.2
+reaches_settled base events trunk session one next is reach = grind (arith, reaches_effect)
 
 -- one round of the loop that settles: if the events lead to what is left and to what was made (`KeepsReachBoth`),
 -- they still do once the last one was taken off and its settled one put behind the list
@@ -281,15 +278,10 @@ module _ {X : Type 0} where
       → ((other : X) → Contains (take i xs) other → Contains old other)
       → (other : X) → Contains (take (i + 1) xs) other → Contains new other
   contained_more xs i x old new within at keeps here before other has =
-      elim (Contains-push_cases (take i xs) x other
-      (subst (λ l. Contains l other) (take_more xs i x within ∙ ap (λ y. take i xs ++ y ∷ []) (sym at)) has)) [
-        | inl there ↦ keeps other (before other there)
-        | inr same ↦ subst (λ y. Contains new y) same here
-      ]
+      grind (arith, common_steps, nat_tests, take_more)
 
   -- once all were taken up, each of them is in the new list
   pub contained_end : (xs : List X) (i : ℕ) (list : List X) → length xs ≤ i
       → ((other : X) → Contains (take i xs) other → Contains list other)
       → (other : X) → Contains xs other → Contains list other
-  contained_end xs i list over before other has =
-      before other (subst (λ l. Contains l other) (sym (take_all i xs over)) has)
+  contained_end xs i list over before other has = grind (arith, take_all)

@@ -1,7 +1,7 @@
 -- Moves that lead on from a configuration lead on from one on a near state, and to near ones.
 --     near_effect, near_event     where an effect, an event can be in one it can be in the other
 use Rattle.std.proofs.Common.{◌≡◌, ℕ, Bool, cond, Option, Some, None, List, [], ◌∷◌, replicate, set, zero, suc, refl}
-use Rattle.std.proofs.{Common.{ap, sym, ◌∙◌, subst, inl, inr}, lemmas.Option.{none-some, same_Some, cond_some}}
+use Rattle.std.proofs.{Common.{ap, sym, ◌∙◌, subst, arith}, lemmas.Option.{none-some, same_Some, cond_some}}
 use Rattle.std.{proofs.lemmas.List.Elements.recursion_from_All, specs.{Prelude.slice_get, List.{All, AllByRecursion}}}
 use Rattle.xa_xid.specs.declared.statement.Statement.TheVariants.{Disconnect as DisconnectGiven}
 use Rattle.xa_server.specs.{State.State, Step.after}
@@ -51,13 +51,8 @@ waits_set : (named : List ℕ → Bool) (clients : List ClientState) (session : 
     → ((session : ℕ) (client : ClientState) → slice_get clients session ≡ Some client → WaitsNamed named client)
     → (other : ℕ) (client : ClientState) → slice_get (set clients session next) other ≡ Some client
     → WaitsNamed named client
-waits_set named clients session before next found reads waits other client at = elim (same_number session other) [
-  | inl e ↦
-      let written : slice_get (set clients session next) other ≡ Some next =
-      ap (slice_get (set clients session next)) (sym e) ∙ get_written clients session before next found in
-      subst (WaitsNamed named) (same_Some next client (sym written ∙ at)) reads
-  | inr apart ↦ waits other client (sym (get_apart clients session other next apart) ∙ at)
-]
+waits_set named clients session before next found reads waits other client at =
+    grind (arith, get_apart, get_written, same_Some, same_number)
 
 -- two near configurations stay near once one session's client is replaced by the same one in both, whose open request
 -- reads only named rows, and the states by near ones
@@ -70,11 +65,7 @@ changed : (named : List ℕ → Bool) (left right : Config) (session : ℕ) (bef
     → WaitsNamed named next
     → AreNearConfigs named (record { state = state; clients = set left.clients session next })
     (record { state = beside; clients = set right.clients session same })
-changed named left right session before next same state beside near found e states reads = record {
-  clients = ap (λ l. set l session next) near.clients ∙ ap (set right.clients session) e;
-  states = states;
-  waits = waits_set named left.clients session before next found reads near.waits;
-}
+changed named left right session before next same state beside near found e states reads = grind (arith, waits_set)
 
 -- what a session called for can take effect from a near configuration, too; `o` is the session's client
 near_statement : (named : List ℕ → Bool) (o : Option ClientState) (left right mid : Config) (session : ℕ)
@@ -304,8 +295,4 @@ of_one (suc n) (suc place) one client at = of_one n place one client at
 pub near_opening : (named : List ℕ → Bool) (left right : State) → AreNear named left right
     → AreNearConfigs named (opening_config left) (opening_config right)
 unfolding opening_config
-near_opening named left right near = record {
-  clients = refl;
-  states = near;
-  waits = λ session client at. subst (WaitsNamed named) (of_one 17 session Idle client at) tt;
-}
+near_opening named left right near = grind (arith, of_one)

@@ -2,24 +2,24 @@
 --     near_next, near_after     a request, a statement leaves near states near
 --     near_put, near_del        so does a free session's write of a row that isn't named, on the left alone
 --     near_refl, near_sym       a state is near itself;  and near states are so in either order
-use Rattle.std.proofs.Common.{◌≡◌, ℕ, List, [], ◌∷◌, refl, ap, sym, ◌∙◌, subst, Bool, true, false, inl, inr}
+use Rattle.std.proofs.Common.{◌≡◌, ℕ, List, [], ◌∷◌, refl, ap, sym, ◌∙◌, subst, Bool, true, false, arith}
 use Rattle.std.specs.{Prelude.{Option, Some, None, cond}, Option.{option_map_or, unwrap_or}, Ordering.eq_by_cmp}
 use Rattle.std.specs.FinMap.{get-insert, get-remove}
 use mathlib.Core.Bool.{true≢false}
 use Rattle.xa_xid.specs.declared.{xid.Xid.Xid, statement.Statement.{Statement, TheVariants.{Start, End, Prepare}}}
 use Rattle.xa_xid.specs.declared.statement.Statement.TheVariants.{Commit, Rollback, Recover, Unsupported, Get, Put, Del}
-use Rattle.xa_xid.specs.{declared.statement.Statement.TheVariants.Disconnect, Xid.{Text, bytes_cmp, xid_cmp, same_xid}}
+use Rattle.xa_xid.specs.{declared.statement.Statement.TheVariants.Disconnect, Xid.{Text, bytes_cmp, xid_cmp}}
 use Rattle.xa_xid.proofs.Orders.{bytes_total, exact_texts}
 use Rattle.xa_server.specs.declared.branch.Phase.TheVariants.{Idle as PhaseIdle, Prepared as PhasePrepared}
 use Rattle.xa_server.specs.declared.{reply.Reply.Reply, xa_error.{XaError.XaError, BranchState.TheVariants.NonExisting}}
 use Rattle.xa_server.specs.declared.association.Association.{Association, TheVariants.{Free, Active, Idle}}
 use Rattle.xa_server.specs.State.{Write, Branch, State, own_xid, association_of, write_at, prepared_xids}
-use Rattle.xa_server.specs.{Locks.{is_held_against, is_locked_against}, Replies.{ok_if, refused_if, table, reply_to}}
-use Rattle.xa_server.specs.Step.{with_branch, with_changed, with_write, with_writes, with_lock, with_own_write}
+use Rattle.xa_server.specs.{Locks.{is_held_against, is_locked_against}, Replies.{refused_if, table, reply_to}}
+use Rattle.xa_server.specs.Step.{with_changed, with_write, with_writes, with_lock, with_own_write}
 use Rattle.xa_server.specs.Step.{without_branch, committed, row_written, is_refused, unless_refused, effect, after}
 use Rattle.xa_server.proofs.{Maps.{same_or_apart, get_inserted_apart, get_removed_apart}, Steps.same_state}
 use Rattle.xa_judge.specs.declared.request.Request.{Request, TheVariants.{Statement as Given, Unread}}
-use Rattle.xa_judge.specs.{declared.answer.Answer.Answer, Explained.{answer_to, next_state}, Near.{AreNear, ReadsNamed}}
+use Rattle.xa_judge.specs.{Explained.{answer_to, next_state}, Near.{AreNear, ReadsNamed}}
 use Rattle.std.specs.FinMap as map
 
 -- the committed values of rows, by their keys
@@ -63,16 +63,8 @@ writes_agree named (write ∷ writes) left right agree =
 unnamed_agrees : (named : List ℕ → Bool) (key : List ℕ) (write : Write) (left right : Rows) → Agree named left right
     → named key ≡ false
     → Agree named (with_write key write left) right
-unnamed_agrees named key (Some value) left right agree unnamed other is =
-    elim (same_or_apart bytes_total exact_texts other key) [
-      | inl e ↦ absurd (true≢false (sym is ∙ ap named e ∙ unnamed))
-      | inr apart ↦ get_inserted_apart bytes_total exact_texts left key value other apart ∙ agree other is
-    ]
-unnamed_agrees named key None left right agree unnamed other is =
-    elim (same_or_apart bytes_total exact_texts other key) [
-      | inl e ↦ absurd (true≢false (sym is ∙ ap named e ∙ unnamed))
-      | inr apart ↦ get_removed_apart bytes_total exact_texts left key other apart ∙ agree other is
-    ]
+unnamed_agrees named key write left right agree unnamed other is =
+    grind (arith, bytes_total, exact_texts, get_inserted_apart, get_removed_apart, same_or_apart, true≢false)
 
 -- ---- replies
 
@@ -82,38 +74,7 @@ table_agrees : (named : List ℕ → Bool) (branches : Branches) (left right : R
     → ReadsNamed named (Given statement) → table (state_at branches left) association statement
     ≡ table (state_at branches right) association statement
 unfolding table prepared_xids is_held_against is_locked_against
-table_agrees named branches left right agree Free (Start xid) reads = refl
-table_agrees named branches left right agree (Active own) (Start xid) reads = refl
-table_agrees named branches left right agree (Idle own) (Start xid) reads = refl
-table_agrees named branches left right agree Free (End xid) reads = refl
-table_agrees named branches left right agree (Active own) (End xid) reads = refl
-table_agrees named branches left right agree (Idle own) (End xid) reads = refl
-table_agrees named branches left right agree Free (Prepare xid) reads = refl
-table_agrees named branches left right agree (Active own) (Prepare xid) reads = refl
-table_agrees named branches left right agree (Idle own) (Prepare xid) reads = refl
-table_agrees named branches left right agree Free (Commit xid true) reads = refl
-table_agrees named branches left right agree Free (Commit xid false) reads = refl
-table_agrees named branches left right agree (Active own) (Commit xid true) reads = refl
-table_agrees named branches left right agree (Active own) (Commit xid false) reads = refl
-table_agrees named branches left right agree (Idle own) (Commit xid true) reads = refl
-table_agrees named branches left right agree (Idle own) (Commit xid false) reads = refl
-table_agrees named branches left right agree Free (Rollback xid) reads = refl
-table_agrees named branches left right agree (Active own) (Rollback xid) reads = refl
-table_agrees named branches left right agree (Idle own) (Rollback xid) reads = refl
-table_agrees named branches left right agree association (Recover convert) reads = refl
-table_agrees named branches left right agree association Unsupported reads = refl
-table_agrees named branches left right agree Free (Get key) reads = ap Reply.Value (agree key reads)
-table_agrees named branches left right agree (Active own) (Get key) reads =
-    ap (λ value. refused_if (is_locked_against (state_at branches left) (Active own) key) XaError.RowLocked
-    (Reply.Value (unwrap_or (write_at (state_at branches left) own key) value))) (agree key reads)
-table_agrees named branches left right agree (Idle own) (Get key) reads = refl
-table_agrees named branches left right agree Free (Put key value) reads = refl
-table_agrees named branches left right agree (Active own) (Put key value) reads = refl
-table_agrees named branches left right agree (Idle own) (Put key value) reads = refl
-table_agrees named branches left right agree Free (Del key) reads = refl
-table_agrees named branches left right agree (Active own) (Del key) reads = refl
-table_agrees named branches left right agree (Idle own) (Del key) reads = refl
-table_agrees named branches left right agree association Disconnect reads = refl
+table_agrees named branches left right agree association statement reads = grind (arith)
 
 -- what a session has open doesn't depend on committed values
 association_agrees : (branches : Branches) (left right : Rows) (session : ℕ)
@@ -127,16 +88,12 @@ reply_agrees : (named : List ℕ → Bool) (branches : Branches) (left right : R
     → ReadsNamed named (Given statement) → reply_to (state_at branches left) session statement
     ≡ reply_to (state_at branches right) session statement
 unfolding reply_to
-reply_agrees named branches left right agree session statement reads =
-    ap (λ association. table (state_at branches left) association statement)
-    (association_agrees branches left right session)
-    ∙ table_agrees named branches left right agree (association_of (state_at branches right) session) statement reads
+reply_agrees named branches left right agree session statement reads = grind (arith, association_agrees, table_agrees)
 
 -- whether `refused_if` refuses depends on its test, not on the value that would be returned
 refusal_of_get : (b : Bool) (error : XaError) (left right : Option Text)
     → is_refused (refused_if b error (Reply.Value left)) ≡ is_refused (refused_if b error (Reply.Value right))
-refusal_of_get true error left right = refl
-refusal_of_get false error left right = refl
+refusal_of_get b error left right = grind (arith)
 
 -- no row is named, so that all rows agree
 none_named : List ℕ → Bool
@@ -192,15 +149,7 @@ near_changed : (named : List ℕ → Bool) (branches : Branches) (left right : R
     → (xid : Xid) (change : Branch → Branch)
     → AreNear named (with_changed (state_at branches left) xid change)
     (with_changed (state_at branches right) xid change)
-near_changed named branches left right agree xid change = by (map.get branches xid)
-  where
-    by : (found : Option Branch) → AreNear named
-        (option_map_or (λ branch. with_branch (state_at branches left) xid (change branch)) found
-        (state_at branches left))
-        (option_map_or (λ branch. with_branch (state_at branches right) xid (change branch)) found
-        (state_at branches right))
-    by None = near_at named branches left right agree
-    by (Some branch) = near_at named (map.insert branches xid (change branch)) left right agree
+near_changed named branches left right agree xid change = grind (arith, near_at)
 
 -- committing the same branch in two near states leaves near states
 near_committed : (named : List ℕ → Bool) (branches : Branches) (left right : Rows) → Agree named left right
@@ -268,30 +217,20 @@ near_effect named branches left right agree session (Idle own) Disconnect =
 
 -- after a statement the state is the old one if its reply is a refusal, and else the new one
 by_refusal : (reply : Reply) (old new : State) → unless_refused reply old new ≡ cond (is_refused reply) old new
-by_refusal Reply.Ok old new = refl
-by_refusal (Reply.Value value) old new = refl
-by_refusal (Reply.Recovered xids) old new = refl
-by_refusal (Reply.Refused error) old new = refl
+by_refusal reply old new = grind (arith)
 
 -- if the old states are near, and the new ones too, so are those that are left if both or neither is refused
 near_either : (named : List ℕ → Bool) (refused : Bool) (old new other other_new : State) → AreNear named old other
     → AreNear named new other_new
     → AreNear named (cond refused old new) (cond refused other other_new)
-near_either named true old new other other_new before later = before
-near_either named false old new other other_new before later = later
+near_either named refused old new other other_new before later = grind (arith)
 
 -- if the old states are near, and the new ones too, so are those left by two replies, both refusals or neither
 near_unless : (named : List ℕ → Bool) (reply other_reply : Reply) (old new other other_new : State)
     → is_refused reply ≡ is_refused other_reply
     → AreNear named old other → AreNear named new other_new
     → AreNear named (unless_refused reply old new) (unless_refused other_reply other other_new)
-near_unless named reply other_reply old new other other_new same before later =
-    let Left : State → Type 0 = λ s. AreNear named s (unless_refused other_reply other other_new) in
-    let Right : State → Type 0 = λ s. AreNear named (cond (is_refused reply) old new) s in
-    let right : cond (is_refused reply) other other_new ≡ unless_refused other_reply other other_new =
-    ap (λ b. cond b other other_new) same ∙ sym (by_refusal other_reply other other_new) in
-    subst Left (sym (by_refusal reply old new)) (subst Right right
-    (near_either named (is_refused reply) old new other other_new before later))
+near_unless named reply other_reply old new other other_new same before later = grind (arith, by_refusal, near_either)
 
 -- a statement leaves near states near, whatever it reads: here of states given by branches and rows
 after_at : (named : List ℕ → Bool) (branches : Branches) (left right : Rows) → Agree named left right
@@ -316,10 +255,7 @@ right_is named left right near = same_state (state_at left.branches right.rows) 
 pub near_answer : (named : List ℕ → Bool) (left right : State) (session : ℕ) (request : Request)
     → AreNear named left right → ReadsNamed named request
     → answer_to left session request ≡ answer_to right session request
-near_answer named left right session Unread near reads = refl
-near_answer named left right session (Given statement) near reads =
-    ap Answer.Reply (reply_agrees named left.branches left.rows right.rows near.rows session statement reads
-    ∙ ap (λ s. reply_to s session statement) (right_is named left right near))
+near_answer named left right session request near reads = grind (arith, reply_agrees, right_is)
 
 -- a statement leaves near states near, whatever it reads
 pub near_after : (named : List ℕ → Bool) (left right : State) (session : ℕ) (statement : Statement)
@@ -342,8 +278,7 @@ near_next named left right session (Given statement) near = near_after named lef
 near_refusable : (named : List ℕ → Bool) (refused : Bool) (old new other : State) → AreNear named old other
     → AreNear named new other
     → AreNear named (unless_refused (refused_if refused XaError.RowLocked Reply.Ok) old new) other
-near_refusable named true old new other before later = before
-near_refusable named false old new other before later = later
+near_refusable named refused old new other before later = grind (arith)
 
 -- the left state with a row written that isn't named is still near the right one
 near_unnamed : (named : List ℕ → Bool) (left right : State) (key : List ℕ) (write : Write) → AreNear named left right
@@ -391,14 +326,4 @@ pub free_told : (state : State) (session : ℕ) (xid : Xid) (reply : Reply) → 
     → reply ≡ Reply.Refused (XaError.Rmfail NonExisting)
     → association_of state session ≡ Free
 unfolding reply_to table
-free_told state session xid reply told is = by (association_of state session) (sym told ∙ is)
-  where
-    by : (association : Association) → table state association (End xid) ≡ Reply.Refused (XaError.Rmfail NonExisting)
-        → association ≡ Free
-    by Free same = refl
-    by (Active own) same = apart (same_xid xid own) same
-      where
-        apart : (b : Bool) → ok_if b XaError.Nota ≡ Reply.Refused (XaError.Rmfail NonExisting) → Active own ≡ Free
-        apart true same = absurd (cc)
-        apart false same = absurd (cc)
-    by (Idle own) same = absurd (cc)
+free_told state session xid reply told is = grind (arith)

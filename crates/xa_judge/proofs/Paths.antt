@@ -1,6 +1,6 @@
 -- Moves as codes, in blocks.
 --     moves_folded, moves_split, moves_more     the codes behind as one block more;  moves in two parts
-use Rattle.std.proofs.Common.{◌≡◌, ℕ, List, [], ◌∷◌, ◌++◌, map, ap, sym, ◌∙◌, append_assoc, append-nil}
+use Rattle.std.proofs.Common.{◌≡◌, ℕ, List, [], ◌∷◌, ◌++◌, map, ap, ◌∙◌, append_assoc, append-nil, arith}
 use Rattle.std.{proofs.lemmas.List.{map-append, Folds.concat-append}, specs.List.concat}
 use Rattle.xa_judge.specs.Path.{move_of, moves_of}
 
@@ -11,9 +11,7 @@ concat_more blocks last = concat-append blocks (last ∷ []) ∙ ap (λ l. conca
 -- one code more behind the blocks is one move more at the end
 pub moves_push : (blocks : List (List ℕ)) (tail : List ℕ) (code : ℕ)
     → moves_of blocks (tail ++ code ∷ []) ≡ moves_of blocks tail ++ move_of code ∷ []
-moves_push blocks tail code =
-    ap (map move_of) (sym (append_assoc (concat blocks) tail (code ∷ [])))
-    ∙ map-append move_of (concat blocks ++ tail) (code ∷ [])
+moves_push blocks tail code = grind (arith, append_assoc, concat, map-append)
 
 -- if the codes behind the blocks become a block themselves, the moves stay the same
 pub moves_folded : (blocks : List (List ℕ)) (tail : List ℕ) → moves_of (blocks ++ tail ∷ []) [] ≡ moves_of blocks tail
@@ -22,9 +20,7 @@ moves_folded blocks tail = ap (map move_of) (append-nil (concat (blocks ++ tail 
 -- the moves of the blocks come first, and then those of the codes behind them
 pub moves_split : (blocks : List (List ℕ)) (tail : List ℕ)
     → moves_of blocks tail ≡ moves_of blocks [] ++ map move_of tail
-moves_split blocks tail =
-    map-append move_of (concat blocks) tail ∙ ap (λ l. map move_of l ++ map move_of tail)
-    (sym (append-nil (concat blocks)))
+moves_split blocks tail = grind (arith, append-nil, concat, map-append)
 
 -- the moves of blocks with one more at the end are the moves of the others, and then that one's
 pub moves_more : (blocks : List (List ℕ)) (last : List ℕ)

@@ -1,14 +1,14 @@
 -- The verdict at a return that shows none of the answers that its call can have.
 --     all_more, all_end    loops over answers
-use Rattle.std.proofs.Common.{◌≡◌, ℕ, ◌+◌, ◌<◌, true, false, Option, Some, None, List, [], ◌∷◌, ◌++◌, length, take}
+use Rattle.std.proofs.Common.{◌≡◌, ℕ, ◌+◌, ◌<◌, true, false, Some, List, [], ◌∷◌, ◌++◌, length, take, arith}
 use Rattle.std.proofs.{Common.{refl, ap, sym, ◌∙◌, subst, get_or, ◌≤◌}, lemmas.Bool.false≢true}
 use Rattle.std.{proofs.lemmas.List.{take_more, take_all, Elements.{All-contains, All-push}}, specs.List.{All, Contains}}
 use Rattle.std.{proofs.lemmas.Option.{none-some, same_Some, cond_some, get_or_from_slice_get}, specs.Prelude.slice_get}
 use Rattle.xa_server.specs.State.{State}
-use Rattle.xa_judge.specs.declared.{answer.Answer.Answer, client_state.ClientState.ClientState, event.Seen.Seen}
-use Rattle.xa_judge.specs.declared.client_state.ClientState.TheVariants.{Idle, Called, Answered, Gone, Left}
+use Rattle.xa_judge.specs.declared.{answer.Answer.Answer, event.Seen.Seen}
+use Rattle.xa_judge.specs.declared.client_state.ClientState.TheVariants.{Answered}
 use Rattle.xa_judge.specs.{declared.{event.Event.{Event, TheVariants.Return}, moves.Move.Move}, Explained.Config}
-use Rattle.xa_judge.specs.Explained.{with_client, opening_config, observed, returned, shows_answer, LeadsThrough}
+use Rattle.xa_judge.specs.Explained.{opening_config, observed, returned, shows_answer, LeadsThrough}
 use Rattle.xa_judge.specs.{Explained.Explained, Verdicts.{IsRefuted, IsAnswerAfter, AreAllAnswers}}
 use Rattle.xa_judge.proofs.{Places.get_within, KeyVerdicts.explained_take}
 
@@ -52,18 +52,7 @@ before_last old new (first ∷ events) event [] runs = absurd runs
 shown : (mid next : Config) (session : ℕ) (seen : Seen) → observed mid (Return session seen) ≡ Some next
     → (answer : Answer) × (slice_get mid.clients session ≡ Some (Answered answer)) × (shows_answer seen answer ≡ true)
 unfolding observed returned
-shown mid next session seen sees = by (slice_get mid.clients session) refl sees
-  where
-    by : (c : Option ClientState) → slice_get mid.clients session ≡ c → returned c mid session seen ≡ Some next
-        → (answer : Answer) × (slice_get mid.clients session ≡ Some (Answered answer))
-        × (shows_answer seen answer ≡ true)
-    by None at e = absurd (none-some next e)
-    by (Some Idle) at e = absurd (none-some next e)
-    by (Some (Called request)) at e = absurd (none-some next e)
-    by (Some (Answered answer)) at e =
-        (answer, at, (cond_some (shows_answer seen answer) (with_client mid session Idle) next e).0)
-    by (Some (Gone request)) at e = absurd (none-some next e)
-    by (Some Left) at e = absurd (none-some next e)
+shown mid next session seen sees = grind (arith, cond_some, none-some)
 
 -- if some order explains events that end with a return, some moves lead through those before it to a configuration in
 -- which its session has an answer that the return shows

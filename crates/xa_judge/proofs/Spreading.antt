@@ -1,9 +1,9 @@
 -- Configurations that are counted by their numbers.
 --     chosen_same, chosen_new      after one whose number was in the set already;  or wasn't
-use Rattle.std.proofs.Common.{◌≡◌, ◌≢◌, ℕ, ◌+◌, ◌<◌, Bool, true, false, not, cond, List, [], ◌∷◌, length, get_or, refl}
+use Rattle.std.proofs.Common.{◌≡◌, ◌≢◌, ℕ, ◌+◌, ◌<◌, Bool, true, false, not, List, ◌∷◌, length, get_or, refl}
 use Rattle.std.proofs.{Common.{ap, sym, ◌∙◌, subst, arith}, lemmas.{Bool.false≢true, Option.slice_get_read}}
-use Rattle.std.{proofs.lemmas.List.{Elements.{All-cons, All-nil}, Kept.AllPairs-cons}, specs.List.All}
-use Rattle.std.specs.{Ordering.nat_cmp, BTreeMap.is_at, BTreeSet.{BTreeSet, contains, Updates}}
+use Rattle.std.{proofs.lemmas.List.{Elements.All-cons, Kept.AllPairs-cons}, specs.List.All, specs.Ordering.nat_cmp}
+use Rattle.std.specs.BTreeSet.{BTreeSet, contains, Updates}
 use Rattle.xa_judge.specs.{declared.configuration.Configuration.Configuration, Explained.Config, Found.{config_of, Has}}
 use Rattle.xa_judge.{specs.{Verdicts.AreDifferent, Marks.mark}, proofs.Places.place_mapped}
 
@@ -17,36 +17,20 @@ pub record Chosen (known : List Configuration) (keys : List (List ℕ)) (marks :
 
 -- before the first configuration none is chosen, whatever numbers the set has
 pub chosen_none : (known : List Configuration) (keys : List (List ℕ)) (marks : BTreeSet ℕ) → Chosen known keys marks 0
-chosen_none known keys marks = record {
-  chosen = [];
-  counted = refl;
-  has = All-nil (Has known);
-  marked = All-nil (λ one. contains nat_cmp marks (mark keys one) ≡ true);
-  differ = λ i j d less below. absurd (omega (arith, below));
-}
+chosen_none known keys marks = grind (arith, mark)
 
 -- a number that the set had is still there once any is put in
 still_marked : (old new : BTreeSet ℕ) (added number : ℕ) → Updates nat_cmp old new added true
     → contains nat_cmp old number ≡ true
     → contains nat_cmp new number ≡ true
-still_marked old new added number updates had = updates.0 number ∙ by (is_at (nat_cmp added) number)
-  where
-    by : (b : Bool) → cond b true (contains nat_cmp old number) ≡ true
-    by true = refl
-    by false = had
+still_marked old new added number updates had = grind (arith)
 
 -- once any number is put into the set, what was chosen before still is: so it stays if a configuration's number was
 -- there
 pub chosen_same : (known : List Configuration) (keys : List (List ℕ)) (old new : BTreeSet ℕ) (count added : ℕ)
     → Updates nat_cmp old new added true
     → Chosen known keys old count → Chosen known keys new count
-chosen_same known keys old new count added updates c = record {
-  chosen = c.chosen;
-  counted = c.counted;
-  has = c.has;
-  marked = λ k d below. still_marked old new added (mark keys (get_or c.chosen k d)) updates (c.marked k d below);
-  differ = c.differ;
-}
+chosen_same known keys old new count added updates c = grind (arith, mark, still_marked)
 
 -- one configuration more is chosen, if its number wasn't in the set yet: it differs from all chosen before
 chosen_more : (known : List Configuration) (keys : List (List ℕ)) (old new : BTreeSet ℕ) (count : ℕ) (one : Config)
@@ -69,8 +53,7 @@ chosen_more known keys old new count one has updates none c = record {
 
 -- a test whose negation holds fails
 not_there : (b : Bool) → not b ≡ true → b ≡ false
-not_there true e = absurd (false≢true e)
-not_there false e = refl
+not_there b e = grind (arith, false≢true)
 
 -- if the number of the configuration at a place is new in the set, that configuration is chosen, too
 pub chosen_new : (known : List Configuration) (keys : List (List ℕ)) (old new : BTreeSet ℕ) (count place number : ℕ)

@@ -1,8 +1,8 @@
 -- One move more, on the way through events.
 --     effect_leads, event_leads     moves that lead on by an effect, an event lead on from the configuration after it
 --     some_leads, leads_some        walking the moves finds a configuration if and only if they lead to one
-use Rattle.std.proofs.Common.{◌≡◌, ℕ, ◌+◌, ◌↔◌, zero, suc, true, Option, Some, None, IfSome, List, [], ◌∷◌, drop}
-use Rattle.std.proofs.{Common.{slice_get, refl, ap, sym, ◌∙◌, subst, add-one}, lemmas.Bool.false≢true}
+use Rattle.std.proofs.Common.{◌≡◌, ℕ, ◌+◌, ◌↔◌, zero, suc, true, Option, Some, None, IfSome, List, [], ◌∷◌, drop, arith}
+use Rattle.std.proofs.{Common.{slice_get, ap, sym, ◌∙◌, subst, add-one}, lemmas.Bool.false≢true}
 use Rattle.std.{proofs.lemmas.Option.{none-some, same_Some}, specs.Option.is_some}
 use Rattle.xa_judge.specs.declared.{event.Event.Event, moves.{Act.Act, Move.Move}}
 use Rattle.xa_judge.specs.{declared.configuration.Configuration.Configuration, Found.config_of, Following.Leads}
@@ -49,8 +49,7 @@ event_leads old new event events more later end is leads = (
 pub none_leads : (config : Config) (events : List Event) (seen : ℕ) (event : Event) (end : Config)
     → slice_get events seen ≡ Some event
     → LeadsThrough config (drop seen events) [] end → ⊥
-none_leads config events seen event end found runs =
-    subst (λ l. LeadsThrough config l [] end) (drop_got events seen event found) runs
+none_leads config events seen event end found runs = grind (arith, drop_got)
 
 -- if a configuration is found, and the moves lead to the one that is found, they lead through the events (`Leads`)
 pub some_leads : (base : State) (events : List Event) (moves : List Move) (found : Option Configuration)
@@ -63,5 +62,4 @@ some_leads base events moves (Some one) is leads = (config_of one, leads)
 pub leads_some : (base : State) (events : List Event) (moves : List Move) (found : Option Configuration)
     → (found ≡ None → (end : Config) → LeadsThrough (opening_config base) events moves end → ⊥)
     → Leads base events moves → is_some found ≡ true
-leads_some base events moves None missing leads = absurd (missing refl leads.0 leads.1)
-leads_some base events moves (Some one) missing leads = refl
+leads_some base events moves found missing leads = grind (arith)

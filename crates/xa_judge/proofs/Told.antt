@@ -7,8 +7,8 @@
 --     told_found, found_on        a verdict that was found, or none;  after passes
 --     whole_told, verdict_on      a pass that begins with the first event;  after passes
 --     later_told                  a pass over events that come after others
-use Rattle.std.proofs.Common.{◌≡◌, ℕ, ◌+◌, List, ◌++◌, length, refl, ap, sym, ◌∙◌, subst, zero-add, Option, Some, None}
-use Rattle.std.proofs.{Common.{Result, Ok, Err, IfOk, IfSome, MatchOption}, lemmas.List.length-append}
+use Rattle.std.proofs.Common.{◌≡◌, ℕ, ◌+◌, List, ◌++◌, length, sym, subst, zero-add, Option, Some, None, arith}
+use Rattle.std.proofs.{Common.{Result, IfOk, IfSome, MatchOption}, lemmas.List.length-append}
 use Rattle.xa_server.specs.State.{State}
 use Rattle.xa_judge.specs.{declared.{event.Event.Event, so_far.SoFar.SoFar, verdict.Verdict.Verdict}, Told.IsReport}
 use Rattle.xa_judge.specs.Told.{AreReports, no_report, one_more, IsSize, ArePasses, no_pass, one_pass, IsToldUpTo}
@@ -54,14 +54,7 @@ module _ {S : Type 0} {gives : S → SoFar → S → Type 0} where
   -- what is told up to an event after passes is told up to it with these
   pub told_on : {all seen : ℕ} {old mid new : S} → ArePasses gives all old mid → IsToldUpTo gives all seen mid new
       → IsToldUpTo gives all seen old new
-  told_on passes told = record {
-    mid = told.mid;
-    passes = passes_on passes told.passes;
-    first = told.first;
-    count = told.count;
-    last = told.last;
-    up_to = told.up_to;
-  }
+  told_on passes told = grind (arith, passes_on)
 
   -- after reports before `count` events, one report more, before the next event and of a size that fits, makes
   -- reports before `count + 1` events
@@ -88,9 +81,7 @@ module _ {S : Type 0} {gives : S → SoFar → S → Type 0} where
       (λ verdict. IsToldUpTo gives all (seen_for events verdict) mid new))
       → IfOk result (λ found. MatchOption found (ArePasses gives all old new)
       (λ verdict. IsToldUpTo gives all (seen_for events verdict) old new))
-  found_on events new (Ok None) passes more = passes_on passes more
-  found_on events new (Ok (Some verdict)) passes more = told_on passes more
-  found_on events new (Err e) passes more = tt
+  found_on events new result passes more = grind (arith, passes_on, told_on)
 
   -- a pass that begins with the first event tells up to where it ends
   pub whole_told : {base : State} {events : List Event} {all seen : ℕ} {old new : S}
@@ -105,8 +96,7 @@ module _ {S : Type 0} {gives : S → SoFar → S → Type 0} where
       → IfOk result
       (λ verdict. AreReports gives (IsSizeOfKept base events) 0 (0 + all) mid (seen_for events verdict) new)
       → IfOk result (λ verdict. IsToldUpTo gives all (seen_for events verdict) old new)
-  verdict_on base events new (Ok verdict) passes more = told_on passes (whole_told more)
-  verdict_on base events new (Err e) passes more = tt
+  verdict_on base events new result passes more = grind (arith, told_on, whole_told)
 
   -- a pass over the events that come after others tells up to where it ends
   pub later_told : {base : State} (events first later : List Event) {old : S} {count : ℕ} {new : S}
@@ -114,5 +104,4 @@ module _ {S : Type 0} {gives : S → SoFar → S → Type 0} where
       → AreReports gives (IsSizeOfKept base later) (length first) (length first + length later) old count new
       → IsToldUpTo gives (length events) (length first + count) old new
   later_told {base} events first later {old} {count} {new} parts reports =
-      subst (λ n. IsToldUpTo gives n (length first + count) old new)
-      (sym (ap length parts ∙ length-append first later)) (told_of (sizes_of reports) refl)
+      grind (arith, length-append, sizes_of, told_of)

@@ -3,6 +3,7 @@
 --     legal, refuted, wide                    LEGAL, ILLEGAL, UNDECIDED is right
 --     opens_reached, opens_complete           before the first event
 --     continues_shortened, some_shortened     common first moves are taken out
+use Rattle.std.proofs.lemmas.{Bool.Decides.nat_tests, Grind.common_steps}
 use Rattle.std.proofs.Common.{◌≡◌, ℕ, ◌+◌, ◌<◌, Some, List, slice_get, [], ◌∷◌, ◌++◌, length, take, drop, get_or, ap}
 use Rattle.std.proofs.{Common.{sym, ◌∙◌, subst, arith, append_assoc, append-nil}, lemmas.Option.same_Some}
 use Rattle.std.proofs.lemmas.List.{take_more, take-append-drop, take_all, Elements.{All-cons, All-nil, All-head}}
@@ -24,12 +25,8 @@ pub complete_more : (base : State) (events : List Event) (place : ℕ) (event : 
     → event ≡ get_or events place event → IsComplete base (take place events) old
     → ((more : List Event) (end : Config) → Continues old (event ∷ more) end → Continues new more end)
     → IsComplete base (take (place + 1) events) new
-complete_more base events place event old new within at complete leads = λ more moves end runs.
-    let parts : take (place + 1) events ++ more ≡ take place events ++ event ∷ more =
-    ap (λ l. l ++ more) (take_more events place event within ∙ ap (λ x. take place events ++ x ∷ []) (sym at))
-    ∙ append_assoc (take place events) (event ∷ []) more in
-    leads more end (complete (event ∷ more) moves end (subst
-    (λ l. LeadsThrough (opening_config base) l moves end) parts runs))
+complete_more base events place event old new within at complete leads =
+    grind (arith, common_steps, nat_tests, append_assoc, take_more)
 
 -- if the events before a place lead to each of the old list, the events up to and including the one there lead to
 -- each of the new list, which is what that event makes of the old one (`ReachesPast`)
@@ -38,10 +35,7 @@ pub reach_more : (base : State) (events : List Event) (place : ℕ) (event : Eve
     → event ≡ get_or events place event
     → All (Reaches base (take place events) trunk) old → ReachesPast event old new
     → All (Reaches base (take (place + 1) events) trunk) new
-reach_more base events place event trunk old new within at all leads =
-    let parts : take place events ++ event ∷ [] ≡ take (place + 1) events =
-    sym (take_more events place event within ∙ ap (λ x. take place events ++ x ∷ []) (sym at)) in
-    subst (λ l. All (Reaches base l trunk) new) parts (leads base (take place events) trunk all)
+reach_more base events place event trunk old new within at all leads = grind (arith, common_steps, nat_tests, take_more)
 
 -- if the events lead to each configuration of a list that isn't empty, some order explains them
 pub explained_by : (base : State) (seen : List Event) (trunk : List Move) (list : List Configuration) → 0 < length list
@@ -158,11 +152,7 @@ wide base events limit place event trunk list many within at all kept spread kee
 -- before all events each of the list with the opening configuration alone is reached, by no moves
 pub opens_reached : (base : State) (list : List Configuration) → IsOpening base list → All (Reaches base [] []) list
 unfolding Reaches
-opens_reached base list is = subst (λ l. All (Reaches base [] []) l) (sym is.1)
-    (All-cons (Reaches base [] []) is.0 [] one (All-nil (Reaches base [] [])))
-  where
-    one : LeadsThrough (opening_config base) [] ([] ++ is.0.path) (config_of is.0)
-    one = subst (λ m. LeadsThrough (opening_config base) [] m (config_of is.0)) (sym is.3) is.2
+opens_reached base list is = grind (arith)
 
 -- before all events the list with the opening configuration alone is complete
 pub opens_complete : (base : State) (list : List Configuration) → IsOpening base list → IsComplete base [] list
@@ -189,8 +179,7 @@ continues_shortened trunk longer old new more end is now =
 -- a list whose common first moves were taken out isn't empty if it wasn't before
 pub some_shortened : (trunk longer : List Move) (old new : List Configuration) → IsShortened trunk longer old new
     → 0 < length old → 0 < length new
-some_shortened trunk longer old new is some =
-    omega (arith, length_map config_of old, length_map config_of new, ap length is.same)
+some_shortened trunk longer old new is also = grind (arith, length_map)
 
 -- a list with one configuration is shortened by putting that one's whole path at the end of the trunk
 pub shortened : (trunk longer : List Move) (old rest new : List Configuration) (only next : Configuration)
