@@ -60,8 +60,7 @@ settled_first : (old closed : List Configuration) (session : ℕ) (seen : Seen) 
     → Grows old closed
     → IsClosedBelow (length closed) (Some session) closed → Continues old (Return session seen ∷ more) end
     → Settled closed session seen more end
-settled_first old closed session seen more end grows is_closed now =
-    grind (arith, common_steps, nat_tests, has_still, settles)
+settled_first old closed session seen more end grows is_closed now = grind (arith, common_steps, nat_tests, settles)
 
 -- the answers are those that the session has in the configurations of the list, and no others
 pub record AreAnswersIn (list : List Configuration) (session : ℕ) (answers : List Answer) : Type 0 where

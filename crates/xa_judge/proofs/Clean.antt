@@ -1,10 +1,9 @@
 -- Sessions that have no branch.
 use Rattle.std.proofs.Common.{◌≡◌, ◌≢◌, ◌==◌, arith, ℕ, Bool, true, false, Option, None, ap, sym, ◌∙◌, inl, inr}
-use Rattle.std.{proofs.lemmas.Bool.{false≢true, Decides.nat_tests}, specs.Prelude.{is_some, cond}}
-use Rattle.std.specs.Option.{option_map}
+use Rattle.std.specs.{Prelude.cond, Option.option_map}
 use mathlib.Core.Bool.{true≢false}
 use Rattle.xa_xid.specs.{declared.{xid.Xid.Xid, statement.Statement.Statement}, Xid.same_xid}
-use Rattle.xa_xid.proofs.Orders.{xids_total, exact_xids}
+use Rattle.xa_xid.proofs.Orders.{xids_total}
 use Rattle.xa_server.specs.declared.association.Association.{Association}
 use Rattle.xa_server.specs.{declared.reply.Reply.TheVariants.Ok as Accepted, Replies.{table, reply_to}}
 use Rattle.xa_server.specs.{State.{Branch, State, owns, association_of}, Locks.LockLaw, Step.is_refused}
@@ -47,34 +46,34 @@ gone_unowned session e = true≢false (sym e)
 -- a detached branch isn't the session's, nor is one that isn't there
 detached_unowned : (session : ℕ) (found : Option Branch) → is_owned session (option_map detached found) ≡ true → ⊥
 unfolding is_owned detached
-detached_unowned session found e = grind (arith, true≢false)
+detached_unowned session found e = grind (arith)
 
 -- if what replaces the branch of `xid` isn't the session's, nor is what is at `at` then, since `at` is `xid`
 only_that : (session : ℕ) (at xid : Xid) (new found : Option Branch) → at ≡ xid
     → (is_owned session new ≡ true → ⊥)
     → is_owned session (cond (same_xid at xid) new found) ≡ true → ⊥
-only_that session at xid new found same not e = grind (arith, exact_xids, is_owned, same_itself, xids_total)
+only_that session at xid new found same not e = grind (arith, is_owned, same_itself, xids_total)
 
 -- a session that has something open owns the branch of its XA COMMIT, unless that is refused
 committed_own : (state : State) (session : ℕ) (association : Association) (xid at : Xid) (one_phase : Bool)
     → IsOwn state session association → is_free association ≡ false
     → is_refused (table state association (Statement.Commit xid one_phase)) ≡ false → owns state session xid ≡ true
 unfolding table is_free
-committed_own state session association xid at one_phase own held e = grind (arith, own_is, true≢false)
+committed_own state session association xid at one_phase own held e = grind (arith, own_is)
 
 -- a session that has something open owns the branch of its XA ROLLBACK, unless that is refused
 rolled_own : (state : State) (session : ℕ) (association : Association) (xid at : Xid)
     → IsOwn state session association → is_free association ≡ false
     → is_refused (table state association (Statement.Rollback xid)) ≡ false → owns state session xid ≡ true
 unfolding table is_free
-rolled_own state session association xid at own held e = grind (arith, own_is, true≢false)
+rolled_own state session association xid at own held e = grind (arith, own_is)
 
 -- a session that disconnects doesn't own the branch any more that it owned
 left_own : (state : State) (session : ℕ) (association : Association) (at : Xid) (found : Option Branch) → LockLaw state
     → IsOwn state session association → is_free association ≡ false → owns state session at ≡ true
     → is_owned session (branch_after session association Statement.Disconnect at found) ≡ true → ⊥
 unfolding branch_after is_free
-left_own state session association at found law own held before e = grind (arith, gone_unowned, only_that, true≢false)
+left_own state session association at found law own held before e = grind (arith, gone_unowned, only_that)
 
 -- if a statement that ends or detaches its session's branch (`is_ending`) isn't refused, no branch that the session
 -- owned is the session's afterwards
@@ -145,8 +144,8 @@ ended_none state session (Request.Statement statement) law ends accepted = elim 
 
 -- in a state without branches the lock law holds
 pub law_none : (state : State) → HasNoBranch state → LockLaw state
-law_none state is = grind (arith, detached, false≢true, is_some)
+law_none state is = grind (arith)
 
 -- a number is equal to itself by the test
 pub same_test : (n : ℕ) → (n == n) ≡ true
-same_test n = grind (arith, nat_tests)
+same_test n = grind (arith)

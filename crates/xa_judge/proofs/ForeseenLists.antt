@@ -3,8 +3,7 @@
 --     unheard_alike, answer_kept          an open call that nobody hears;  a client of which nothing is known
 --     hints_set, unknown_at               what is known of open calls, by their places
 use Rattle.std.proofs.Common.{◌≡◌, ℕ, false, Option, Some, None, List, [], ◌∷◌, set, map, zero, suc, refl, ap, arith}
-use Rattle.std.proofs.{Common.inl, lemmas.Bool.false≢true, lemmas.Option.{none-some, slice_get-map}}
-use Rattle.std.specs.Prelude.{slice_get}
+use Rattle.std.{proofs.{Common.inl, lemmas.Option.slice_get-map}, specs.Prelude.slice_get}
 use Rattle.xa_judge.specs.declared.{client_state.ClientState.ClientState, event.Event.Event, moves.Move.Move}
 use Rattle.xa_judge.specs.declared.{moves.Move.TheVariants.{Event as Seeing, Effect}, open_call.OpenCall.OpenCall}
 use Rattle.xa_judge.specs.{Explained.{Config, LeadsThrough, observed}, Late.has_unheard}
@@ -72,7 +71,7 @@ goes_called hints hint event old new kept run end more moves there alike fits se
 pub answer_kept : (hints : List Hint) (run kept : Config) (session : ℕ) (c : Option ClientState)
     → AreAlike hints run kept → hint_of hints session ≡ None → (fact_of hints session).never ≡ false
     → slice_get run.clients session ≡ c → slice_get kept.clients session ≡ c
-answer_kept hints run kept session c alike is heard at = grind (arith, false≢true, none-some)
+answer_kept hints run kept session c alike is heard at = grind (arith)
 
 -- ---- places of returns
 
@@ -91,4 +90,4 @@ hints_set events places session place = set_mapped (hint_in events) places sessi
 pub unknown_at : (events : List Event) (places : List OpenCall) (session : ℕ)
     → ((o : OpenCall) → slice_get places session ≡ Some o → (hint_in events o).seen ≡ None)
     → hint_of (hints_of events places) session ≡ None
-unknown_at events places session is = grind (arith, hint_in, slice_get-map)
+unknown_at events places session is = grind (arith, slice_get-map)

@@ -18,7 +18,7 @@ use Rattle.xa_judge.proofs.Waits.{runs_effect, runs_event}
 
 -- what is in a list is in it with more behind it
 pub has_more : (old more : List Configuration) (one : Config) → Has old one → Has (old ++ more) one
-has_more old more one has = grind (arith, common_steps, nat_tests, map_append)
+has_more old more one has = grind (arith, common_steps, nat_tests)
 
 -- what was in a list is in one that grew out of it
 pub has_still : (old new : List Configuration) (one : Config) → Grows old new → Has old one → Has new one
@@ -42,7 +42,7 @@ has_added old new one (inr is) =
 -- what was in a list stays in it when a configuration is added unless it is there
 pub has_kept : (old new : List Configuration) (one : Configuration) (other : Config) → AddsUnlessThere old one new
     → Has old other → Has new other
-has_kept old new one other is has = grind (arith, common_steps, nat_tests, has_more)
+has_kept old new one other is has = grind (arith, common_steps, nat_tests)
 
 -- a list has grown out of itself
 pub grows_none : (list : List Configuration) → Grows list list

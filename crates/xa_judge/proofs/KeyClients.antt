@@ -13,10 +13,9 @@
 --     absent_rests, idle_rests     a session that isn't there, or is idle, has no act
 --     same_chosen, same_rest       where an event may stand in one part, the whole has the client of that part
 --     other_turn, IsIdleIf         the turn of an event of the other part;  the client is idle if the turn is Nobody
-use Rattle.std.proofs.Common.{arith}
 use Rattle.std.proofs.Common.{◌≡◌, ◌≢◌, ◌⊎◌, ℕ, Bool, true, false, cond, Option, Some, None, List, set, refl, ap, sym}
-use Rattle.std.proofs.{Common.{◌∙◌, subst, inl, inr}, lemmas.Option.{none-some, same_Some, cond_some}}
-use Rattle.std.{proofs.lemmas.Bool.false≢true, specs.{Prelude.slice_get, Option.{option_map, option_map_or, unwrap_or}}}
+use Rattle.std.{proofs.{Common.{◌∙◌, subst, inl, inr, arith, rules}, lemmas.Option.same_Some}, specs.Prelude.slice_get}
+use Rattle.std.specs.Option.{option_map, option_map_or, unwrap_or}
 use Rattle.xa_xid.specs.declared.statement.Statement.TheVariants.{Disconnect as DisconnectGiven}
 use Rattle.xa_server.specs.{State.State, declared.reply.Reply.TheVariants.Ok as Accepted}
 use Rattle.xa_server.{specs.{Locks.LockLaw, Step.after}, proofs.Keeping.law_after}
@@ -46,14 +45,14 @@ Together P one other = ⊥
 pub forth : {A B : Type 0} (P : A → B → Type 0) (one : Option A) (other : Option B) (x : A) → Together P one other
     → one ≡ Some x
     → (y : B) × (other ≡ Some y) × P x y
-forth P one other x both is = grind (arith, none-some, same_Some)
+forth P one other x both is = grind (arith)
 
 -- if two results are missing or belong together (`Together`), and the other is there, so is the one, with which it
 -- belongs together
 pub back : {A B : Type 0} (P : A → B → Type 0) (one : Option A) (other : Option B) (y : B) → Together P one other
     → other ≡ Some y
     → (x : A) × (one ≡ Some x) × P x y
-back P one other y both is = grind (arith, none-some, same_Some)
+back P one other y both is = grind (arith)
 
 -- ---- what events and acts do
 
@@ -79,7 +78,7 @@ pub observed_is : (config : Config) (event : Event)
     → observed config event
     ≡ option_map (placed config (session_of event)) (client_after event (slice_get config.clients (session_of event)))
 unfolding observed called returned lost answered_unknown client_after
-observed_is config event = grind (arith, option_map)
+observed_is config event = grind (arith)
 
 -- what an act makes: the state, and the client of its session
 pub record Deed : Type 0 where
@@ -105,7 +104,7 @@ pub effect_is : (config : Config) (session : ℕ) (act : Act)
     → effect_of config session act
     ≡ option_map (done_in config session) (deed_of session act config.state (slice_get config.clients session))
 unfolding effect_of carried_out disconnected deed_of
-effect_is config session act = grind (arith, option_map)
+effect_is config session act = grind (arith)
 
 -- ---- the whole, by its parts
 
@@ -159,13 +158,13 @@ is_rest Ending = true
 -- that in the whole
 rested : (named : List ℕ → Bool) (turn : Turn) (whole chosen rest : Option ClientState) → is_rest turn ≡ true
     → AreClients named (Some turn) whole chosen rest → IsRested named turn whole chosen rest
-rested named turn whole chosen rest is are = grind (arith, false≢true)
+rested named turn whole chosen rest is are = grind (arith)
 
 -- if a session's turn is of the other part (`is_rest`), clients of which `IsRested` holds belong together by it
 -- (`AreClients`)
 are_rested : (named : List ℕ → Bool) (turn : Turn) (whole chosen rest : Option ClientState) → is_rest turn ≡ true
     → IsRested named turn whole chosen rest → AreClients named (Some turn) whole chosen rest
-are_rested named turn whole chosen rest is are = grind (arith, false≢true)
+are_rested named turn whole chosen rest is are = grind (arith)
 
 -- a session whose turn is Ending, and whose call was accepted, owns no branch
 abbrev pub AreEnded : List Turn → Config → Type 0
@@ -202,7 +201,7 @@ clients_set : (named : List ℕ → Bool) (session : ℕ) (turns new_turns : Lis
     → (other : ℕ) → AreClients named (slice_get new_turns other) (slice_get new_whole other)
     (slice_get new_chosen other) (slice_get new_rest other)
 clients_set named session turns new_turns whole chosen rest new_whole new_chosen new_rest were t w c r here other =
-    grind (arith, here, same_number, told)
+    grind (arith)
 
 -- a write leaves what stands at another place
 aside : {A : Type 0} (xs : List A) (session : ℕ) (x : A) (other : ℕ) → session ≢ other
@@ -240,7 +239,7 @@ off_rows named free session request starts is = grind (arith)
 starts_within : (turns : List Turn) (session : ℕ) (turn : Turn) (request : Request)
     → slice_get turns session ≡ Some turn → (has_none turn ≡ true → is_start request ≡ false)
     → is_start request ≡ true → free_in turns session ≡ false
-starts_within turns session turn request at plain starts = grind (arith, false≢true, free_turn)
+starts_within turns session turn request at plain starts = grind (arith)
 
 -- a request keeps the lock law
 law_next : (state : State) (session : ℕ) (request : Request) → LockLaw state
@@ -258,7 +257,7 @@ ended_next : (turns : List Turn) (whole : Config) (session : ℕ) (request : Req
       clients = set whole.clients session next;
     })
 ended_next turns whole session request client next ended at own other ending answered =
-    grind (arith, aside, get_written, others_none, same_Some, same_number)
+    grind (arith, aside, get_written, others_none)
 
 -- ---- acts
 
@@ -448,13 +447,13 @@ rest_acts named turns whole chosen rest session turn act parts there_turn rests 
 pub absent_rests : (config new : Config) (session : ℕ) (act : Act) → slice_get config.clients session ≡ None
     → effect_of config session act ≡ Some new → ⊥
 unfolding deed_of
-absent_rests config new session act at leads = grind (arith, effect_is, none-some, option_map)
+absent_rests config new session act at leads = grind (arith, effect_is)
 
 -- a session that is idle has no act
 pub idle_rests : (config new : Config) (session : ℕ) (act : Act) → slice_get config.clients session ≡ Some Idle
     → effect_of config session act ≡ Some new → ⊥
 unfolding deed_of
-idle_rests config new session act at leads = grind (arith, effect_is, none-some, option_map)
+idle_rests config new session act at leads = grind (arith, effect_is)
 
 -- ---- events
 
@@ -465,12 +464,12 @@ turn_is turns session turn at = ap (λ o. unwrap_or o Nobody) at
 
 -- the turn of an open call of the chosen part is Chosen
 chosen_is : (turn : Turn) → is_chosen turn ≡ true → turn ≡ Chosen
-chosen_is turn is = grind (arith, false≢true)
+chosen_is turn is = grind (arith)
 
 -- an event of the chosen part stands only where the turn of its session is Nobody or Chosen
 chosen_turns : (named : List ℕ → Bool) (turn : Turn) (event : Event) → FitsTurn named turn event true
     → (turn ≡ Nobody) ⊎ (turn ≡ Chosen)
-chosen_turns named turn event fits = grind (arith, chosen_is)
+chosen_turns named turn event fits = grind (arith)
 
 -- where an event of the chosen part may stand, its session has the same client in the whole and in that part, and is
 -- idle in the other one
@@ -478,7 +477,7 @@ pub same_chosen : (named : List ℕ → Bool) (turn : Turn) (event : Event)
     (whole chosen rest : Option ClientState) → FitsTurn named turn event true
     → AreClients named (Some turn) whole chosen rest
     → (client : ClientState) × (whole ≡ Some client) × (chosen ≡ Some client) × (rest ≡ Some Idle)
-same_chosen named turn event whole chosen rest fits are = grind (arith, chosen_turns)
+same_chosen named turn event whole chosen rest fits are = grind (arith)
 
 -- an event of the other part stands only where its session's open call isn't one of the chosen part
 pub other_turn : (named : List ℕ → Bool) (turn : Turn) (event : Event) → FitsTurn named turn event false
@@ -496,27 +495,27 @@ pub same_rest : (named : List ℕ → Bool) (turn : Turn) (whole chosen rest : O
     → AreClients named (Some turn) whole chosen rest
     → (client : ClientState) × (IsOtherClient named turn client × IsIdleIf turn client) × (whole ≡ Some client)
     × (chosen ≡ Some Idle) × (rest ≡ Some client)
-same_rest named turn whole chosen rest not are = grind (arith, false≢true)
+same_rest named turn whole chosen rest not are = grind (arith)
 
 -- after a return its session is idle
 return_idle : (session : ℕ) (seen : Seen) (client next : ClientState)
     → client_after (Return session seen) (Some client) ≡ Some next
     → next ≡ Idle
 unfolding client_after
-return_idle session seen client next is = grind (arith, cond_some, none-some)
+return_idle session seen client next is = grind (arith)
 
 -- a session whose return was seen had an answer that the return shows
 return_shows : (session : ℕ) (seen : Seen) (client next : ClientState)
     → client_after (Return session seen) (Some client) ≡ Some next
     → (answer : Answer) × (client ≡ Answered answer) × (shows_answer seen answer ≡ true)
 unfolding client_after
-return_shows session seen client next is = grind (arith, cond_some, none-some)
+return_shows session seen client next is = grind (arith)
 
 -- after an answer that isn't known its session is idle
 unknown_idle : (session : ℕ) (client next : ClientState) → client_after (Unknown session) (Some client) ≡ Some next
     → next ≡ Idle
 unfolding client_after
-unknown_idle session client next is = grind (arith, none-some, same_Some)
+unknown_idle session client next is = grind (arith)
 
 -- after a call that names no chosen row and suits the new turn, its session's client is one of the other part, if it
 -- was idle or the session may have a branch by that turn
@@ -525,7 +524,7 @@ call_other : (named : List ℕ → Bool) (new : Turn) (session : ℕ) (request :
     → client_after (Call session request) (Some client) ≡ Some next
     → IsOtherClient named new next
 unfolding client_after
-call_other named new session request client next off call idle is = grind (arith, none-some, same_Some)
+call_other named new session request client next off call idle is = grind (arith)
 
 -- after it is lost, a client of the other part is still one, with the turn Within
 lost_other : (named : List ℕ → Bool) (turn : Turn) (session : ℕ) (client next : ClientState)
@@ -533,7 +532,7 @@ lost_other : (named : List ℕ → Bool) (turn : Turn) (session : ℕ) (client n
     → client_after (Lost session) (Some client) ≡ Some next
     → IsOtherClient named Within next
 unfolding client_after
-lost_other named turn session client next other is = grind (arith, none-some, same_Some)
+lost_other named turn session client next other is = grind (arith)
 
 -- once an idle session's call is seen, its client has called for that request
 idle_calls : (session : ℕ) (request : Request) (next : ClientState)
@@ -549,7 +548,7 @@ chosen_next : (named : List ℕ → Bool) (turn : Turn) (event : Event) (client 
     → client_after event (Some client) ≡ Some next
     → AreClients named (Some (turn_after turn event true)) (Some next) (Some next) rest
 chosen_next named turn event client next rest fits are is =
-    grind (arith, chosen_is, idle_calls, return_idle, same_chosen, turn_returned, turn_unknown, unknown_idle)
+    grind (arith, idle_calls, return_idle, same_chosen, turn_returned, turn_unknown, unknown_idle)
 
 -- after a call in the other part its session's clients belong together by the new turn (`AreClients`)
 called_next : (named : List ℕ → Bool) (turn : Turn) (session : ℕ) (request : Request) (client next : ClientState)
@@ -557,7 +556,7 @@ called_next : (named : List ℕ → Bool) (turn : Turn) (session : ℕ) (request
     → chosen ≡ Some Idle
     → client_after (Call session request) (Some client) ≡ Some next
     → AreClients named (Some (turn_called turn request)) (Some next) chosen (Some next)
-called_next named turn session request client next chosen not off idle rests is = grind (arith, call_other, false≢true)
+called_next named turn session request client next chosen not off idle rests is = grind (arith, call_other)
 
 -- a session that is idle in all three has clients that belong together by the turns Nobody and Within, as after a
 -- return or an unknown answer
@@ -596,27 +595,27 @@ rest_next named turn (Unknown session) client next chosen fits other idle_if idl
 -- where an event of the chosen part may stand, its session has no branch, by its turn
 chosen_none : (named : List ℕ → Bool) (turn : Turn) (event : Event) → FitsTurn named turn event true
     → has_none turn ≡ true
-chosen_none named turn event fits = grind (arith, chosen_turns)
+chosen_none named turn event fits = grind (arith)
 
 -- the answer that a return of OK shows is that the statement was accepted
 ok_accepted : (answer : Answer) → shows_answer Seen.Ok answer ≡ true → answer ≡ Answer.Reply Accepted
-ok_accepted answer is = grind (arith, false≢true)
+ok_accepted answer is = grind (arith)
 
 -- a session that has no branch by its turn after a call in the other part had none before it
 within_called : (turn : Turn) (request : Request) → is_chosen turn ≡ false
     → has_none (turn_called turn request) ≡ true → has_none turn ≡ true
-within_called turn request not is = grind (arith, false≢true)
+within_called turn request not is = grind (arith)
 
 -- a session that has no branch by its turn after a return had none before it, or its call to end its branch was
 -- accepted
 returned_none : (turn : Turn) (seen : Seen) (answer : Answer) → shows_answer seen answer ≡ true
     → has_none (turn_returned turn seen) ≡ true
     → (has_none turn ≡ true) ⊎ ((turn ≡ Ending) × (answer ≡ Answer.Reply Accepted))
-returned_none turn seen answer shows is = grind (arith, false≢true, ok_accepted)
+returned_none turn seen answer shows is = grind (arith)
 
 -- a session that has no branch by its turn after an answer that isn't known had none before it
 unknown_none : (turn : Turn) → has_none (turn_unknown turn) ≡ true → has_none turn ≡ true
-unknown_none turn is = grind (arith, false≢true)
+unknown_none turn is = grind (arith)
 
 -- a session that has no branch by its turn after an event of the other part had none before it, or its call to end
 -- its branch was accepted
@@ -626,19 +625,18 @@ rest_none : (named : List ℕ → Bool) (turn : Turn) (event : Event) (client ne
     → has_none (turn_after turn event false) ≡ true
     → (has_none turn ≡ true) ⊎ ((turn ≡ Ending) × (client ≡ Answered (Answer.Reply Accepted)))
 rest_none named turn event client next fits is also =
-    grind (arith, false≢true, return_shows, returned_none, unknown_none, within_called)
+    grind (arith, return_shows, returned_none, unknown_none, within_called)
 
 -- after its call a session isn't answered yet
 called_unanswered : (session : ℕ) (request : Request) (client : ClientState) (answer : Answer)
     → client_after (Call session request) (Some client) ≡ Some (Answered answer) → ⊥
 unfolding client_after
-called_unanswered session request client answer is = grind (arith, left_answered, none-some, same_Some)
+called_unanswered session request client answer is = grind (arith)
 
 -- a session whose turn is Ending after an event isn't answered then: its call to end its branch has only begun
 open_by_call : (turn : Turn) (event : Event) (side : Bool) (client next : ClientState) (answer : Answer)
     → client_after event (Some client) ≡ Some next → turn_after turn event side ≡ Ending → next ≡ Answered answer → ⊥
-open_by_call turn event side client next answer is ending answered =
-    grind (arith, called_unanswered, returned_turns, unknown_turns)
+open_by_call turn event side client next answer is ending answered = grind (arith, called_unanswered, unknown_turns)
 
 -- an event of a session with this turn, where the whole and its parts belong together (`AreParts`)
 module _ (named : List ℕ → Bool) (turns : List Turn) (whole chosen rest : Config) (event : Event)
@@ -652,7 +650,7 @@ module _ (named : List ℕ → Bool) (turns : List Turn) (whole chosen rest : Co
   -- after the event, its session's turn is the one that `turn_after` gives
   written : (side : Bool) → slice_get (turns_past turns side event) (session_of event)
       ≡ Some (turn_after turn event side)
-  written side = grind (arith, get_written, turn_is)
+  written side = grind (arith, get_written)
 
   -- who has no branch by the turns after the event had none before it, or owns none, if that is so of the event's
   -- session
@@ -661,15 +659,7 @@ module _ (named : List ℕ → Bool) (turns : List Turn) (whole chosen rest : Co
       → (has_none turn ≡ true) ⊎ OwnsNone whole.state (session_of event))
       → (other : ℕ) → free_in (turns_past turns side event) other ≡ true
       → (free_in turns other ≡ true) ⊎ OwnsNone whole.state other
-  none_past side own other none = elim (same_number (session_of event) other) [
-    | inl e ↦ subst (λ n. (free_in turns n ≡ true) ⊎ OwnsNone whole.state n) e
-        (elim (own (sym (free_turn (turns_past turns side event) (session_of event) (turn_after turn event side)
-        (written side)) ∙ ap (free_in (turns_past turns side event)) e ∙ none)) [
-          | inl before ↦ inl (free_turn turns (session_of event) turn at ∙ before)
-          | inr ended ↦ inr ended
-        ])
-    | inr apart ↦ inl (ap (λ o. option_map_or has_none o false) (aside turns (session_of event) _ other apart) ∙ none)
-  ]
+  none_past side own other is = search (rules, arith, aside, free_turn, option_map_or, same_number, written)
 
   -- after the event `AreEnded` still holds: no event answers a call
   ended_past : (side : Bool) (client next : ClientState)

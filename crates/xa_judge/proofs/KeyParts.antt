@@ -6,7 +6,7 @@
 use Rattle.std.proofs.lemmas.{Bool.Decides.nat_tests, Grind.common_steps}
 use Rattle.std.proofs.Common.{◌≡◌, ◌≢◌, ◌⊎◌, ℕ, ◌+◌, ◌<◌, ◌≤◌, zero, suc, Bool, true, false, Some, List, [], ◌∷◌, ◌++◌}
 use Rattle.std.proofs.Common.{length, take, drop, get_or, refl, ap, sym, ◌∙◌, subst, inl, inr, arith, append_assoc}
-use Rattle.std.proofs.{Common.{append-nil, min}, lemmas.{Bool.false≢true, Option.{none-some, same_Some}}}
+use Rattle.std.proofs.{Common.{append-nil, min}, lemmas.Option.{none-some, same_Some}}
 use Rattle.std.{proofs.lemmas.List.at_drop_more, specs.Prelude.slice_get}
 use mathlib.Core.Bool.{beq}
 use Rattle.xa_judge.{specs.declared.{event.Event.Event, turn.Turn.Turn}, proofs.Places.get_within}
@@ -56,21 +56,21 @@ cut_all named turns sides events place so_far over =
 
 -- two truth values are the same if the test for that holds
 pub same_side : (left right : Bool) → beq left right ≡ true → left ≡ right
-same_side left right is = grind (arith, false≢true)
+same_side left right is = grind (arith)
 
 -- two truth values differ if the test whether they are the same fails
 pub other_side : (left right : Bool) → beq left right ≡ false → left ≢ right
-other_side left right is = grind (arith, false≢true)
+other_side left right is = grind (arith)
 
 -- an event of the wanted part is picked, before those that are picked behind it
 pub picked_in : (wanted side : Bool) (sides : List Bool) (event : Event) (events : List Event) → side ≡ wanted
     → picked wanted (side ∷ sides) (event ∷ events) ≡ event ∷ picked wanted sides events
-picked_in wanted side sides event events is = grind (arith, event, false≢true)
+picked_in wanted side sides event events is = grind (arith)
 
 -- an event of the part that isn't wanted isn't picked
 pub picked_out : (wanted side : Bool) (sides : List Bool) (event : Event) (events : List Event) → side ≢ wanted
     → picked wanted (side ∷ sides) (event ∷ events) ≡ picked wanted sides events
-picked_out wanted side sides event events is = grind (arith, event)
+picked_out wanted side sides event events is = grind (arith)
 
 -- of no events none is picked
 picked_none : (wanted : Bool) (sides : List Bool) → picked wanted sides [] ≡ []
@@ -107,7 +107,7 @@ pub picked_next : (wanted d : Bool) (place : ℕ) (sides : List Bool) (event : E
     × ((get_or sides place d ≢ wanted) → part ++ picked wanted (drop (place + 1) sides) (drop (place + 1) events)
     ≡ picked wanted sides events)
 picked_next wanted d place sides event events part in_sides in_events there so_far =
-    grind (arith, common_steps, nat_tests, append_assoc, at_drop_more, event, picked_in, picked_out)
+    grind (arith, common_steps, nat_tests)
 
 -- ---- how many there are
 
@@ -132,7 +132,7 @@ count_in_here false side (suc place) (false ∷ sides) at =
 
 -- an event of the wanted part counts as one
 one_in : (wanted side : Bool) → side ≡ wanted → count_in wanted (side ∷ []) ≡ 1
-one_in wanted side is = grind (arith, false≢true)
+one_in wanted side is = grind (arith)
 
 -- an event of the part that isn't wanted doesn't count
 one_out : (wanted side : Bool) → side ≢ wanted → count_in wanted (side ∷ []) ≡ 0

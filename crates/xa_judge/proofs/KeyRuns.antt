@@ -76,16 +76,14 @@ chosen_turn : (named : List ℕ → Bool) (turns : List Turn) (whole chosen rest
     (session : ℕ) (act : Act) → AreParts named turns whole chosen rest
     → effect_of chosen session act ≡ Some mid
     → slice_get turns session ≡ Some Turn.Chosen
-chosen_turn named turns whole chosen rest mid session act parts leads =
-    grind (arith, absent_rests, clients_at, idle_rests)
+chosen_turn named turns whole chosen rest mid session act parts leads = grind (arith, absent_rests, idle_rests)
 
 -- an act in the other part is of a session whose open call belongs to that part, or that may have a branch
 rest_turn : (named : List ℕ → Bool) (turns : List Turn) (whole chosen rest mid : Config)
     (session : ℕ) (act : Act) → AreParts named turns whole chosen rest
     → effect_of rest session act ≡ Some mid
     → (turn : Turn) × (slice_get turns session ≡ Some turn) × (is_rest turn ≡ true)
-rest_turn named turns whole chosen rest mid session act parts leads =
-    grind (arith, absent_rests, clients_at, idle_rests, is_rest)
+rest_turn named turns whole chosen rest mid session act parts leads = grind (arith, absent_rests, idle_rests, is_rest)
 
 -- ---- from the whole to the parts
 

@@ -17,12 +17,12 @@ use Rattle.xa_server.specs.State.{committed_value, Write, Branch, State, associa
 use Rattle.xa_server.specs.{Overview.{entry_of, branches_of}, Locks.is_held_against, Replies.{table, reply_to}}
 use Rattle.xa_server.specs.Step.{started_by, with_changed, with_write, with_writes, with_lock}
 use Rattle.xa_server.specs.Step.{with_own_write, without_branch, row_written, committed, effect, after}
-use Rattle.xa_server.proofs.{Maps.{same_or_apart, get_inserted_apart, get_removed_apart}, Seen.owned_is}
+use Rattle.xa_server.proofs.Maps.{same_or_apart, get_inserted_apart, get_removed_apart}
 use Rattle.xa_server.proofs.{Changes.{idle, detached, branch_after, effect-branch, outcome}, Others.none_found}
 use Rattle.xa_judge.specs.{declared.{request.Request.Request, answer.Answer.Answer}, Explained.{answer_to, next_state}}
-use Rattle.xa_judge.{specs.Near.{AreNear, ReadsNamed}, proofs.Clean.{OwnsNone, same_test}}
+use Rattle.xa_judge.{specs.Near.{AreNear, ReadsNamed}, proofs.Clean.OwnsNone}
 use Rattle.xa_judge.specs.Keys.{IsFreeRequest, IsOtherRequest, IsApartBranch, IsApartAt, IsApart, HasNoBranch}
-use Rattle.xa_judge.proofs.NearStates.{near_answer, near_next, near_put, near_del, near_refl}
+use Rattle.xa_judge.proofs.NearStates.{near_answer, near_next, near_put, near_del}
 use Rattle.std.specs.FinMap as map
 
 -- ---- what a request of the other part does to branches
@@ -30,7 +30,7 @@ use Rattle.std.specs.FinMap as map
 -- a key that is named differs from one that isn't
 unlike : (named : List ℕ → Bool) (key other : List ℕ) → named other ≡ false → named key ≡ true
     → eq_by_cmp bytes_cmp key other ≡ false
-unlike named key other unnamed is = grind (arith, bytes_total, exact_texts, same_or_apart, true≢false)
+unlike named key other unnamed is = grind (arith, bytes_total, exact_texts, same_or_apart)
 
 -- if two branches are apart (`IsApartAt`), so is the one of them that a test picks
 either_apart : (named : List ℕ → Bool) (free : ℕ → Bool) (b : Bool) (one other : Option Branch)
@@ -59,13 +59,12 @@ start_apart named free session not_free = record {
 -- a branch that is apart stays so once it shares a row that isn't chosen
 lock_apart : (named : List ℕ → Bool) (free : ℕ → Bool) (key : List ℕ) (branch : Branch) → named key ≡ false
     → IsApartBranch named free branch → IsApartBranch named free (with_lock key branch)
-lock_apart named free key branch unnamed was = grind (arith, bytes_total, exact_texts, get_inserted_apart, unlike)
+lock_apart named free key branch unnamed was = grind (arith, bytes_total, exact_texts, get_inserted_apart)
 
 -- a branch that is apart stays so once it writes a row that isn't chosen
 write_apart : (named : List ℕ → Bool) (free : ℕ → Bool) (key : List ℕ) (write : Write) (branch : Branch)
     → named key ≡ false → IsApartBranch named free branch → IsApartBranch named free (with_own_write key write branch)
-write_apart named free key write branch unnamed was =
-    grind (arith, bytes_total, exact_texts, get_inserted_apart, unlike)
+write_apart named free key write branch unnamed was = grind (arith, bytes_total, exact_texts, get_inserted_apart)
 
 -- a branch that is apart stays so once it is detached
 detached_apart : (named : List ℕ → Bool) (free : ℕ → Bool) (branch : Branch) → IsApartBranch named free branch
@@ -125,7 +124,7 @@ pub free_of : (named : List ℕ → Bool) (free : ℕ → Bool) (state : State) 
     → free session ≡ true
     → association_of state session ≡ Association.Free
 unfolding association_of
-free_of named free state session are is = grind (arith, none_found, owned_is)
+free_of named free state session are is = grind (arith, none_found)
 
 -- a test that nothing passes is passed by none of a list
 none_any : (p : Xid → Bool) (xs : List Xid) → ((x : Xid) → p x ≡ false) → list_any p xs ≡ false
@@ -189,7 +188,7 @@ written_rows : (named : List ℕ → Bool) (state : State) (association : Associ
     (write : Write) → named other ≡ false → named key ≡ true
     → committed_value (row_written state association other write) key ≡ committed_value state key
 written_rows named state association other key write unnamed is =
-    grind (arith, bytes_total, changed_rows, exact_texts, get_inserted_apart, get_removed_apart, unlike)
+    grind (arith, bytes_total, exact_texts, get_inserted_apart, get_removed_apart, unlike)
 
 -- the effect of a statement of the other part leaves the values of the chosen rows, if every branch is apart
 effect_rows : (named : List ℕ → Bool) (free : ℕ → Bool) (state : State) (session : ℕ) (association : Association)
@@ -383,11 +382,11 @@ none_listed state none xid = get-entries state.branches xid ∙ by (map.entries 
 -- before all events a base without branches is the whole and both parts (`AreJoined`)
 pub joined_first : (named : List ℕ → Bool) (free : ℕ → Bool) (base : State) → HasNoBranch base
     → AreJoined named free base base base
-joined_first named free base is = grind (arith, near_refl, none_apart)
+joined_first named free base is = grind (arith)
 
 -- the three states stay joined if `more` are the sessions that count as those without a branch: each of them did
 -- before, or owns no branch in the whole
 pub joined_with : (named : List ℕ → Bool) (free more : ℕ → Bool) (whole chosen rest : State)
     → ((session : ℕ) → more session ≡ true → (free session ≡ true) ⊎ OwnsNone whole session)
     → AreJoined named free whole chosen rest → AreJoined named more whole chosen rest
-joined_with named free more whole chosen rest has joined = grind (arith, same_test)
+joined_with named free more whole chosen rest has joined = grind (arith)

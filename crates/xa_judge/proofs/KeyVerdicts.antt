@@ -5,7 +5,7 @@
 --     whole_explained, part_explained     what is explained in both parts is explained;  and the other way round
 --     illegal_part, legal_before          the verdict on a record by one part's;  what is explained in a legal part
 use Rattle.std.proofs.Common.{◌≡◌, ℕ, ◌+◌, ◌<◌, ◌≤◌, zero, suc, Bool, true, false, Some, List, [], ◌∷◌, Vec, Global}
-use Rattle.std.proofs.Common.{length, take, refl, ap, sym, ◌∙◌, subst, arith, replicate, slice_index_or}
+use Rattle.std.proofs.Common.{length, take, refl, ap, sym, ◌∙◌, subst, arith, replicate}
 use Rattle.std.{proofs.lemmas.{Option.{none-some, same_Some}, Bool.false≢true}, specs.Prelude.{slice_get, not}}
 use Rattle.xa_server.specs.State.{State}
 use Rattle.xa_judge.specs.declared.{answer.Answer.Answer, event.{Seen.Seen, Event.{Event, TheVariants.Return}}}
@@ -14,8 +14,7 @@ use Rattle.xa_judge.specs.declared.turn.Turn.{Turn, TheVariants.{Nobody, Ending}
 use Rattle.xa_judge.specs.{Explained.{Config, opening_config, LeadsThrough, Explained}, Keys.{FitsTurn, first_turns}}
 use Rattle.xa_judge.specs.Keys.{IsCut, turns_after, turns_past, picked, count_in, session_of, HasNoBranch}
 use Rattle.xa_judge.{specs.Verdicts.{IsRefuted, CouldBe, AreAllAnswers, IsVerdict}, proofs.Places.get_within}
-use Rattle.xa_judge.proofs.{Clean.law_none, KeyStates.joined_first, KeyRuns.{clients_at, in_parts, whole_of}}
-use Rattle.xa_judge.proofs.KeyClients.{AreClients, AreParts, same_chosen, same_rest}
+use Rattle.xa_judge.proofs.{KeyRuns.{in_parts, whole_of}, KeyClients.{AreClients, AreParts}}
 
 -- ---- before all events
 
@@ -40,7 +39,7 @@ none_ends (suc count) (suc at) e = none_ends count at e
 pub parts_first : (named : List ℕ → Bool) (base : State) → HasNoBranch base
     → AreParts named first_turns (opening_config base) (opening_config base) (opening_config base)
 unfolding opening_config first_turns
-parts_first named base is = grind (arith, clients_first, joined_first, law_none, none_ends)
+parts_first named base is = grind (arith)
 
 -- ---- places
 
@@ -224,8 +223,7 @@ same_client : (named : List ℕ → Bool) (turns : List Turn) (whole chosen rest
     → slice_get turns session ≡ Some turn
     → FitsTurn named turn (Return session seen) wanted
     → slice_get whole.clients session ≡ slice_get ((part_of wanted chosen rest).clients) session
-same_client named turns whole chosen rest session seen turn wanted parts at fits =
-    grind (arith, clients_at, same_chosen, same_rest)
+same_client named turns whole chosen rest session seen turn wanted parts at fits = grind (arith)
 
 -- an answer that a call could have in its part, it could have in the record, if the other part is explained up to
 -- there
@@ -342,7 +340,7 @@ pub answers_part : (named : List ℕ → Bool) (base : State) (sides : List Bool
     → AreAllAnswers base (picked wanted sides events) (count_in wanted (take place sides)) answers
     → AreAllAnswers base events place answers
 answers_part named base sides events wanted place answers apart cut at other are =
-    grind (arith, could_part, could_whole, slice_index_or)
+    grind (arith, could_part, could_whole)
 
 -- ---- verdicts
 

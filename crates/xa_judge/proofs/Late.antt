@@ -7,15 +7,14 @@
 use Rattle.std.proofs.lemmas.{Bool.Decides.nat_tests, Grind.common_steps}
 use Rattle.std.proofs.Common.{◌≡◌, ◌≢◌, ◌⊎◌, ℕ, ◌+◌, ◌<◌, suc, Option, Some, List, [], ◌∷◌, ◌++◌, length, get_or, true}
 use Rattle.std.{proofs.Common.{false, refl, ap, sym, ◌∙◌, subst, inl, inr, arith}, specs.Option.option_map}
-use Rattle.std.{proofs.lemmas.{Option.{same_Some, slice_get_read}, Bool.cases_lt}, specs.Prelude.slice_get}
-use Rattle.std.specs.List.{Contains}
+use Rattle.std.{proofs.lemmas.{Option.slice_get_read, Bool.cases_lt}, specs.Prelude.slice_get, specs.List.Contains}
 use Rattle.xa_server.specs.State.{State}
 use Rattle.xa_judge.specs.declared.{event.Event.{Event, TheVariants.{Call, Return, Lost, Unknown}}, moves.Act.Act}
 use Rattle.xa_judge.specs.{declared.configuration.Configuration.Configuration, Explained.{Config, effect_of, IsSession}}
 use Rattle.xa_judge.specs.Late.{after_settling, has_unheard, is_over, IsReachedFrom, at_once, by_act, IsAnyUnheard}
 use Rattle.xa_judge.specs.{Late.{Widens, IsCounted, IsReady, IsKeptAfter, IsKept}, Found.{config_of, Has, IsShortened}}
 use Rattle.xa_judge.specs.Found.{AddsUnlessThere, IsSeenAdded, IsOpening, AddsOnly, IsSettledIn, IsSeenIn}
-use Rattle.xa_judge.proofs.{Places.{get_within, place_mapped}, Growth.has_more, Loops.{has_last, has_pushed}}
+use Rattle.xa_judge.proofs.{Places.{get_within, place_mapped}, Loops.{has_last, has_pushed}}
 
 -- an empty list has nothing
 has_none : (c : Config) → Has [] c → ⊥
@@ -24,7 +23,7 @@ has_none c has = omega (arith, has.1)
 -- what a list has once a configuration was added unless it was there, it had before or is that one
 added_last : (old new : List Configuration) (one : Configuration) (c : Config) → AddsUnlessThere old one new → Has new c
     → Has old c ⊎ (config_of one ≡ c)
-added_last old new one c is has = grind (arith, common_steps, nat_tests, has_last)
+added_last old new one c is has = grind (arith, common_steps, nat_tests)
 
 -- if a list stays as it is, nothing was added but what an act that counts leads to from `one` (`AddsOnly`)
 pub adds_none : (returning : Option ℕ) (one : Config) (list : List Configuration) → AddsOnly returning one list list
@@ -47,7 +46,7 @@ pub adds_effect : (old new : List Configuration) (place : ℕ) (one next : Confi
     → is_over returning (config_of other) ≡ false
     → AddsOnly returning (config_of other) old new
 adds_effect old new place one next found session act at is effect also added other returning there apart unanswered =
-    grind (arith, common_steps, nat_tests, added_last, option_map, same_Some)
+    grind (arith, common_steps, nat_tests)
 
 -- if acts that count lead from the first list to all of the old one (`IsReachedFrom`), they lead to all of the new
 -- one, to which only what one such act leads to from the configuration at a place was added (`AddsOnly`)
@@ -84,7 +83,7 @@ last_of first known rest one parts of = of (config_of one) (has_pushed rest know
 -- if all of a list is in a first one, so is all of it but its last configuration
 rest_of : (first known rest : List Configuration) (one : Configuration) → known ≡ rest ++ one ∷ []
     → ((config : Config) → Has known config → Has first config) → (config : Config) → Has rest config → Has first config
-rest_of first known rest one parts of config has = grind (arith, common_steps, nat_tests, has_more)
+rest_of first known rest one parts of config has = grind (arith, common_steps, nat_tests)
 
 -- one round of the loop that settles configurations: `SettledOnly` still holds once the last one was taken off, and
 -- what it settles to put behind the list
@@ -139,8 +138,7 @@ pub heard_more : (known : List Configuration) (place session : ℕ) (one : Confi
     → has_unheard (config_of other) session ≡ false)
     → (k : ℕ) (other : Configuration) → k < place + 1 → slice_get known k ≡ Some other
     → has_unheard (config_of other) session ≡ false
-heard_more known place session one within at is before k other below found =
-    grind (arith, cases_lt, same_Some, slice_get_read)
+heard_more known place session one within at is before k other below found = grind (arith, cases_lt, slice_get_read)
 
 -- what is reached by acts (`IsReachedFrom`) if some configurations are kept is reached if more are
 reached_of_more : (P Q : Config → Type 0) (returning : Option ℕ) (config : Config)
@@ -176,7 +174,7 @@ ready_of_more P Q (Unknown session) config wider is = counted_of_more P Q (Unkno
 -- the opening configuration, which alone is in the list, is the one that is kept before all events
 pub opens_kept : (base : State) (events : List Event) (list : List Configuration) → IsOpening base list
     → (config : Config) → Has list config → IsKept base events 0 config
-opens_kept base events list is config has = grind (arith, has_last, has_none)
+opens_kept base events list is config has = grind (arith)
 
 -- if each of the old list may be kept before the event at a place (`IsKept`), and each of the next list after that
 -- event (`IsKeptAfter`), each of the new list may be kept before the next place. The new list is the next one with

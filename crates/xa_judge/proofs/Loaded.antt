@@ -3,10 +3,10 @@
 --                                       state after it, and nowhere else
 --     refuted_behind, answers_behind    what is refuted from the state is refuted behind the events, with the same
 --                                       answers
-use Rattle.std.proofs.Common.{◌≡◌, ◌≢◌, ◌==◌, ℕ, ◌+◌, ◌<◌, zero, suc, true, Some, List, [], ◌∷◌, ◌++◌}
+use Rattle.std.proofs.Common.{◌≡◌, ◌≢◌, ◌==◌, ℕ, ◌+◌, ◌<◌, zero, suc, true, Some, List, [], ◌∷◌, ◌++◌, rules}
 use Rattle.std.proofs.Common.{length, set, take, get_or, refl, ap, sym, ◌∙◌, subst, inl, inr, arith, append_assoc}
-use Rattle.std.proofs.{Common.length-append, lemmas.{Grind.common_steps, Option.{none-some, same_Some, cond_some}}}
-use Rattle.std.proofs.{lemmas.List.{set-set, get_or-replicate, length-replicate}, Math.Seq.take-append-add}
+use Rattle.std.proofs.{Common.length-append, lemmas.Grind.common_steps, lemmas.Option.{none-some, same_Some}}
+use Rattle.std.proofs.{lemmas.List.{get_or-replicate, length-replicate}, Math.Seq.take-append-add}
 use Rattle.std.specs.Prelude.{slice_get, replicate}
 use Rattle.xa_server.specs.State.{State}
 use Rattle.xa_judge.specs.declared.{request.Request.Request, answer.Answer.Answer, event.{Seen.Seen, Event.Event}}
@@ -51,15 +51,13 @@ record IsAlone (clients : List ClientState) (session : ℕ) (client : ClientStat
 
 -- in a list of n idle clients each place below n has one
 idle_at : (n session : ℕ) → session < n → slice_get (replicate n Idle) session ≡ Some Idle
-idle_at n session within =
-    stands_at (replicate n Idle) session Idle (omega (arith, length-replicate n Idle))
-    (sym (get_or-replicate n session Idle Idle within))
+idle_at n session within = search (rules, arith, get_or-replicate, length-replicate, stands_at)
 
 -- before all events a session is idle, and all other sessions are idle too
 alone_opening : (state : State) (session : ℕ) → IsSession session
     → IsAlone ((opening_config state).clients) session Idle
 unfolding opening_config
-alone_opening state session is = grind (arith, idle_at)
+alone_opening state session is = grind (arith)
 
 -- once a session's client is replaced where all others are idle, it has the new one, and the others are still idle
 alone_written : (clients : List ClientState) (session : ℕ) (old new : ClientState) → IsAlone clients session old
@@ -70,14 +68,14 @@ alone_written clients session old new alone = grind (arith, get_apart, get_writt
 idle_rests : (config new : Config) (session : ℕ) (act : Act) → slice_get config.clients session ≡ Some Idle
     → effect_of config session act ≡ Some new → ⊥
 unfolding effect_of carried_out disconnected
-idle_rests config new session act found is = grind (arith, none-some)
+idle_rests config new session act found is = grind (arith)
 
 -- no act of a session that has its answer can take effect
 answered_rests : (config new : Config) (session : ℕ) (act : Act) (answer : Answer)
     → slice_get config.clients session ≡ Some (Answered answer)
     → effect_of config session act ≡ Some new → ⊥
 unfolding effect_of carried_out disconnected
-answered_rests config new session act answer found is = grind (arith, none-some)
+answered_rests config new session act answer found is = grind (arith)
 
 -- the DISCONNECT of a session that has called and isn't answered can't take effect
 called_stays : (config new : Config) (session : ℕ) (request : Request)
@@ -111,7 +109,7 @@ returns_idle : (config new : Config) (session : ℕ) (seen : Seen) (answer : Ans
     → slice_get config.clients session ≡ Some (Answered answer)
     → observed config (Return session seen) ≡ Some new → with_client config session Idle ≡ new
 unfolding observed returned
-returns_idle config new session seen answer found is = grind (arith, cond_some)
+returns_idle config new session seen answer found is = grind (arith)
 
 -- the configuration after the session's request took effect
 abbrev answered_config : Config → ℕ → Request → Config
@@ -201,7 +199,7 @@ idle_again : (state next : State) (session : ℕ) (one two : ClientState) → Is
           Idle;
     }
 unfolding opening_config
-idle_again state next session one two is = grind (arith, idle_at, set-set, set_same)
+idle_again state next session one two is = grind (arith)
 
 -- a call that returns its answer at once, where all are idle, leads to the state after it
 pub alone_leads : (state : State) (session : ℕ) (request : Request) (seen : Seen) → IsSession session

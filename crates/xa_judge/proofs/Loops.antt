@@ -11,7 +11,7 @@
 use Rattle.std.proofs.lemmas.{Bool.Decides.nat_tests, Grind.common_steps}
 use Rattle.std.proofs.Common.{◌≡◌, ◌≢◌, ◌⊎◌, ℕ, ◌+◌, ◌<◌, ◌≤◌, take, Option, Some, None, List, [], ◌∷◌, ◌++◌, length}
 use Rattle.std.{proofs.Common.{get_or, refl, ap, sym, ◌∙◌, subst, inl, inr, arith}, specs.Prelude.{slice_get, IfSome}}
-use Rattle.std.proofs.lemmas.{Option.{same_Some, none-some, slice_get_read}, Bool.cases_lt, List.{take_more, take_all}}
+use Rattle.std.proofs.lemmas.{Option.{same_Some, none-some, slice_get_read}, Bool.cases_lt, List.take_all}
 use Rattle.std.proofs.lemmas.List.Elements.{All-push, All-pop, Contains-append_left, Contains-push}
 use Rattle.std.specs.{Option.option_map, List.{All, Contains}}
 use Rattle.xa_server.specs.State.{State}
@@ -20,7 +20,7 @@ use Rattle.xa_judge.specs.declared.{moves.{Act.Act, Move.Move}, configuration.Co
 use Rattle.xa_judge.specs.{Explained.{Config, effect_of, observed, IsSession}, Late.after_settling, Found.config_of}
 use Rattle.xa_judge.specs.Found.{Has, Reaches, Grows, AddsUnlessThere, IsSettledFrom, IsSeenAdded}
 use Rattle.xa_judge.specs.Found.{IsAnsweredIn, IsAnswerAdded, IsExpandedBelow, IsClosedBelow}
-use Rattle.xa_judge.proofs.{Places.{map_append, get_within, place_mapped}, Growth.{has_still, has_added, has_kept}}
+use Rattle.xa_judge.proofs.{Places.{get_within, place_mapped}, Growth.{has_still, has_added, has_kept}}
 use Rattle.xa_judge.proofs.Growth.{still_there, all_added, reaches_effect, reaches_event, grows_added}
 
 -- in a loop over a list: if the events lead to all of it, they lead to what is left and to what was made of the rest
@@ -56,7 +56,7 @@ has_pushed list new one is = has_added list new one (inr is)
 pub has_last : (rest known : List Configuration) (one : Configuration) (c : Config) → known ≡ rest ++ one ∷ []
     → Has known c
     → Has rest c ⊎ (config_of one ≡ c)
-has_last rest known one c parts has = grind (arith, common_steps, nat_tests, map_append)
+has_last rest known one c parts has = grind (arith, common_steps, nat_tests)
 
 -- one round of the loop that settles: the last of `known` is taken off, and what it settles to is put behind the
 -- list. Each of the first list is still to come, or has what it settles to in the list (`SettlesBoth`), also after
@@ -277,8 +277,7 @@ module _ {X : Type 0} where
       → ((other : X) → Contains old other → Contains new other) → Contains new x
       → ((other : X) → Contains (take i xs) other → Contains old other)
       → (other : X) → Contains (take (i + 1) xs) other → Contains new other
-  contained_more xs i x old new within at keeps here before other has =
-      grind (arith, common_steps, nat_tests, take_more)
+  contained_more xs i x old new within at keeps here before other has = grind (arith, common_steps, nat_tests)
 
   -- once all were taken up, each of them is in the new list
   pub contained_end : (xs : List X) (i : ℕ) (list : List X) → length xs ≤ i

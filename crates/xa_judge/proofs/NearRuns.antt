@@ -13,7 +13,7 @@ use Rattle.xa_judge.specs.Explained.{Config, opening_config, with_client, effect
 use Rattle.xa_judge.specs.Explained.{observed, called, returned, lost, answered_unknown, shows_answer, answer_to}
 use Rattle.xa_judge.specs.{Explained.{next_state, LeadsThrough}, Near.{AreNear, ReadsNamed, CallsNamed}}
 use Rattle.xa_judge.{specs.Keys.session_of, proofs.NearStates.{near_answer, near_next, near_after}}
-use Rattle.xa_judge.proofs.Places.{same_number, get_written, get_apart}
+use Rattle.xa_judge.proofs.Places.{get_written, get_apart}
 
 -- the session's open request reads only named rows, if it has one; its client may be gone
 abbrev pub WaitsNamed : (List ℕ → Bool) → ClientState → Type 0
@@ -51,8 +51,7 @@ waits_set : (named : List ℕ → Bool) (clients : List ClientState) (session : 
     → ((session : ℕ) (client : ClientState) → slice_get clients session ≡ Some client → WaitsNamed named client)
     → (other : ℕ) (client : ClientState) → slice_get (set clients session next) other ≡ Some client
     → WaitsNamed named client
-waits_set named clients session before next found reads waits other client at =
-    grind (arith, get_apart, get_written, same_Some, same_number)
+waits_set named clients session before next found reads waits other client at = grind (arith, get_apart, get_written)
 
 -- two near configurations stay near once one session's client is replaced by the same one in both, whose open request
 -- reads only named rows, and the states by near ones
@@ -295,4 +294,4 @@ of_one (suc n) (suc place) one client at = of_one n place one client at
 pub near_opening : (named : List ℕ → Bool) (left right : State) → AreNear named left right
     → AreNearConfigs named (opening_config left) (opening_config right)
 unfolding opening_config
-near_opening named left right near = grind (arith, of_one)
+near_opening named left right near = grind (arith)

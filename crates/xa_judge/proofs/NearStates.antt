@@ -2,7 +2,7 @@
 --     near_next, near_after     a request, a statement leaves near states near
 --     near_put, near_del        so does a free session's write of a row that isn't named, on the left alone
 --     near_refl, near_sym       a state is near itself;  and near states are so in either order
-use Rattle.std.proofs.Common.{◌≡◌, ℕ, List, [], ◌∷◌, refl, ap, sym, ◌∙◌, subst, Bool, true, false, arith}
+use Rattle.std.proofs.Common.{◌≡◌, ℕ, List, [], ◌∷◌, refl, ap, sym, ◌∙◌, subst, Bool, true, false, arith, rules}
 use Rattle.std.specs.{Prelude.{Option, Some, None, cond}, Option.{option_map_or, unwrap_or}, Ordering.eq_by_cmp}
 use Rattle.std.specs.FinMap.{get-insert, get-remove}
 use mathlib.Core.Bool.{true≢false}
@@ -64,7 +64,7 @@ unnamed_agrees : (named : List ℕ → Bool) (key : List ℕ) (write : Write) (l
     → named key ≡ false
     → Agree named (with_write key write left) right
 unnamed_agrees named key write left right agree unnamed other is =
-    grind (arith, bytes_total, exact_texts, get_inserted_apart, get_removed_apart, same_or_apart, true≢false)
+    grind (arith, bytes_total, exact_texts, get_inserted_apart, get_removed_apart, same_or_apart)
 
 -- ---- replies
 
@@ -149,7 +149,7 @@ near_changed : (named : List ℕ → Bool) (branches : Branches) (left right : R
     → (xid : Xid) (change : Branch → Branch)
     → AreNear named (with_changed (state_at branches left) xid change)
     (with_changed (state_at branches right) xid change)
-near_changed named branches left right agree xid change = grind (arith, near_at)
+near_changed named branches left right agree xid change = grind (arith)
 
 -- committing the same branch in two near states leaves near states
 near_committed : (named : List ℕ → Bool) (branches : Branches) (left right : Rows) → Agree named left right
@@ -230,7 +230,7 @@ near_unless : (named : List ℕ → Bool) (reply other_reply : Reply) (old new o
     → is_refused reply ≡ is_refused other_reply
     → AreNear named old other → AreNear named new other_new
     → AreNear named (unless_refused reply old new) (unless_refused other_reply other other_new)
-near_unless named reply other_reply old new other other_new same before later = grind (arith, by_refusal, near_either)
+near_unless named reply other_reply old new other other_new same before later = grind (arith)
 
 -- a statement leaves near states near, whatever it reads: here of states given by branches and rows
 after_at : (named : List ℕ → Bool) (branches : Branches) (left right : Rows) → Agree named left right
@@ -239,10 +239,7 @@ after_at : (named : List ℕ → Bool) (branches : Branches) (left right : Rows)
     (after (state_at branches right) session statement)
 unfolding after reply_to association_of own_xid
 after_at named branches left right agree session statement =
-    near_unless named _ _ _ _ _ _ (refusal_agrees branches left right
-    (association_of (state_at branches left) session) statement)
-    (near_at named branches left right agree) (near_effect named branches left right agree session
-    (association_of (state_at branches left) session) statement)
+    search (rules, arith, near_at, near_effect, near_unless, refusal_agrees)
 
 -- ---- near states
 
@@ -255,7 +252,7 @@ right_is named left right near = same_state (state_at left.branches right.rows) 
 pub near_answer : (named : List ℕ → Bool) (left right : State) (session : ℕ) (request : Request)
     → AreNear named left right → ReadsNamed named request
     → answer_to left session request ≡ answer_to right session request
-near_answer named left right session request near reads = grind (arith, reply_agrees, right_is)
+near_answer named left right session request near reads = grind (arith, reply_agrees)
 
 -- a statement leaves near states near, whatever it reads
 pub near_after : (named : List ℕ → Bool) (left right : State) (session : ℕ) (statement : Statement)

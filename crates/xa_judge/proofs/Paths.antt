@@ -11,7 +11,7 @@ concat_more blocks last = concat-append blocks (last ∷ []) ∙ ap (λ l. conca
 -- one code more behind the blocks is one move more at the end
 pub moves_push : (blocks : List (List ℕ)) (tail : List ℕ) (code : ℕ)
     → moves_of blocks (tail ++ code ∷ []) ≡ moves_of blocks tail ++ move_of code ∷ []
-moves_push blocks tail code = grind (arith, append_assoc, concat, map-append)
+moves_push blocks tail code = grind (arith, append_assoc, map-append)
 
 -- if the codes behind the blocks become a block themselves, the moves stay the same
 pub moves_folded : (blocks : List (List ℕ)) (tail : List ℕ) → moves_of (blocks ++ tail ∷ []) [] ≡ moves_of blocks tail
@@ -20,7 +20,7 @@ moves_folded blocks tail = ap (map move_of) (append-nil (concat (blocks ++ tail 
 -- the moves of the blocks come first, and then those of the codes behind them
 pub moves_split : (blocks : List (List ℕ)) (tail : List ℕ)
     → moves_of blocks tail ≡ moves_of blocks [] ++ map move_of tail
-moves_split blocks tail = grind (arith, append-nil, concat, map-append)
+moves_split blocks tail = grind (arith, append-nil, map-append)
 
 -- the moves of blocks with one more at the end are the moves of the others, and then that one's
 pub moves_more : (blocks : List (List ℕ)) (last : List ℕ)

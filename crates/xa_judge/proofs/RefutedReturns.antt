@@ -3,7 +3,7 @@
 use Rattle.std.proofs.Common.{◌≡◌, ℕ, ◌+◌, ◌<◌, true, false, Some, List, [], ◌∷◌, ◌++◌, length, take, arith}
 use Rattle.std.proofs.{Common.{refl, ap, sym, ◌∙◌, subst, get_or, ◌≤◌}, lemmas.Bool.false≢true}
 use Rattle.std.{proofs.lemmas.List.{take_more, take_all, Elements.{All-contains, All-push}}, specs.List.{All, Contains}}
-use Rattle.std.{proofs.lemmas.Option.{none-some, same_Some, cond_some, get_or_from_slice_get}, specs.Prelude.slice_get}
+use Rattle.std.{proofs.lemmas.Option.{same_Some, get_or_from_slice_get}, specs.Prelude.slice_get}
 use Rattle.xa_server.specs.State.{State}
 use Rattle.xa_judge.specs.declared.{answer.Answer.Answer, event.Seen.Seen}
 use Rattle.xa_judge.specs.declared.client_state.ClientState.TheVariants.{Answered}
@@ -52,7 +52,7 @@ before_last old new (first ∷ events) event [] runs = absurd runs
 shown : (mid next : Config) (session : ℕ) (seen : Seen) → observed mid (Return session seen) ≡ Some next
     → (answer : Answer) × (slice_get mid.clients session ≡ Some (Answered answer)) × (shows_answer seen answer ≡ true)
 unfolding observed returned
-shown mid next session seen sees = grind (arith, cond_some, none-some)
+shown mid next session seen sees = grind (arith)
 
 -- if some order explains events that end with a return, some moves lead through those before it to a configuration in
 -- which its session has an answer that the return shows

@@ -17,7 +17,7 @@ pub record Chosen (known : List Configuration) (keys : List (List ℕ)) (marks :
 
 -- before the first configuration none is chosen, whatever numbers the set has
 pub chosen_none : (known : List Configuration) (keys : List (List ℕ)) (marks : BTreeSet ℕ) → Chosen known keys marks 0
-chosen_none known keys marks = grind (arith, mark)
+chosen_none known keys marks = grind (arith)
 
 -- a number that the set had is still there once any is put in
 still_marked : (old new : BTreeSet ℕ) (added number : ℕ) → Updates nat_cmp old new added true
@@ -30,7 +30,7 @@ still_marked old new added number updates had = grind (arith)
 pub chosen_same : (known : List Configuration) (keys : List (List ℕ)) (old new : BTreeSet ℕ) (count added : ℕ)
     → Updates nat_cmp old new added true
     → Chosen known keys old count → Chosen known keys new count
-chosen_same known keys old new count added updates c = grind (arith, mark, still_marked)
+chosen_same known keys old new count added updates c = grind (arith)
 
 -- one configuration more is chosen, if its number wasn't in the set yet: it differs from all chosen before
 chosen_more : (known : List Configuration) (keys : List (List ℕ)) (old new : BTreeSet ℕ) (count : ℕ) (one : Config)
@@ -53,7 +53,7 @@ chosen_more known keys old new count one has updates none c = record {
 
 -- a test whose negation holds fails
 not_there : (b : Bool) → not b ≡ true → b ≡ false
-not_there b e = grind (arith, false≢true)
+not_there b e = grind (arith)
 
 -- if the number of the configuration at a place is new in the set, that configuration is chosen, too
 pub chosen_new : (known : List Configuration) (keys : List (List ℕ)) (old new : BTreeSet ℕ) (count place number : ℕ)

@@ -81,7 +81,7 @@ module _ {S : Type 0} {gives : S → SoFar → S → Type 0} where
       (λ verdict. IsToldUpTo gives all (seen_for events verdict) mid new))
       → IfOk result (λ found. MatchOption found (ArePasses gives all old new)
       (λ verdict. IsToldUpTo gives all (seen_for events verdict) old new))
-  found_on events new result passes more = grind (arith, passes_on, told_on)
+  found_on events new result passes more = grind (arith, passes_on)
 
   -- a pass that begins with the first event tells up to where it ends
   pub whole_told : {base : State} {events : List Event} {all seen : ℕ} {old new : S}

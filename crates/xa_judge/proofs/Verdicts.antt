@@ -25,8 +25,7 @@ pub complete_more : (base : State) (events : List Event) (place : ℕ) (event : 
     → event ≡ get_or events place event → IsComplete base (take place events) old
     → ((more : List Event) (end : Config) → Continues old (event ∷ more) end → Continues new more end)
     → IsComplete base (take (place + 1) events) new
-complete_more base events place event old new within at complete leads =
-    grind (arith, common_steps, nat_tests, append_assoc, take_more)
+complete_more base events place event old new within at complete leads = grind (arith, common_steps, nat_tests)
 
 -- if the events before a place lead to each of the old list, the events up to and including the one there lead to
 -- each of the new list, which is what that event makes of the old one (`ReachesPast`)
@@ -35,7 +34,7 @@ pub reach_more : (base : State) (events : List Event) (place : ℕ) (event : Eve
     → event ≡ get_or events place event
     → All (Reaches base (take place events) trunk) old → ReachesPast event old new
     → All (Reaches base (take (place + 1) events) trunk) new
-reach_more base events place event trunk old new within at all leads = grind (arith, common_steps, nat_tests, take_more)
+reach_more base events place event trunk old new within at all leads = grind (arith, common_steps, nat_tests)
 
 -- if the events lead to each configuration of a list that isn't empty, some order explains them
 pub explained_by : (base : State) (seen : List Event) (trunk : List Move) (list : List Configuration) → 0 < length list
