@@ -3,9 +3,9 @@
 --     AreLate, advance_return    a return, before which acts come as late as they can
 --     counts_closed, advance_closed   another event, before which the list is closed
 --     widens_call, NoneUnheard   an open call that nobody hears may come before a call;  there is none
-use Rattle.std.proofs.lemmas.{Bool.Decides.nat_tests, Grind.common_steps}
-use Rattle.std.proofs.Common.{◌≡◌, ℕ, false, Some, None, List, [], ◌∷◌, ◌++◌, length, slice_get, refl, ap, sym, ◌∙◌}
-use Rattle.std.{proofs.{Common.{subst, inl, arith}, lemmas.Option.none-some}, specs.List.{All, Contains}}
+use Rattle.std.proofs.{lemmas.{Bool.Decides.nat_tests, Grind.common_steps, Option.none-some}, Common.{◌≡◌, ℕ, false}}
+use Rattle.std.proofs.Common.{Some, None, List, [], ◌∷◌, ◌++◌, length, slice_get, refl, ap, sym, ◌∙◌, subst, inl, arith}
+use Rattle.std.specs.List.{All, Contains}
 use Rattle.xa_server.specs.State.{State}
 use Rattle.xa_judge.specs.declared.{client_state.ClientState.TheVariants.Answered, moves.{Act.Act, Move.Move}}
 use Rattle.xa_judge.specs.declared.{moves.Move.TheVariants.{Event as Seeing, Effect}, answer.Answer.Answer}

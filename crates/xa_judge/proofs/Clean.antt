@@ -4,11 +4,10 @@ use Rattle.std.specs.{Prelude.cond, Option.option_map}
 use mathlib.Core.Bool.{true≢false}
 use Rattle.xa_xid.specs.{declared.{xid.Xid.Xid, statement.Statement.Statement}, Xid.same_xid}
 use Rattle.xa_xid.proofs.Orders.{xids_total}
-use Rattle.xa_server.specs.declared.association.Association.{Association}
-use Rattle.xa_server.specs.{declared.reply.Reply.TheVariants.Ok as Accepted, Replies.{table, reply_to}}
-use Rattle.xa_server.specs.{State.{Branch, State, owns, association_of}, Locks.LockLaw, Step.is_refused}
-use Rattle.xa_server.proofs.{Maps.same_itself, Keeping.{is_free, owner_associated}, Accepted.own_is}
-use Rattle.xa_server.proofs.Changes.{detached, branch_after, effect-branch, outcome}
+use Rattle.xa_server.specs.declared.{association.Association.Association, reply.Reply.TheVariants.Ok as Accepted}
+use Rattle.xa_server.specs.{Replies.{table, reply_to}, State.{Branch, State, owns, association_of}, Locks.LockLaw}
+use Rattle.xa_server.{specs.Step.is_refused, proofs.{Maps.same_itself, Keeping.{is_free, owner_associated}}}
+use Rattle.xa_server.proofs.{Accepted.own_is, Changes.{detached, branch_after, effect-branch, outcome}}
 use Rattle.xa_server.proofs.Others.{is_owned, IsOwn, IsStarted, own_association, accepted_prepare_own, owned_before}
 use Rattle.xa_judge.specs.declared.{request.Request.Request, answer.Answer.TheVariants.Reply as Replied}
 use Rattle.xa_judge.specs.{Explained.{answer_to, next_state}, Keys.{is_ending, HasNoBranch}}

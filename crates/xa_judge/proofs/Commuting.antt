@@ -10,7 +10,7 @@
 --     apart_same, still_apart      what is apart, is so in another configuration;  after an act
 --     exchanged_apart              acts of two sessions change places
 use Rattle.std.proofs.Common.{◌≡◌, ◌≢◌, ◌⊎◌, ℕ, Bool, true, false, cond, not, ◌&&◌, ◌||◌, [], ◌∷◌, Option, Some, None}
-use Rattle.std.{proofs.{Common.{List, set, refl, ap, sym, ◌∙◌, subst, inl, inr}, lemmas.Bool.false≢true}}
+use Rattle.std.proofs.{Common.{List, set, refl, ap, sym, ◌∙◌, subst, inl, inr}, lemmas.Bool.false≢true}
 use Rattle.std.{proofs.lemmas.Option.{none-some, same_Some}, specs.Prelude.{is_some, slice_get, ◌==◌}}
 use Rattle.std.specs.List.{list_any, AllByRecursion, Sorted.IsStrictlySortedBy}
 use Rattle.std.specs.Option.{option_map, option_and_then, option_map_or, unwrap_or}
@@ -22,26 +22,27 @@ use Rattle.xa_xid.specs.{declared.statement.Statement.TheVariants.Disconnect, Xi
 use Rattle.xa_xid.proofs.Orders.{xids_total, exact_xids, bytes_total, exact_texts}
 use Rattle.xa_server.specs.declared.association.Association.{Association, TheVariants.{Free, Active, Idle}}
 use Rattle.xa_server.specs.declared.{reply.Reply.Reply, xa_error.XaError.TheVariants.{Nota, Rmfail, Dupid, RowLocked}}
-use Rattle.xa_server.specs.{declared.xa_error.BranchState.TheVariants.Prepared as StatePrepared, State.Write}
-use Rattle.xa_server.specs.{declared.branch.Phase.Phase, State.{LockMode, Shared, Exclusive, Branch, State}}
-use Rattle.xa_server.specs.State.{association_of, owns, owner_at, is_known, phase_at, is_prepared, is_prepared_phase}
-use Rattle.xa_server.specs.State.{prepared_xids, committed_value, value_within, write_at, IsOpen}
-use Rattle.xa_server.specs.{Replies.{table, reply_to, ok_if, refused_if}, Locks.{LockLaw, lock_at, holds, is_another}}
-use Rattle.xa_server.specs.Locks.{holds_exclusively, is_exclusive, is_held_against, is_locked_against}
-use Rattle.xa_server.specs.Step.{after, effect, is_refused, with_branch, with_changed, without_branch, with_writes}
-use Rattle.xa_server.specs.{Step.{committed, started_by, with_lock, with_own_write}, Laws.LeavesSession}
-use Rattle.xa_server.proofs.{Maps.{same_or_apart, same_itself, get_inserted_apart}, Ending.get-with_writes}
+use Rattle.xa_server.specs.declared.{xa_error.BranchState.TheVariants.Prepared as StatePrepared, branch.Phase.Phase}
+use Rattle.xa_server.specs.State.{Write, LockMode, Shared, Exclusive, Branch, State, association_of, owns, owner_at}
+use Rattle.xa_server.specs.State.{is_known, phase_at, is_prepared, is_prepared_phase, prepared_xids, committed_value}
+use Rattle.xa_server.specs.{State.{value_within, write_at, IsOpen}, Replies.{table, reply_to, ok_if, refused_if}}
+use Rattle.xa_server.specs.Locks.{LockLaw, lock_at, holds, is_another, holds_exclusively, is_exclusive, is_held_against}
+use Rattle.xa_server.specs.{Locks.is_locked_against, Step.{after, effect, is_refused, with_branch, with_changed}}
+use Rattle.xa_server.specs.Step.{without_branch, with_writes, committed, started_by, with_lock, with_own_write}
+use Rattle.xa_server.{specs.Laws.LeavesSession, proofs.Maps.{same_or_apart, same_itself, get_inserted_apart}}
+use Rattle.xa_server.proofs.Ending.{get-with_writes}
 use Rattle.xa_server.proofs.Holders.{any_witness, any_some, same_truth, both, itself, none_of, exclusive_some}
-use Rattle.xa_server.proofs.Changes.{idle, detached, branch_after, effect-branch, outcome, refused_leaves, accepted_done}
-use Rattle.xa_server.proofs.{Steps.same_state, Accepted.{open_association, accepted_start, accepted_end, own_is}}
-use Rattle.xa_server.proofs.{Listing.{prepared_ascend, prepared_exactly}, Keeping.{is_free, owner_associated}}
+use Rattle.xa_server.proofs.Changes.{idle, detached, branch_after, effect-branch, outcome, refused_leaves}
+use Rattle.xa_server.proofs.{Changes.accepted_done, Steps.same_state, Listing.{prepared_ascend, prepared_exactly}}
+use Rattle.xa_server.proofs.Accepted.{open_association, accepted_start, accepted_end, own_is}
+use Rattle.xa_server.proofs.Keeping.{is_free, owner_associated}
 use Rattle.xa_server.proofs.{Others.{is_owned, IsOwn, own_association, owned_before, others_left}, Seen.owned_is}
 use Rattle.xa_judge.specs.declared.request.Request.{Request, TheVariants.{Statement as Given, Unread}}
 use Rattle.xa_judge.specs.declared.{answer.Answer.Answer, client_state.ClientState.ClientState, moves.Act.Act}
-use Rattle.xa_judge.specs.Explained.{Config, effect_of, answer_to, next_state}
-use Rattle.xa_judge.specs.Apart.{named_by, key_of, Avoids, IsBeside, EndsIn, IsUnlisted, is_get, exclusively, barring}
-use Rattle.xa_judge.specs.Apart.{Spares, AreApart, open_statement, is_gone, Opens, HasOpen, IsApartAt}
-use Rattle.xa_judge.proofs.{Acts.{ActsAs, acts_as}, Places.{same_number, get_written, get_apart, set_apart}}
+use Rattle.xa_judge.specs.{Explained.{Config, effect_of, answer_to, next_state}, Apart.{named_by, key_of, Avoids}}
+use Rattle.xa_judge.specs.Apart.{IsBeside, EndsIn, IsUnlisted, is_get, exclusively, barring, Spares, AreApart}
+use Rattle.xa_judge.{specs.Apart.{open_statement, is_gone, Opens, HasOpen, IsApartAt}, proofs.Acts.{ActsAs, acts_as}}
+use Rattle.xa_judge.proofs.Places.{same_number, get_written, get_apart, set_apart}
 use Rattle.std.specs.FinMap as map
 
 -- where a test fails, what was there stays

@@ -12,13 +12,13 @@ use Rattle.std.proofs.{Common.{ap, sym, ◌∙◌, subst, inl, inr, ◌<◌, ari
 use Rattle.std.{proofs.lemmas.Bool.false≢true, specs.Prelude.slice_get}
 use Rattle.xa_server.specs.{State.State, Locks.LockLaw}
 use Rattle.xa_judge.specs.declared.{request.Request.Request, answer.Answer.Answer, client_state.ClientState.ClientState}
-use Rattle.xa_judge.specs.declared.client_state.ClientState.TheVariants.{Called, Answered}
-use Rattle.xa_judge.specs.declared.{event.{Seen.Seen, Event.Event}, moves.{Act.Act, Move.Move}}
+use Rattle.xa_judge.specs.declared.{client_state.ClientState.TheVariants.{Called, Answered}, event.Seen.Seen}
+use Rattle.xa_judge.specs.declared.{event.Event.Event, moves.{Act.Act, Move.Move}}
 use Rattle.xa_judge.specs.{declared.moves.Move.TheVariants.{Event as Seeing, Effect}, Explained.{Config, with_client}}
 use Rattle.xa_judge.specs.Explained.{effect_of, carried_out, disconnected, answer_to, next_state, shows_answer}
 use Rattle.xa_judge.specs.{Explained.{LeadsThrough, IsSession}, Late.{call_is_answered, answered_so}, Keys.session_of}
-use Rattle.xa_judge.specs.Foreseen.{Hint, fact_of, hint_of, IsQuietFor, IsAheadAt, IsBehindAt, AreAlike}
-use Rattle.xa_judge.specs.{Foreseen.{IsFollowed, IsLeft}, Apart.IsApartAt, Persistent.{IsIn, IsPersistent, HasTried}}
+use Rattle.xa_judge.specs.Foreseen.{Hint, fact_of, hint_of, IsQuietFor, IsAheadAt, IsBehindAt, AreAlike, IsFollowed}
+use Rattle.xa_judge.specs.{Foreseen.IsLeft, Apart.IsApartAt, Persistent.{IsIn, IsPersistent, HasTried}}
 use Rattle.xa_judge.proofs.{Places.{same_number, get_written, get_apart, set_apart}, ForeseenEvents.saw}
 use Rattle.xa_judge.proofs.Waits.{acted, answered_apart, commute, First}
 use Rattle.xa_judge.proofs.ForeseenSteps.{alike_acts, ahead_answered, quiet_keeps, still_quiet_for, act_keeps}
@@ -124,8 +124,11 @@ comes_first such run end session events (Effect other act ∷ moves) law beside 
 comes_first such run end session events (Effect other act ∷ moves) law beside (inr on) runs =
     let it = beside other on.0 in
     let rest = comes_first such runs.0 end session events moves (act_keeps run runs.0 other act law runs.2).law
-    (λ third is. ((beside third is).0, still_apart run runs.0 other third session act law runs.2 it.0
-    (beside third is).0 it.1 (beside third is).1)) on.1 runs.3 in
+    (λ third is. (
+      (beside third is).0,
+      still_apart run runs.0 other third session act law runs.2 it.0
+          (beside third is).0 it.1 (beside third is).1,
+    )) on.1 runs.3 in
     let swapped = exchanged_apart run runs.0 rest.first other session act rest.act law it.0 it.1 runs.2 rest.leads in
     record {
       act = rest.act;
@@ -331,9 +334,11 @@ goes_step hints all has kept run end session events moves there alike persistent
         → ActsFirst run end found.session events (length moves)
     first found inside same =
         comes_first (IsOutside all run kept) run end found.session events moves alike.law
-        (λ other outside. ((λ e. outside.1 (subst (IsIn all) (sym e) inside)),
-        apart_same kept run other found.session (sym alike.state) outside.2 same
-        (persistent.apart found.session found.is inside other (omega (arith, outside.0.1)) outside.0 outside.1)))
+        (λ other outside. (
+          (λ e. outside.1 (subst (IsIn all) (sym e) inside)),
+          apart_same kept run other found.session (sym alike.state) outside.2 same
+              (persistent.apart found.session found.is inside other (omega (arith, outside.0.1)) outside.0 outside.1),
+        ))
         found.reaches runs
 
     by : (found : Finds hints all run kept moves)
@@ -346,39 +351,48 @@ goes_step hints all has kept run end session events moves there alike persistent
     by found (inl is) =
         let f = first found is.0 is.1 in
         elim (alike_acts hints run kept f.first found.session f.act alike f.leads) [
-          | inl same ↦ inl (record {
-            kept = kept;
-            there = there;
-            run = f.first;
-            alike = same;
-            moves = f.moves;
-            runs = f.runs;
-          }, f.fewer)
+          | inl same ↦ inl (
+            record {
+              kept = kept;
+              there = there;
+              run = f.first;
+              alike = same;
+              moves = f.moves;
+              runs = f.runs;
+            },
+            f.fewer,
+          )
           | inr (inl follows) ↦
               let next = tried follows.0 found.session f.act found.is is.0 follows.1 follows.2 in
-              inl (record {
-                kept = next.0;
-                there = next.1;
-                run = f.first;
-                alike = next.2 f.first follows.3;
-                moves = f.moves;
-                runs = f.runs;
-              }, f.fewer)
+              inl (
+                record {
+                  kept = next.0;
+                  there = next.1;
+                  run = f.first;
+                  alike = next.2 f.first follows.3;
+                  moves = f.moves;
+                  runs = f.runs;
+                },
+                f.fewer,
+              )
           | inr (inr dead) ↦ inr (record { run = f.first; dead = dead; moves = f.moves; runs = f.runs })
         ]
     by found (inr (inl ahead)) = elim ahead.way [
       | inl called ↦ elim (answered_first (IsOutside all run kept) hints run end found.session called.0 ahead.seen events
           moves called.1 ahead.hinted called.2 alike.law found.reaches runs) [
-        | inl f ↦ inl (record {
-          kept = kept;
-          there = there;
-          run = with_client run found.session (Answered f.given);
-          alike = ahead_answered hints run kept found.session called.0 f.given alike ahead called.1;
-          moves = f.moves;
-          runs = f.runs;
-        }, f.fewer)
-        | inr left ↦ inr left
-      ]
+            | inl f ↦ inl (
+              record {
+                kept = kept;
+                there = there;
+                run = with_client run found.session (Answered f.given);
+                alike = ahead_answered hints run kept found.session called.0 f.given alike ahead called.1;
+                moves = f.moves;
+                runs = f.runs;
+              },
+              f.fewer,
+            )
+            | inr left ↦ inr left
+          ]
       | inr given ↦ absurd (no_rest (IsOutside all run kept) found.session moves found.reaches
           (rests_answered run end found.session events moves (ap answered_so given.1) runs))
     ]

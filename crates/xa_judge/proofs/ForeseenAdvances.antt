@@ -9,13 +9,11 @@ use Rattle.std.specs.{Prelude.{slice_get, IfSome}, List.Contains, Option.{unwrap
 use Rattle.xa_server.specs.{State.State, Locks.LockLaw}
 use Rattle.xa_judge.specs.declared.{answer.Answer.Answer, client_state.ClientState.TheVariants.Answered}
 use Rattle.xa_judge.specs.declared.{moves.Move.Move, configuration.Configuration.Configuration, event.Event.Event}
-use Rattle.xa_judge.specs.declared.{event.Event.TheVariants.{Call, Return, Lost, Unknown}, frontier.Frontier.Frontier}
-use Rattle.xa_judge.specs.{declared.open_call.OpenCall.OpenCall, Explained.{Config, opening_config, LeadsThrough}}
-use Rattle.xa_judge.specs.{Late.has_unheard, Verdicts.IsAnswerAfter, Persistent.AreClosedFor}
+use Rattle.xa_judge.specs.{declared.{frontier.Frontier.Frontier, open_call.OpenCall.OpenCall}, Persistent.AreClosedFor}
+use Rattle.xa_judge.specs.{Explained.{Config, opening_config, LeadsThrough}, Late.has_unheard, Verdicts.IsAnswerAfter}
 use Rattle.xa_judge.specs.{Found.{config_of, Has, IsOpening, IsShortened, IsAnsweredIn}, Advances.IsCallOf}
-use Rattle.xa_judge.specs.Foreseen.{Hint, no_hint, fact_of, hint_of, hints_of, hint_in, FitsHints, GoesOn}
-use Rattle.xa_judge.specs.Foreseen.{HasSeenFor, ExtendsBy, IsAlikeAt, IsDead, seen_by}
-use Rattle.xa_judge.specs.Foreseen.{never_by, IsAdvanceFor, NeedsNone, AreAlike}
+use Rattle.xa_judge.specs.Foreseen.{Hint, no_hint, fact_of, hint_of, hints_of, hint_in, FitsHints, GoesOn, HasSeenFor}
+use Rattle.xa_judge.specs.Foreseen.{ExtendsBy, IsAlikeAt, IsDead, seen_by, never_by, IsAdvanceFor, NeedsNone, AreAlike}
 use Rattle.xa_judge.{specs.Keys.session_of, proofs.Places.{place_mapped, same_number, get_written, get_apart}}
 use Rattle.xa_judge.proofs.{ForeseenSteps.alike_first, Waits.CanWait, ForeseenReturns.{goes_closed, ends_answered}}
 use Rattle.xa_judge.proofs.ForeseenLists.{goes_called, left_past, unheard_alike, hints_set}
@@ -69,19 +67,19 @@ advance_open events places later place event old new is fits needs seen = λ mor
   where
     waits : (one : Event) → NeedsNone old one → (kept : Config) → Has old kept → (run : Config)
         → ((session : ℕ) → has_unheard kept session ≡ false → has_unheard run session ≡ false) → CanWait run one
-    waits (Call session request) none kept there run heard = heard session (none kept there)
-    waits (Return session shown) none kept there run heard = absurd none
-    waits (Lost session) none kept there run heard = tt
-    waits (Unknown session) none kept there run heard = absurd none
+    waits (Event.Call session request) none kept there run heard = heard session (none kept there)
+    waits (Event.Return session shown) none kept there run heard = absurd none
+    waits (Event.Lost session) none kept there run heard = tt
+    waits (Event.Unknown session) none kept there run heard = absurd none
 
 -- before a call no act is needed (`NeedsNone`), if no kept client of its session is gone with an open call
 pub needs_none : (known : List Configuration) (session : ℕ) (event : Event) → IsCallOf session event
     → ((one : Config) → Has known one → has_unheard one session ≡ false) → NeedsNone known event
-needs_none known session (Call other request) call none = λ one has.
+needs_none known session (Event.Call other request) call none = λ one has.
     subst (λ n. has_unheard one n ≡ false) (sym call) (none one has)
-needs_none known session (Return other seen) call none = absurd call
-needs_none known session (Lost other) call none = absurd call
-needs_none known session (Unknown other) call none = absurd call
+needs_none known session (Event.Return other seen) call none = absurd call
+needs_none known session (Event.Lost other) call none = absurd call
+needs_none known session (Event.Unknown other) call none = absurd call
 
 -- in a closed list each answer that a session can have at the end is kept, if no return is known of any open call,
 -- and the session's own isn't noted as one that isn't heard of any more

@@ -7,9 +7,9 @@ use Rattle.xa_judge.specs.declared.{client_state.ClientState.ClientState, reques
 use Rattle.xa_judge.specs.declared.client_state.ClientState.TheVariants.{Idle, Called, Answered, Gone, Left}
 use Rattle.xa_judge.specs.declared.{event.Event.{Event, TheVariants.{Call, Return, Lost, Unknown}}, moves.Act.Act}
 use Rattle.xa_judge.specs.Explained.{lost, Config, with_client, effect_of, observed, called, returned, answered_unknown}
-use Rattle.xa_judge.specs.{Explained.shows_answer, Late.answered_so, Foreseen.{Hint, no_hint}}
-use Rattle.xa_judge.specs.Foreseen.{fact_of, hint_of, IsAheadAt, IsBehindAt, IsAlikeAt, AreAlike, IsDead, FitsHints}
-use Rattle.xa_judge.{specs.Keys.session_of, proofs.Places.{same_number, get_written, get_apart, get_within}}
+use Rattle.xa_judge.specs.{Explained.shows_answer, Late.answered_so, Foreseen.{Hint, no_hint, fact_of, hint_of}}
+use Rattle.xa_judge.specs.{Foreseen.{IsAheadAt, IsBehindAt, IsAlikeAt, AreAlike, IsDead, FitsHints}, Keys.session_of}
+use Rattle.xa_judge.proofs.Places.{same_number, get_written, get_apart, get_within}
 use Rattle.xa_judge.proofs.Waits.{acted, Saw, saw_call, saw_return, saw_lost}
 
 -- an unknown answer that is seen changes its session's client alone (`Saw`); `o` is that client before

@@ -4,14 +4,14 @@
 --     expanded_more, closed_more, closed_all              loops over sessions and places;  after them a list is closed
 --     seen_added, unseen                                  what an event leads to is added;  or it can't be seen
 --     SeesBothFor, sees_more, sees_end                    a loop in which each of a list sees an event
-use Rattle.std.proofs.Common.{◌≡◌, ◌⊎◌, ℕ, Bool, false, Option, Some, None, List, [], ◌∷◌, ◌++◌, ap, sym, ◌∙◌, subst, inl}
-use Rattle.std.proofs.{Common.{inr, ◌+◌, ◌<◌, length, arith, append_assoc, append-nil}, lemmas.Bool.cases_lt}
-use Rattle.std.{proofs.lemmas.Option.same_Some, specs.Prelude.slice_get, specs.Option.option_map}
+use Rattle.std.proofs.Common.{◌≡◌, ◌⊎◌, ℕ, Bool, false, Option, Some, None, List, [], ◌∷◌, ◌++◌, ap, sym, ◌∙◌, subst}
+use Rattle.std.proofs.{Common.{inl, inr, ◌+◌, ◌<◌, length, arith, append_assoc, append-nil}, lemmas.Bool.cases_lt}
+use Rattle.std.{proofs.lemmas.Option.same_Some, specs.{Prelude.slice_get, Option.option_map}}
 use Rattle.xa_judge.specs.declared.{configuration.Configuration.Configuration, moves.Act.Act, event.Event.Event}
 use Rattle.xa_judge.specs.{Explained.{Config, effect_of, observed, IsSession}, Found.{config_of, Has, AddsUnlessThere}}
 use Rattle.xa_judge.specs.{Late.call_is_answered, Foreseen.{Hint, ReplacesFor, ExtendsBy, HasNextFor, HasSeenFor}}
-use Rattle.xa_judge.{specs.Persistent.{IsIn, IsExpandedFor, IsTriedFor, AreClosedFor, IsClosedFor}, proofs.Loops.has_last}
-use Rattle.xa_judge.proofs.{Places.{get_front, get_within, mapped_place}, Growth.{has_more, has_added}}
+use Rattle.xa_judge.specs.Persistent.{IsIn, IsExpandedFor, IsTriedFor, AreClosedFor, IsClosedFor}
+use Rattle.xa_judge.proofs.{Loops.has_last, Places.{get_front, get_within, mapped_place}, Growth.{has_more, has_added}}
 
 -- a list extends itself
 pub extends_none : (list : List Configuration) → ExtendsBy list list

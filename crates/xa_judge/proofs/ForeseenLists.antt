@@ -5,20 +5,18 @@
 use Rattle.std.proofs.Common.{◌≡◌, ℕ, false, Option, Some, None, List, [], ◌∷◌, set, map, zero, suc, refl, ap, arith}
 use Rattle.std.{proofs.{Common.inl, lemmas.Option.slice_get-map}, specs.Prelude.slice_get}
 use Rattle.xa_judge.specs.declared.{client_state.ClientState.ClientState, event.Event.Event, moves.Move.Move}
-use Rattle.xa_judge.specs.declared.{moves.Move.TheVariants.{Event as Seeing, Effect}, open_call.OpenCall.OpenCall}
-use Rattle.xa_judge.specs.{Explained.{Config, LeadsThrough, observed}, Late.has_unheard}
-use Rattle.xa_judge.specs.Foreseen.{Hint, fact_of, hint_of}
-use Rattle.xa_judge.specs.Foreseen.{IsAlikeAt, AreAlike, IsDead, IsFollowed, IsLeft, GoesOn, HasSeenFor}
-use Rattle.xa_judge.{specs.{Foreseen.{FitsHints, hint_in, hints_of}, Keys.session_of}, proofs.Waits.{later, CanWait}}
-use Rattle.xa_judge.proofs.ForeseenEvents.{alike_sees, dead_acts, dead_sees}
+use Rattle.xa_judge.specs.{declared.open_call.OpenCall.OpenCall, Explained.{Config, LeadsThrough, observed}}
+use Rattle.xa_judge.specs.{Late.has_unheard, Foreseen.{Hint, fact_of, hint_of, IsAlikeAt, AreAlike, IsDead, IsFollowed}}
+use Rattle.xa_judge.specs.{Foreseen.{IsLeft, GoesOn, HasSeenFor, FitsHints, hint_in, hints_of}, Keys.session_of}
+use Rattle.xa_judge.proofs.{Waits.{later, CanWait}, ForeseenEvents.{alike_sees, dead_acts, dead_sees}}
 
 -- an order that can't go on past a return (`IsDead`) still can't after an event that fits what is known (`IsLeft`)
 pub left_past : (hints : List Hint) (hint : Hint) (event : Event) (run end : Config) (more : List Event)
     (moves : List Move) → IsDead hints run → FitsHints hints event → LeadsThrough run (event ∷ more) moves end
     → IsLeft (set hints (session_of event) hint) more end
-left_past hints hint event run end more (Effect session act ∷ moves) dead fits runs =
+left_past hints hint event run end more (Move.Effect session act ∷ moves) dead fits runs =
     left_past hints hint event runs.0 end more moves (dead_acts hints run runs.0 session act dead runs.2) fits runs.3
-left_past hints hint event run end more (Seeing ∷ moves) dead fits runs = record {
+left_past hints hint event run end more (Move.Event ∷ moves) dead fits runs = record {
   run = runs.0;
   dead = dead_sees hints hint run runs.0 event dead fits runs.1;
   moves = moves;

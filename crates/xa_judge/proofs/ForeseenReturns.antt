@@ -3,13 +3,12 @@
 --     goes_closed      past the event
 --     ends_answered    the answers that a session can have after all events
 use Rattle.std.proofs.Common.{◌≡◌, ◌⊎◌, ℕ, Bool, true, false, Option, Some, None, List, [], ◌∷◌, set, length, zero, suc}
-use Rattle.std.proofs.{Common.{refl, ap, sym, ◌∙◌, subst, inl, inr, ◌<◌, arith}, lemmas.{Bool.false≢true, Option.none-some}}
-use Rattle.std.specs.Prelude.{slice_get}
+use Rattle.std.proofs.{Common.{refl, ap, sym, ◌∙◌, subst, inl, inr, ◌<◌, arith}, lemmas.Bool.false≢true}
+use Rattle.std.{proofs.lemmas.Option.none-some, specs.Prelude.slice_get}
 use Rattle.xa_judge.specs.declared.{answer.Answer.Answer, client_state.ClientState.TheVariants.{Called, Answered}}
-use Rattle.xa_judge.specs.declared.{event.Event.Event, moves.Move.Move}
-use Rattle.xa_judge.specs.{Explained.{Config, LeadsThrough}, Late.{call_is_answered, answered_so}, Keys.session_of}
+use Rattle.xa_judge.specs.{declared.{event.Event.Event, moves.Move.Move}, Explained.{Config, LeadsThrough}}
+use Rattle.xa_judge.specs.{Late.{call_is_answered, answered_so}, Keys.session_of, Persistent.IsClosedFor}
 use Rattle.xa_judge.specs.Foreseen.{Hint, fact_of, hint_of, IsAlikeAt, AreAlike, FitsHints, HasSeenFor, GoesOn}
-use Rattle.xa_judge.specs.Persistent.{IsClosedFor}
 use Rattle.xa_judge.proofs.FirstActs.{RestsUntil, acts_or_rests, rests_answered, rests_end, seen_first, answered_first}
 use Rattle.xa_judge.proofs.{FirstActs.goes_step, Places.get_written, ForeseenSteps.ahead_answered}
 use Rattle.xa_judge.proofs.ForeseenLists.{left_past, seen_from, answer_kept}
@@ -57,12 +56,12 @@ seen_answered hints hint event old new kept run end more moves there alike fits 
         | inr rests ↦ resting run moves alike rests runs
         | inl acts ↦ elim (answered_first (λ other. Unit {0}) hints run end session called.0 ahead.seen (event ∷ more)
             moves called.1 ahead.hinted called.2 alike.law acts runs) [
-          | inl f ↦
-              let like = ahead_answered hints run kept session called.0 f.given alike ahead called.1 in
-              done _ f.moves like
-              (ap answered_so (get_written run.clients session (Called called.0) (Answered f.given) called.1)) f.runs
-          | inr left ↦ inr (left_past hints hint event left.run end more left.moves left.dead fits left.runs)
-        ]
+              | inl f ↦
+                  let like = ahead_answered hints run kept session called.0 f.given alike ahead called.1 in
+                  done _ f.moves like
+                  (ap answered_so (get_written run.clients session (Called called.0) (Answered f.given) called.1)) f.runs
+              | inr left ↦ inr (left_past hints hint event left.run end more left.moves left.dead fits left.runs)
+            ]
       ]
     ]
 

@@ -19,12 +19,11 @@ use Rattle.xa_server.proofs.{Changes.refused_leaves, Others.others_left, Keeping
 use Rattle.xa_judge.specs.declared.{request.Request.Request, answer.Answer.{Answer, TheVariants.Reply as Replied}}
 use Rattle.xa_judge.specs.declared.{client_state.ClientState.ClientState, event.Seen.Seen, moves.Act.Act}
 use Rattle.xa_judge.specs.declared.client_state.ClientState.TheVariants.{Idle, Called, Answered, Gone, Left}
-use Rattle.xa_judge.specs.Explained.{Config, with_client, opening_config, effect_of, carried_out, disconnected, answer_to}
-use Rattle.xa_judge.specs.{Explained.{next_state, shows_answer}, Foreseen.{Hint, fact_of, is_free}}
+use Rattle.xa_judge.specs.Explained.{Config, with_client, opening_config, effect_of, carried_out, disconnected}
+use Rattle.xa_judge.specs.{Explained.{answer_to, next_state, shows_answer}, Foreseen.{Hint, fact_of, is_free}}
 use Rattle.xa_judge.specs.Foreseen.{is_reading, refuses, is_still, hint_of, IsQuiet, IsQuietFor, IsAheadAt, IsAlikeAt}
 use Rattle.xa_judge.specs.Foreseen.{AreAlike, IsDead, IsAllowed, CanSettle}
-use Rattle.xa_judge.proofs.{Places.{same_number, get_written, get_apart}, Waits.acted}
-use Rattle.xa_judge.proofs.KeyStates.{free_get}
+use Rattle.xa_judge.proofs.{Places.{same_number, get_written, get_apart}, Waits.acted, KeyStates.free_get}
 
 -- ---- quiet requests
 

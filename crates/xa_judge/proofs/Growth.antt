@@ -5,16 +5,15 @@
 --     reaches_effect, reaches_event           what an effect leads to is reached;  what an event does
 --     all_added, all_at                       what holds of each of a list
 use Rattle.std.proofs.lemmas.{Bool.Decides.nat_tests, Grind.common_steps}
+use Rattle.std.proofs.lemmas.{Option.{slice_get_within, get_or_from_slice_get}, List.Elements.Contains-push}
 use Rattle.std.proofs.Common.{◌≡◌, ℕ, Some, List, [], ◌∷◌, ◌++◌, sym, ◌∙◌, subst, inl, inr, append_assoc, arith}
-use Rattle.std.proofs.{Common.append-nil, lemmas.Option.{slice_get_within, get_or_from_slice_get}}
-use Rattle.std.{proofs.lemmas.List.Elements.Contains-push, specs.Prelude.slice_get, specs.List.{All, Contains}}
+use Rattle.std.{proofs.Common.append-nil, specs.{Prelude.slice_get, List.{All, Contains}}}
 use Rattle.xa_server.specs.State.{State}
 use Rattle.xa_judge.specs.declared.{event.Event.Event, moves.{Act.Act, Move.Move}}
 use Rattle.xa_judge.specs.declared.moves.Move.TheVariants.{Event as Seeing, Effect}
-use Rattle.xa_judge.{specs.declared.configuration.Configuration.Configuration, proofs.Places.{map_append, get_front}}
-use Rattle.xa_judge.specs.Explained.{Config, effect_of, observed, IsSession}
+use Rattle.xa_judge.{specs.declared.configuration.Configuration.Configuration, proofs.Waits.{runs_effect, runs_event}}
+use Rattle.xa_judge.{specs.Explained.{Config, effect_of, observed, IsSession}, proofs.Places.{map_append, get_front}}
 use Rattle.xa_judge.specs.Found.{config_of, configs, Has, Grows, Reaches, AddsUnlessThere}
-use Rattle.xa_judge.proofs.Waits.{runs_effect, runs_event}
 
 -- what is in a list is in it with more behind it
 pub has_more : (old more : List Configuration) (one : Config) → Has old one → Has (old ++ more) one

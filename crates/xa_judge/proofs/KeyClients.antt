@@ -17,11 +17,10 @@ use Rattle.std.proofs.Common.{◌≡◌, ◌≢◌, ◌⊎◌, ℕ, Bool, true, 
 use Rattle.std.{proofs.{Common.{◌∙◌, subst, inl, inr, arith, rules}, lemmas.Option.same_Some}, specs.Prelude.slice_get}
 use Rattle.std.specs.Option.{option_map, option_map_or, unwrap_or}
 use Rattle.xa_xid.specs.declared.statement.Statement.TheVariants.{Disconnect as DisconnectGiven}
-use Rattle.xa_server.specs.{State.State, declared.reply.Reply.TheVariants.Ok as Accepted}
-use Rattle.xa_server.{specs.{Locks.LockLaw, Step.after}, proofs.Keeping.law_after}
-use Rattle.xa_judge.specs.declared.request.Request.{Request, TheVariants.Statement as Given}
-use Rattle.xa_judge.specs.declared.{answer.Answer.Answer, event.{Seen.Seen, Event.Event}}
-use Rattle.xa_judge.specs.declared.event.Event.TheVariants.{Call, Return, Lost, Unknown}
+use Rattle.xa_server.specs.{State.State, declared.reply.Reply.TheVariants.Ok as Accepted, Locks.LockLaw, Step.after}
+use Rattle.xa_server.proofs.Keeping.{law_after}
+use Rattle.xa_judge.specs.declared.{request.Request.{Request, TheVariants.Statement as Given}, answer.Answer.Answer}
+use Rattle.xa_judge.specs.declared.event.{Seen.Seen, Event.{Event, TheVariants.{Call, Return, Lost, Unknown}}}
 use Rattle.xa_judge.specs.declared.{client_state.ClientState.ClientState, moves.Act.Act}
 use Rattle.xa_judge.specs.declared.client_state.ClientState.TheVariants.{Idle, Called, Answered, Gone, Left}
 use Rattle.xa_judge.specs.declared.{moves.Act.TheVariants.{Statement, Disconnect}, turn.Turn.Turn}

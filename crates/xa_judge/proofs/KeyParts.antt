@@ -3,11 +3,10 @@
 --     same_side, other_side                    two truth values are the same by a test;  or differ
 --     picked_in, picked_out                    an event is picked;  or isn't
 --     picked_next, picked_past, picked_end     the events of one part, while they are picked
-use Rattle.std.proofs.lemmas.{Bool.Decides.nat_tests, Grind.common_steps}
-use Rattle.std.proofs.Common.{◌≡◌, ◌≢◌, ◌⊎◌, ℕ, ◌+◌, ◌<◌, ◌≤◌, zero, suc, Bool, true, false, Some, List, [], ◌∷◌, ◌++◌}
-use Rattle.std.proofs.Common.{length, take, drop, get_or, refl, ap, sym, ◌∙◌, subst, inl, inr, arith, append_assoc}
-use Rattle.std.proofs.{Common.{append-nil, min}, lemmas.Option.{none-some, same_Some}}
-use Rattle.std.{proofs.lemmas.List.at_drop_more, specs.Prelude.slice_get}
+use Rattle.std.proofs.lemmas.{Bool.Decides.nat_tests, Grind.common_steps, Option.{none-some, same_Some}}
+use Rattle.std.proofs.{lemmas.List.at_drop_more, Common.{◌≡◌, ◌≢◌, ◌⊎◌, ℕ, ◌+◌, ◌<◌, ◌≤◌, zero, suc, Bool, true, false}}
+use Rattle.std.proofs.Common.{Some, List, [], ◌∷◌, ◌++◌, length, take, drop, get_or, refl, ap, sym, ◌∙◌, subst, inl}
+use Rattle.std.{proofs.Common.{inr, arith, append_assoc, append-nil, min}, specs.Prelude.slice_get}
 use mathlib.Core.Bool.{beq}
 use Rattle.xa_judge.{specs.declared.{event.Event.Event, turn.Turn.Turn}, proofs.Places.get_within}
 use Rattle.xa_judge.specs.Keys.{FitsTurn, IsCut, first_turns, session_of, turns_past, picked, count_in}

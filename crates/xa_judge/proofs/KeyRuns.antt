@@ -2,9 +2,8 @@
 --     first_then, split         acts before the next event
 --     IsInParts, in_parts       moves through the whole lead through each part as well
 --     IsWhole, whole_of         moves through both parts lead through the whole
-use Rattle.std.proofs.Common.{arith}
-use Rattle.std.proofs.Common.{◌≡◌, ℕ, Bool, true, false, Option, Some, None, List, [], ◌∷◌, ◌++◌, refl, sym, subst}
-use Rattle.std.specs.Prelude.{slice_get}
+use Rattle.std.proofs.Common.{arith, ◌≡◌, ℕ, Bool, true, false, Option, Some, None, List, [], ◌∷◌, ◌++◌, refl, sym}
+use Rattle.std.{proofs.Common.subst, specs.Prelude.slice_get}
 use Rattle.xa_judge.specs.declared.{event.Event.Event, moves.{Act.Act, Move.Move}, turn.Turn.Turn}
 use Rattle.xa_judge.specs.Explained.{Config, effect_of, observed, LeadsThrough}
 use Rattle.xa_judge.{specs.Keys.{IsCut, turns_after, turns_past, picked}, proofs.KeyClients.{forth, back, AreClients}}

@@ -11,12 +11,11 @@ use Rattle.std.specs.FinMap.{get-empty, get-insert, get-remove, get-entries}
 use mathlib.Core.Bool.{true≢false}
 use Rattle.xa_xid.specs.declared.{xid.Xid.Xid, statement.Statement.Statement}
 use Rattle.xa_xid.{specs.Xid.{Text, bytes_cmp, xid_cmp, same_xid}, proofs.Orders.{bytes_total, exact_texts}}
-use Rattle.xa_server.specs.declared.{branch.Phase.Phase, reply.Reply.Reply}
-use Rattle.xa_server.specs.declared.{association.Association.Association, overview.BranchEntry.BranchEntry}
-use Rattle.xa_server.specs.State.{committed_value, Write, Branch, State, association_of}
-use Rattle.xa_server.specs.{Overview.{entry_of, branches_of}, Locks.is_held_against, Replies.{table, reply_to}}
-use Rattle.xa_server.specs.Step.{started_by, with_changed, with_write, with_writes, with_lock}
-use Rattle.xa_server.specs.Step.{with_own_write, without_branch, row_written, committed, effect, after}
+use Rattle.xa_server.specs.declared.{branch.Phase.Phase, reply.Reply.Reply, association.Association.Association}
+use Rattle.xa_server.specs.{declared.overview.BranchEntry.BranchEntry, Overview.{entry_of, branches_of}}
+use Rattle.xa_server.specs.{State.{committed_value, Write, Branch, State, association_of}, Locks.is_held_against}
+use Rattle.xa_server.specs.{Replies.{table, reply_to}, Step.{started_by, with_changed, with_write, with_writes}}
+use Rattle.xa_server.specs.Step.{with_lock, with_own_write, without_branch, row_written, committed, effect, after}
 use Rattle.xa_server.proofs.Maps.{same_or_apart, get_inserted_apart, get_removed_apart}
 use Rattle.xa_server.proofs.{Changes.{idle, detached, branch_after, effect-branch, outcome}, Others.none_found}
 use Rattle.xa_judge.specs.{declared.{request.Request.Request, answer.Answer.Answer}, Explained.{answer_to, next_state}}

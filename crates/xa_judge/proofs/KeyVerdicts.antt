@@ -10,28 +10,27 @@ use Rattle.std.{proofs.lemmas.{Option.{none-some, same_Some}, Bool.false≢true}
 use Rattle.xa_server.specs.State.{State}
 use Rattle.xa_judge.specs.declared.{answer.Answer.Answer, event.{Seen.Seen, Event.{Event, TheVariants.Return}}}
 use Rattle.xa_judge.specs.declared.{client_state.ClientState.TheVariants.Idle, moves.Move.Move, verdict.Verdict.Verdict}
-use Rattle.xa_judge.specs.declared.turn.Turn.{Turn, TheVariants.{Nobody, Ending}}
-use Rattle.xa_judge.specs.{Explained.{Config, opening_config, LeadsThrough, Explained}, Keys.{FitsTurn, first_turns}}
-use Rattle.xa_judge.specs.Keys.{IsCut, turns_after, turns_past, picked, count_in, session_of, HasNoBranch}
-use Rattle.xa_judge.{specs.Verdicts.{IsRefuted, CouldBe, AreAllAnswers, IsVerdict}, proofs.Places.get_within}
-use Rattle.xa_judge.proofs.{KeyRuns.{in_parts, whole_of}, KeyClients.{AreClients, AreParts}}
+use Rattle.xa_judge.specs.{declared.turn.Turn.Turn, Explained.{Config, opening_config, LeadsThrough, Explained}}
+use Rattle.xa_judge.specs.Keys.{FitsTurn, first_turns, IsCut, turns_after, turns_past, picked, count_in, session_of}
+use Rattle.xa_judge.specs.{Keys.HasNoBranch, Verdicts.{IsRefuted, CouldBe, AreAllAnswers, IsVerdict}}
+use Rattle.xa_judge.proofs.{Places.get_within, KeyRuns.{in_parts, whole_of}, KeyClients.{AreClients, AreParts}}
 
 -- ---- before all events
 
 -- if all turns are Nobody, and all clients idle, the clients belong together (`AreClients`)
 clients_first : (named : List ℕ → Bool) (count at : ℕ)
-    → AreClients named (slice_get (replicate count Nobody) at) (slice_get (replicate count Idle) at)
+    → AreClients named (slice_get (replicate count Turn.Nobody) at) (slice_get (replicate count Idle) at)
     (slice_get (replicate count Idle) at) (slice_get (replicate count Idle) at)
 clients_first named zero at = (refl, refl, refl)
 clients_first named (suc count) zero = (refl, refl, refl)
 clients_first named (suc count) (suc at) = clients_first named count at
 
 -- if all turns are Nobody, none is Ending
-none_ends : (count at : ℕ) → slice_get (replicate count Nobody) at ≡ Some Ending → ⊥
-none_ends zero at e = none-some Ending e
+none_ends : (count at : ℕ) → slice_get (replicate count Turn.Nobody) at ≡ Some Turn.Ending → ⊥
+none_ends zero at e = none-some Turn.Ending e
 none_ends (suc count) zero e = apart e
   where
-    apart : Some Nobody ≡ Some Ending → ⊥
+    apart : Some Turn.Nobody ≡ Some Turn.Ending → ⊥
     apart e = cc
 none_ends (suc count) (suc at) e = none_ends count at e
 

@@ -4,10 +4,10 @@
 --     SettledOnly, SeenOnly, settled_none  what is left of a list, and what was made;  before the first step
 --     settled_only, seen_only     what was made of a list comes of it
 --     opens_kept, kept_on      all of a list may be kept before all events;  after one event more
-use Rattle.std.proofs.lemmas.{Bool.Decides.nat_tests, Grind.common_steps}
+use Rattle.std.proofs.lemmas.{Bool.{cases_lt, Decides.nat_tests}, Grind.common_steps, Option.slice_get_read}
 use Rattle.std.proofs.Common.{◌≡◌, ◌≢◌, ◌⊎◌, ℕ, ◌+◌, ◌<◌, suc, Option, Some, List, [], ◌∷◌, ◌++◌, length, get_or, true}
 use Rattle.std.{proofs.Common.{false, refl, ap, sym, ◌∙◌, subst, inl, inr, arith}, specs.Option.option_map}
-use Rattle.std.{proofs.lemmas.{Option.slice_get_read, Bool.cases_lt}, specs.Prelude.slice_get, specs.List.Contains}
+use Rattle.std.specs.{Prelude.slice_get, List.Contains}
 use Rattle.xa_server.specs.State.{State}
 use Rattle.xa_judge.specs.declared.{event.Event.{Event, TheVariants.{Call, Return, Lost, Unknown}}, moves.Act.Act}
 use Rattle.xa_judge.specs.{declared.configuration.Configuration.Configuration, Explained.{Config, effect_of, IsSession}}

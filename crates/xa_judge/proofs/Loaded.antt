@@ -3,9 +3,9 @@
 --                                       state after it, and nowhere else
 --     refuted_behind, answers_behind    what is refuted from the state is refuted behind the events, with the same
 --                                       answers
-use Rattle.std.proofs.Common.{◌≡◌, ◌≢◌, ◌==◌, ℕ, ◌+◌, ◌<◌, zero, suc, true, Some, List, [], ◌∷◌, ◌++◌, rules}
-use Rattle.std.proofs.Common.{length, set, take, get_or, refl, ap, sym, ◌∙◌, subst, inl, inr, arith, append_assoc}
-use Rattle.std.proofs.{Common.length-append, lemmas.Grind.common_steps, lemmas.Option.{none-some, same_Some}}
+use Rattle.std.proofs.Common.{◌≡◌, ◌≢◌, ◌==◌, ℕ, ◌+◌, ◌<◌, zero, suc, true, Some, List, [], ◌∷◌, ◌++◌, rules, length}
+use Rattle.std.proofs.Common.{set, take, get_or, refl, ap, sym, ◌∙◌, subst, inl, inr, arith, append_assoc}
+use Rattle.std.proofs.{Common.length-append, lemmas.{Grind.common_steps, Option.{none-some, same_Some}}}
 use Rattle.std.proofs.{lemmas.List.{get_or-replicate, length-replicate}, Math.Seq.take-append-add}
 use Rattle.std.specs.Prelude.{slice_get, replicate}
 use Rattle.xa_server.specs.State.{State}

@@ -8,20 +8,20 @@
 --     effect_added, effects_added       what one act leads to is added;  what both acts of a session lead to
 --     others_more, closed_more          what acts of sessions up to one lead to is there;  from each place up to one
 --     contained_more, contained_end     elements that are taken up one after another
-use Rattle.std.proofs.lemmas.{Bool.Decides.nat_tests, Grind.common_steps}
-use Rattle.std.proofs.Common.{◌≡◌, ◌≢◌, ◌⊎◌, ℕ, ◌+◌, ◌<◌, ◌≤◌, take, Option, Some, None, List, [], ◌∷◌, ◌++◌, length}
-use Rattle.std.{proofs.Common.{get_or, refl, ap, sym, ◌∙◌, subst, inl, inr, arith}, specs.Prelude.{slice_get, IfSome}}
-use Rattle.std.proofs.lemmas.{Option.{same_Some, none-some, slice_get_read}, Bool.cases_lt, List.take_all}
-use Rattle.std.proofs.lemmas.List.Elements.{All-push, All-pop, Contains-append_left, Contains-push}
+use Rattle.std.proofs.lemmas.{Bool.{cases_lt, Decides.nat_tests}, Grind.common_steps}
+use Rattle.std.proofs.lemmas.{Option.{same_Some, none-some, slice_get_read}, List.take_all}
+use Rattle.std.proofs.{lemmas.List.Elements.{All-push, All-pop, Contains-append_left, Contains-push}, Common.{◌≡◌, ◌≢◌}}
+use Rattle.std.proofs.Common.{◌⊎◌, ℕ, ◌+◌, ◌<◌, ◌≤◌, take, Option, Some, None, List, [], ◌∷◌, ◌++◌, length, get_or}
+use Rattle.std.{proofs.Common.{refl, ap, sym, ◌∙◌, subst, inl, inr, arith}, specs.Prelude.{slice_get, IfSome}}
 use Rattle.std.specs.{Option.option_map, List.{All, Contains}}
 use Rattle.xa_server.specs.State.{State}
 use Rattle.xa_judge.specs.declared.{answer.Answer.Answer, client_state.ClientState.ClientState, event.Event.Event}
 use Rattle.xa_judge.specs.declared.{moves.{Act.Act, Move.Move}, configuration.Configuration.Configuration}
 use Rattle.xa_judge.specs.{Explained.{Config, effect_of, observed, IsSession}, Late.after_settling, Found.config_of}
-use Rattle.xa_judge.specs.Found.{Has, Reaches, Grows, AddsUnlessThere, IsSettledFrom, IsSeenAdded}
-use Rattle.xa_judge.specs.Found.{IsAnsweredIn, IsAnswerAdded, IsExpandedBelow, IsClosedBelow}
-use Rattle.xa_judge.proofs.{Places.{get_within, place_mapped}, Growth.{has_still, has_added, has_kept}}
-use Rattle.xa_judge.proofs.Growth.{still_there, all_added, reaches_effect, reaches_event, grows_added}
+use Rattle.xa_judge.specs.Found.{Has, Reaches, Grows, AddsUnlessThere, IsSettledFrom, IsSeenAdded, IsAnsweredIn}
+use Rattle.xa_judge.specs.Found.{IsAnswerAdded, IsExpandedBelow, IsClosedBelow}
+use Rattle.xa_judge.proofs.{Places.{get_within, place_mapped}, Growth.{has_still, has_added, has_kept, still_there}}
+use Rattle.xa_judge.proofs.Growth.{all_added, reaches_effect, reaches_event, grows_added}
 
 -- in a loop over a list: if the events lead to all of it, they lead to what is left and to what was made of the rest
 abbrev pub KeepsReachBoth : List Configuration → List Configuration → List Configuration → Type 0

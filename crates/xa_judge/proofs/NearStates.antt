@@ -15,8 +15,8 @@ use Rattle.xa_server.specs.declared.{reply.Reply.Reply, xa_error.{XaError.XaErro
 use Rattle.xa_server.specs.declared.association.Association.{Association, TheVariants.{Free, Active, Idle}}
 use Rattle.xa_server.specs.State.{Write, Branch, State, own_xid, association_of, write_at, prepared_xids}
 use Rattle.xa_server.specs.{Locks.{is_held_against, is_locked_against}, Replies.{refused_if, table, reply_to}}
-use Rattle.xa_server.specs.Step.{with_changed, with_write, with_writes, with_lock, with_own_write}
-use Rattle.xa_server.specs.Step.{without_branch, committed, row_written, is_refused, unless_refused, effect, after}
+use Rattle.xa_server.specs.Step.{with_changed, with_write, with_writes, with_lock, with_own_write, without_branch}
+use Rattle.xa_server.specs.Step.{committed, row_written, is_refused, unless_refused, effect, after}
 use Rattle.xa_server.proofs.{Maps.{same_or_apart, get_inserted_apart, get_removed_apart}, Steps.same_state}
 use Rattle.xa_judge.specs.declared.request.Request.{Request, TheVariants.{Statement as Given, Unread}}
 use Rattle.xa_judge.specs.{Explained.{answer_to, next_state}, Near.{AreNear, ReadsNamed}}

@@ -1,16 +1,15 @@
 -- The verdict at a return that shows none of the answers that its call can have.
 --     all_more, all_end    loops over answers
-use Rattle.std.proofs.Common.{◌≡◌, ℕ, ◌+◌, ◌<◌, true, false, Some, List, [], ◌∷◌, ◌++◌, length, take, arith}
-use Rattle.std.proofs.{Common.{refl, ap, sym, ◌∙◌, subst, get_or, ◌≤◌}, lemmas.Bool.false≢true}
-use Rattle.std.{proofs.lemmas.List.{take_more, take_all, Elements.{All-contains, All-push}}, specs.List.{All, Contains}}
-use Rattle.std.{proofs.lemmas.Option.{same_Some, get_or_from_slice_get}, specs.Prelude.slice_get}
+use Rattle.std.proofs.Common.{◌≡◌, ℕ, ◌+◌, ◌<◌, true, false, Some, List, [], ◌∷◌, ◌++◌, length, take, arith, refl, ap}
+use Rattle.std.proofs.{Common.{sym, ◌∙◌, subst, get_or, ◌≤◌}, lemmas.{Bool.false≢true, List.{take_more, take_all}}}
+use Rattle.std.proofs.lemmas.{List.Elements.{All-contains, All-push}, Option.{same_Some, get_or_from_slice_get}}
+use Rattle.std.specs.{List.{All, Contains}, Prelude.slice_get}
 use Rattle.xa_server.specs.State.{State}
-use Rattle.xa_judge.specs.declared.{answer.Answer.Answer, event.Seen.Seen}
-use Rattle.xa_judge.specs.declared.client_state.ClientState.TheVariants.{Answered}
-use Rattle.xa_judge.specs.{declared.{event.Event.{Event, TheVariants.Return}, moves.Move.Move}, Explained.Config}
-use Rattle.xa_judge.specs.Explained.{opening_config, observed, returned, shows_answer, LeadsThrough}
-use Rattle.xa_judge.specs.{Explained.Explained, Verdicts.{IsRefuted, IsAnswerAfter, AreAllAnswers}}
-use Rattle.xa_judge.proofs.{Places.get_within, KeyVerdicts.explained_take}
+use Rattle.xa_judge.specs.declared.{answer.Answer.Answer, event.{Seen.Seen, Event.{Event, TheVariants.Return}}}
+use Rattle.xa_judge.specs.declared.{client_state.ClientState.TheVariants.Answered, moves.Move.Move}
+use Rattle.xa_judge.specs.Explained.{Config, opening_config, observed, returned, shows_answer, LeadsThrough, Explained}
+use Rattle.xa_judge.{specs.Verdicts.{IsRefuted, IsAnswerAfter, AreAllAnswers}, proofs.Places.get_within}
+use Rattle.xa_judge.proofs.KeyVerdicts.{explained_take}
 
 -- ---- the last event
 

@@ -3,10 +3,9 @@
 --     apart_still, apart_next                who is outside of a set is still apart from a session;  up to a number
 --     set_in, none_in, replicate_in          a session that was added;  no session is in;  each is
 --     done_more, next_more, all_persistent   one more session is done;  is looked at;  the set of all sessions
-use Rattle.std.proofs.Common.{◌≡◌, ◌≢◌, ◌⊎◌, ℕ, Bool, true, false, Option, Some, None, List, ◌+◌, ◌<◌, set, refl, ap, sym}
-use Rattle.std.proofs.{Common.{◌∙◌, subst, inl, inr, arith, zero, suc, length, replicate}, lemmas.Option.{none-some, same_Some}}
-use Rattle.std.proofs.lemmas.Bool.{cases_lt, false≢true}
-use Rattle.std.specs.Prelude.{slice_get}
+use Rattle.std.proofs.Common.{◌≡◌, ◌≢◌, ◌⊎◌, ℕ, Bool, true, false, Option, Some, None, List, ◌+◌, ◌<◌, set, refl, ap}
+use Rattle.std.proofs.Common.{sym, ◌∙◌, subst, inl, inr, arith, zero, suc, length, replicate}
+use Rattle.std.{proofs.lemmas.{Option.{none-some, same_Some}, Bool.{cases_lt, false≢true}}, specs.Prelude.slice_get}
 use Rattle.xa_judge.specs.{Explained.{Config, IsSession}, Apart.IsApartAt}
 use Rattle.xa_judge.specs.Persistent.{IsIn, IsWithin, AreApartFrom, IsPersistent}
 use Rattle.xa_judge.proofs.Places.{same_number, get_within, get_written, get_apart}

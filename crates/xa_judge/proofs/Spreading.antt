@@ -1,8 +1,8 @@
 -- Configurations that are counted by their numbers.
 --     chosen_same, chosen_new      after one whose number was in the set already;  or wasn't
-use Rattle.std.proofs.Common.{◌≡◌, ◌≢◌, ℕ, ◌+◌, ◌<◌, Bool, true, false, not, List, ◌∷◌, length, get_or, refl}
-use Rattle.std.proofs.{Common.{ap, sym, ◌∙◌, subst, arith}, lemmas.{Bool.false≢true, Option.slice_get_read}}
-use Rattle.std.{proofs.lemmas.List.{Elements.All-cons, Kept.AllPairs-cons}, specs.List.All, specs.Ordering.nat_cmp}
+use Rattle.std.proofs.Common.{◌≡◌, ◌≢◌, ℕ, ◌+◌, ◌<◌, Bool, true, false, not, List, ◌∷◌, length, get_or, refl, ap, sym}
+use Rattle.std.proofs.{Common.{◌∙◌, subst, arith}, lemmas.{Bool.false≢true, Option.slice_get_read}}
+use Rattle.std.{proofs.lemmas.List.{Elements.All-cons, Kept.AllPairs-cons}, specs.{List.All, Ordering.nat_cmp}}
 use Rattle.std.specs.BTreeSet.{BTreeSet, contains, Updates}
 use Rattle.xa_judge.specs.{declared.configuration.Configuration.Configuration, Explained.Config, Found.{config_of, Has}}
 use Rattle.xa_judge.{specs.{Verdicts.AreDifferent, Marks.mark}, proofs.Places.place_mapped}

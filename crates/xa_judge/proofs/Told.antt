@@ -7,8 +7,8 @@
 --     told_found, found_on        a verdict that was found, or none;  after passes
 --     whole_told, verdict_on      a pass that begins with the first event;  after passes
 --     later_told                  a pass over events that come after others
-use Rattle.std.proofs.Common.{◌≡◌, ℕ, ◌+◌, List, ◌++◌, length, sym, subst, zero-add, Option, Some, None, arith}
-use Rattle.std.proofs.{Common.{Result, IfOk, IfSome, MatchOption}, lemmas.List.length-append}
+use Rattle.std.proofs.Common.{◌≡◌, ℕ, ◌+◌, List, ◌++◌, length, sym, subst, zero-add, Option, Some, None, arith, Result}
+use Rattle.std.proofs.{Common.{IfOk, IfSome, MatchOption}, lemmas.List.length-append}
 use Rattle.xa_server.specs.State.{State}
 use Rattle.xa_judge.specs.{declared.{event.Event.Event, so_far.SoFar.SoFar, verdict.Verdict.Verdict}, Told.IsReport}
 use Rattle.xa_judge.specs.Told.{AreReports, no_report, one_more, IsSize, ArePasses, no_pass, one_pass, IsToldUpTo}

@@ -3,19 +3,18 @@
 --     legal, refuted, wide                    LEGAL, ILLEGAL, UNDECIDED is right
 --     opens_reached, opens_complete           before the first event
 --     continues_shortened, some_shortened     common first moves are taken out
-use Rattle.std.proofs.lemmas.{Bool.Decides.nat_tests, Grind.common_steps}
-use Rattle.std.proofs.Common.{◌≡◌, ℕ, ◌+◌, ◌<◌, Some, List, slice_get, [], ◌∷◌, ◌++◌, length, take, drop, get_or, ap}
-use Rattle.std.proofs.{Common.{sym, ◌∙◌, subst, arith, append_assoc, append-nil}, lemmas.Option.same_Some}
+use Rattle.std.proofs.lemmas.{Bool.Decides.nat_tests, Grind.common_steps, Option.same_Some}
 use Rattle.std.proofs.lemmas.List.{take_more, take-append-drop, take_all, Elements.{All-cons, All-nil, All-head}}
-use Rattle.std.specs.List.{All, Contains}
+use Rattle.std.proofs.Common.{◌≡◌, ℕ, ◌+◌, ◌<◌, Some, List, slice_get, [], ◌∷◌, ◌++◌, length, take, drop, get_or, ap}
+use Rattle.std.{proofs.Common.{sym, ◌∙◌, subst, arith, append_assoc, append-nil}, specs.List.{All, Contains}}
 use Rattle.xa_server.specs.State.{State}
 use Rattle.xa_judge.specs.declared.{answer.Answer.Answer, client_state.ClientState.TheVariants.Answered}
 use Rattle.xa_judge.specs.declared.{event.Event.{Event, TheVariants.{Call, Return, Lost, Unknown}}, moves.Move.Move}
 use Rattle.xa_judge.specs.{declared.configuration.Configuration.Configuration, Late.{IsCounted, IsKept}}
 use Rattle.xa_judge.specs.{Explained.{Config, opening_config, LeadsThrough, Explained}, Found.{config_of, configs, Has}}
 use Rattle.xa_judge.specs.Found.{Reaches, IsSpread, KeepsReach, ReachesPast, IsShortened, IsOpening, IsPathOf}
-use Rattle.xa_judge.{specs.{Advances.{Continues, AreAnswers}, Told.IsComplete}, proofs.Growth.all_at}
-use Rattle.xa_judge.{specs.Verdicts.{IsRefuted, CouldBe, AreAllAnswers, IsWide}, proofs.Places.{get_within, length_map}}
+use Rattle.xa_judge.{specs.{Advances.{Continues, AreAnswers}, Told.IsComplete}, proofs.Places.{get_within, length_map}}
+use Rattle.xa_judge.{specs.Verdicts.{IsRefuted, CouldBe, AreAllAnswers, IsWide}, proofs.Growth.all_at}
 use Rattle.xa_judge.proofs.{Advances.reached_of, Late.counted_of_more}
 
 -- if a list is complete for the events before a place (`IsComplete`), and whatever goes on from it past the event

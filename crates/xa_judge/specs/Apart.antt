@@ -9,64 +9,61 @@
 -- Every rule here is the project's own: crates/xa_judge/README.md.
 use Rattle.std.specs.Prelude.{◌≡◌, ◌⊎◌, ℕ, Bool, true, false, cond, Option, Some, None, List, slice_get}
 use Rattle.std.specs.Ordering.{eq_by_cmp}
-use Rattle.xa_xid.specs.declared.{xid.Xid.Xid, statement.Statement.{Statement, TheVariants.{Start, End, Prepare}}}
-use Rattle.xa_xid.specs.declared.statement.Statement.TheVariants.{Commit, Rollback, Recover, Get, Put, Del, Disconnect}
-use Rattle.xa_xid.specs.Xid.{same_xid, bytes_cmp}
-use Rattle.xa_server.specs.declared.association.Association.{Association, TheVariants.{Free, Active, Idle}}
+use Rattle.xa_xid.specs.{declared.{xid.Xid.Xid, statement.Statement.Statement}, Xid.{same_xid, bytes_cmp}}
+use Rattle.xa_server.specs.declared.association.Association.{Association}
 use Rattle.xa_server.specs.{State.{State, LockMode, Exclusive, association_of}, Locks.lock_at}
-use Rattle.xa_judge.specs.declared.{request.Request.TheVariants.Statement as Given, client_state.ClientState.ClientState}
-use Rattle.xa_judge.specs.{declared.client_state.ClientState.TheVariants.{Called, Gone}, Explained.Config}
+use Rattle.xa_judge.specs.{declared.{request.Request.Request, client_state.ClientState.ClientState}, Explained.Config}
 
 -- the branch that a statement names
 abbrev pub named_by : Statement → Option Xid
-named_by (Start xid) = Some xid
-named_by (End xid) = Some xid
-named_by (Prepare xid) = Some xid
-named_by (Commit xid one_phase) = Some xid
-named_by (Rollback xid) = Some xid
+named_by (Statement.Start xid) = Some xid
+named_by (Statement.End xid) = Some xid
+named_by (Statement.Prepare xid) = Some xid
+named_by (Statement.Commit xid one_phase) = Some xid
+named_by (Statement.Rollback xid) = Some xid
 named_by other = None
 
 -- the row that a statement names
 abbrev pub key_of : Statement → Option (List ℕ)
-key_of (Get key) = Some key
-key_of (Put key value) = Some key
-key_of (Del key) = Some key
+key_of (Statement.Get key) = Some key
+key_of (Statement.Put key value) = Some key
+key_of (Statement.Del key) = Some key
 key_of other = None
 
 -- the statement doesn't name the branch
 abbrev pub Avoids : Statement → Xid → Type 0
-Avoids (Start other) xid = same_xid xid other ≡ false
-Avoids (End other) xid = same_xid xid other ≡ false
-Avoids (Prepare other) xid = same_xid xid other ≡ false
-Avoids (Commit other one_phase) xid = same_xid xid other ≡ false
-Avoids (Rollback other) xid = same_xid xid other ≡ false
+Avoids (Statement.Start other) xid = same_xid xid other ≡ false
+Avoids (Statement.End other) xid = same_xid xid other ≡ false
+Avoids (Statement.Prepare other) xid = same_xid xid other ≡ false
+Avoids (Statement.Commit other one_phase) xid = same_xid xid other ≡ false
+Avoids (Statement.Rollback other) xid = same_xid xid other ≡ false
 Avoids other xid = Unit {0}
 
 -- the session hasn't the branch open
 abbrev pub IsBeside : Association → Xid → Type 0
-IsBeside Free xid = Unit {0}
-IsBeside (Active own) xid = same_xid xid own ≡ false
-IsBeside (Idle own) xid = same_xid xid own ≡ false
+IsBeside Association.Free xid = Unit {0}
+IsBeside (Association.Active own) xid = same_xid xid own ≡ false
+IsBeside (Association.Idle own) xid = same_xid xid own ≡ false
 
 -- the statement is to end the branch: XA COMMIT or XA ROLLBACK of it, or DISCONNECT of a session that has it open
 abbrev pub EndsIn : Association → Statement → Xid → Type 0
-EndsIn association (Commit other one_phase) xid = other ≡ xid
-EndsIn association (Rollback other) xid = other ≡ xid
-EndsIn (Active own) Disconnect xid = own ≡ xid
-EndsIn (Idle own) Disconnect xid = own ≡ xid
+EndsIn association (Statement.Commit other one_phase) xid = other ≡ xid
+EndsIn association (Statement.Rollback other) xid = other ≡ xid
+EndsIn (Association.Active own) Statement.Disconnect xid = own ≡ xid
+EndsIn (Association.Idle own) Statement.Disconnect xid = own ≡ xid
 EndsIn association other xid = ⊥
 
 -- the statement leaves the list of PREPARED branches as it is: it is no XA PREPARE, no XA COMMIT in two phases, and
 -- no XA ROLLBACK
 abbrev pub IsUnlisted : Statement → Type 0
-IsUnlisted (Prepare xid) = ⊥
-IsUnlisted (Commit xid one_phase) = one_phase ≡ true
-IsUnlisted (Rollback xid) = ⊥
+IsUnlisted (Statement.Prepare xid) = ⊥
+IsUnlisted (Statement.Commit xid one_phase) = one_phase ≡ true
+IsUnlisted (Statement.Rollback xid) = ⊥
 IsUnlisted other = Unit {0}
 
 -- the statement is GET
 abbrev pub is_get : Statement → Bool
-is_get (Get key) = true
+is_get (Statement.Get key) = true
 is_get other = false
 
 -- how a branch holds a row, if it holds it exclusively
@@ -88,7 +85,7 @@ pub record Spares (state : State) (one : Statement) (session : ℕ) (two : State
       → (eq_by_cmp bytes_cmp key other ≡ false) ⊎ ((is_get one ≡ true) × (is_get two ≡ true))
   pub unheld : (key : List ℕ) (xid : Xid) → key_of one ≡ Some key → EndsIn (association_of state session) two xid
       → barring one (lock_at state xid key) ≡ None
-  pub listed : (convert : Bool) → one ≡ Recover convert → IsUnlisted two
+  pub listed : (convert : Bool) → one ≡ Statement.Recover convert → IsUnlisted two
 
 -- the statements of two sessions have nothing to do with each other
 abbrev pub AreApart : State → ℕ → Statement → ℕ → Statement → Type 0
@@ -96,19 +93,19 @@ AreApart state first one second two = Spares state one second two × Spares stat
 
 -- the statement that a client has called for, if that has taken no effect yet; the client may be gone
 abbrev pub open_statement : Option ClientState → Option Statement
-open_statement (Some (Called (Given statement))) = Some statement
-open_statement (Some (Gone (Some (Given statement)))) = Some statement
+open_statement (Some (ClientState.Called (Request.Statement statement))) = Some statement
+open_statement (Some (ClientState.Gone (Some (Request.Statement statement)))) = Some statement
 open_statement other = None
 
 -- the client is gone, and its DISCONNECT has taken no effect yet
 abbrev pub is_gone : Option ClientState → Bool
-is_gone (Some (Gone request)) = true
+is_gone (Some (ClientState.Gone request)) = true
 is_gone other = false
 
 -- the client has the statement open: it has called for it, or it is gone and this is its DISCONNECT
 abbrev pub Opens : Option ClientState → Statement → Type 0
 Opens client statement =
-    (open_statement client ≡ Some statement) ⊎ ((is_gone client ≡ true) × (statement ≡ Disconnect))
+    (open_statement client ≡ Some statement) ⊎ ((is_gone client ≡ true) × (statement ≡ Statement.Disconnect))
 
 -- the session's client has the statement open
 abbrev pub HasOpen : Config → ℕ → Statement → Type 0

@@ -1,14 +1,13 @@
 //! Tells whether what two sessions have open has nothing to do with each other.
 //!
 //! In these functions `one` and `two` are statements of two sessions; `session` is the one of `two`.
-ghost use Rattle.std.specs.Prelude.{◌≡◌, ◌⊎◌, ◌&&◌, not, true, false, Some, None, List, ℕ, IfOk};
-ghost use Rattle.std.specs.{List.list_any, Ordering.eq_by_cmp, Option.option_copied};
-ghost use Rattle.xa_xid.specs.Xid.{same_xid, bytes_cmp};
-ghost use Rattle.xa_xid.specs.declared.statement.Statement.{Statement as StatementSeen};
+ghost use Rattle.std.specs.{Prelude.{◌≡◌, ◌⊎◌, ◌&&◌, not, true, false, Some, None, List, ℕ, IfOk}, List.list_any};
+ghost use Rattle.std.specs.{Ordering.eq_by_cmp, Option.option_copied};
+ghost use Rattle.xa_xid.specs.{Xid.{same_xid, bytes_cmp}, declared.statement.Statement.Statement as StatementSeen};
 ghost use Rattle.xa_server.specs.{State.association_of, Locks.lock_at, Replies.reply_to, Step.is_refused};
 ghost use Rattle.xa_judge.specs.Apart.{named_by, key_of, Avoids, IsBeside, EndsIn, IsUnlisted, is_get as is_get_seen};
-ghost use Rattle.xa_judge.specs.Apart.{barring, Spares, AreApart, open_statement as open_statement_in};
-ghost use Rattle.xa_judge.specs.{Apart.{is_gone, IsApartAt}, Found.config_of};
+ghost use Rattle.xa_judge.specs.Apart.{barring, Spares, AreApart, open_statement as open_statement_in, is_gone};
+ghost use Rattle.xa_judge.specs.{Apart.IsApartAt, Found.config_of};
 
 use crate::client_state::ClientState;
 use crate::configuration::Configuration;

@@ -3,8 +3,8 @@
 //! In these functions `event` is the next one of `events`. `places` has what is known of open calls before it, and
 //! `later` what is known of them after it.
 ghost use Rattle.std.specs.Prelude.{◌≡◌, slice_set, IfOk, IfSome};
-ghost use Rattle.xa_judge.specs.Foreseen.{hints_of, FitsHints, IsAdvanceFor};
-ghost use Rattle.xa_judge.specs.{Foreseen.NeedsNone, Advances.IsCallOf, Keys.session_of as session_in};
+ghost use Rattle.xa_judge.specs.{Foreseen.{hints_of, FitsHints, IsAdvanceFor, NeedsNone}, Advances.IsCallOf};
+ghost use Rattle.xa_judge.specs.Keys.{session_of as session_in};
 
 use crate::advance::none_unheard;
 use crate::configuration::Configuration;

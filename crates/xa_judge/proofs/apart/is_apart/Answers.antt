@@ -2,9 +2,8 @@ use Rattle.std.proofs.Common.{◌≡◌, ◌∙◌, ℕ, true, Some, ap, sym, su
 use Rattle.std.specs.{Prelude.slice_get, Option.option_copied}
 use Rattle.xa_xid.specs.declared.statement.Statement.{Statement, TheVariants.Disconnect}
 use Rattle.xa_server.specs.State.{State}
-use Rattle.xa_judge.specs.{Explained.Config, Found.config_of}
+use Rattle.xa_judge.{specs.{Explained.Config, Found.config_of}, proofs.Commuting.leaving_spared}
 use Rattle.xa_judge.specs.Apart.{AreApart, open_statement, is_gone, HasOpen, IsApartAt}
-use Rattle.xa_judge.proofs.Commuting.{leaving_spared}
 use Rattle.xa_judge.proofs.apart.is_apart.Goals as goal
 
 -- what two sessions have open is apart, if so are what both have called for, and each one's DISCONNECT, if its client

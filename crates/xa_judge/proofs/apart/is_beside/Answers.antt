@@ -1,8 +1,6 @@
-use Rattle.std.proofs.Common.{◌≡◌, ℕ, Bool, true, false, refl, ap, sym, ◌∙◌, rules, tests}
-use Rattle.std.proofs.lemmas.Bool.{false≢true}
+use Rattle.std.proofs.{Common.{◌≡◌, ℕ, Bool, true, false, refl, ap, sym, ◌∙◌, rules, tests}, lemmas.Bool.false≢true}
 use Rattle.xa_xid.specs.{declared.{xid.Xid.Xid, statement.Statement.TheVariants.{End, Prepare}}, Xid.same_xid}
-use Rattle.xa_server.specs.declared.association.Association.{Association, TheVariants.{Free, Active, Idle}}
-use Rattle.xa_server.specs.declared.xa_error.XaError.{XaError, TheVariants.Nota}
+use Rattle.xa_server.specs.declared.{association.Association.Association, xa_error.XaError.{XaError, TheVariants.Nota}}
 use Rattle.xa_server.specs.{State.{State, association_of}, Replies.{table, reply_to, ok_if}, Step.is_refused}
 use Rattle.xa_judge.specs.Apart.{IsBeside}
 use Rattle.xa_judge.proofs.apart.is_beside.Goals as goal
@@ -20,9 +18,9 @@ beside_of state session xid end prepare = by (association_of state session) end 
   where
     by : (a : Association) → is_refused (table state a (End xid)) ≡ true
         → is_refused (table state a (Prepare xid)) ≡ true → IsBeside a xid
-    by Free end prepare = tt
-    by (Active own) end prepare = failed (same_xid xid own) Nota end
-    by (Idle own) end prepare = failed (same_xid xid own) Nota prepare
+    by Association.Free end prepare = tt
+    by (Association.Active own) end prepare = failed (same_xid xid own) Nota end
+    by (Association.Idle own) end prepare = failed (same_xid xid own) Nota prepare
 
 pub returns : goal.returns
 returns c = λ e.

@@ -1,13 +1,11 @@
-use Rattle.std.proofs.Common.{◌≡◌, ◌⊎◌, ◌&&◌, ◌||◌, Bool, true, false, not, Option, Some, None, List, [], ◌∷◌, ℕ, refl, ap, sym}
-use Rattle.std.proofs.{Common.{◌∙◌, inl, inr}, lemmas.{Bool.false≢true, Option.{none-some, same_Some}}}
+use Rattle.std.proofs.Common.{◌≡◌, ◌⊎◌, ◌&&◌, ◌||◌, Bool, true, false, not, Option, Some, None, List, [], ◌∷◌, ℕ, refl}
+use Rattle.std.proofs.{Common.{ap, sym, ◌∙◌, inl, inr}, lemmas.{Bool.false≢true, Option.{none-some, same_Some}}}
 use Rattle.std.specs.{Prelude.map, Option.{option_map_or, option_and_then}, List.list_any, Ordering.eq_by_cmp}
 use Rattle.std.specs.FinMap.{contains_key-keys}
-use Rattle.xa_xid.specs.declared.{xid.Xid.Xid, statement.Statement.{Statement, TheVariants.{Start, End, Prepare}}}
-use Rattle.xa_xid.specs.declared.statement.Statement.TheVariants.{Commit, Rollback, Recover, Unsupported, Get, Put, Del}
-use Rattle.xa_xid.specs.{declared.statement.Statement.TheVariants.Disconnect, Xid.bytes_cmp}
+use Rattle.xa_xid.specs.{declared.{xid.Xid.Xid, statement.Statement.Statement}, Xid.bytes_cmp}
 use Rattle.xa_server.specs.declared.association.Association.{Association, TheVariants.{Free, Active, Idle}}
-use Rattle.xa_server.specs.{State.{LockMode, Branch, State, association_of}, Locks.lock_at}
-use Rattle.xa_server.{specs.Overview.{held_row, rows_held, rows_of, keys_of, keys_open, keys_about}, proofs.Holders.none_of}
+use Rattle.xa_server.{specs.{State.{LockMode, Branch, State, association_of}, Locks.lock_at}, proofs.Holders.none_of}
+use Rattle.xa_server.specs.Overview.{held_row, rows_held, rows_of, keys_of, keys_open, keys_about}
 use Rattle.xa_judge.{specs.Apart.{key_of, EndsIn, is_get, barring}, proofs.Commuting.none_bars}
 use Rattle.xa_judge.proofs.apart.spares_key.Goals as goal
 use Rattle.std.specs.FinMap as fin
@@ -41,22 +39,22 @@ ended_rows : (state : State) (session : ℕ) (statement : Statement) (xid : Xid)
     → EndsIn (association_of state session) statement xid
     → (keys_about state session statement ≡ keys_of (rows_of state xid)) × (is_get statement ≡ false)
 unfolding keys_about
-ended_rows state session (Commit other one_phase) xid is = (ap (λ x. keys_of (rows_of state x)) is, refl)
-ended_rows state session (Rollback other) xid is = (ap (λ x. keys_of (rows_of state x)) is, refl)
-ended_rows state session Disconnect xid is = (by (association_of state session) is, refl)
+ended_rows state session (Statement.Commit other one_phase) xid is = (ap (λ x. keys_of (rows_of state x)) is, refl)
+ended_rows state session (Statement.Rollback other) xid is = (ap (λ x. keys_of (rows_of state x)) is, refl)
+ended_rows state session Statement.Disconnect xid is = (by (association_of state session) is, refl)
   where
-    by : (a : Association) → EndsIn a Disconnect xid → keys_open state a ≡ keys_of (rows_of state xid)
+    by : (a : Association) → EndsIn a Statement.Disconnect xid → keys_open state a ≡ keys_of (rows_of state xid)
     by Free is = absurd is
     by (Active own) is = ap (λ x. keys_of (rows_of state x)) is
     by (Idle own) is = ap (λ x. keys_of (rows_of state x)) is
-ended_rows state session (Start other) xid is = absurd is
-ended_rows state session (End other) xid is = absurd is
-ended_rows state session (Prepare other) xid is = absurd is
-ended_rows state session (Recover convert) xid is = absurd is
-ended_rows state session Unsupported xid is = absurd is
-ended_rows state session (Get key) xid is = absurd is
-ended_rows state session (Put key value) xid is = absurd is
-ended_rows state session (Del key) xid is = absurd is
+ended_rows state session (Statement.Start other) xid is = absurd is
+ended_rows state session (Statement.End other) xid is = absurd is
+ended_rows state session (Statement.Prepare other) xid is = absurd is
+ended_rows state session (Statement.Recover convert) xid is = absurd is
+ended_rows state session Statement.Unsupported xid is = absurd is
+ended_rows state session (Statement.Get key) xid is = absurd is
+ended_rows state session (Statement.Put key value) xid is = absurd is
+ended_rows state session (Statement.Del key) xid is = absurd is
 
 -- a key that isn't in a list of one key differs from that one
 alone : (key other row : List ℕ) → Some row ≡ Some other → list_any (eq_by_cmp bytes_cmp key) (row ∷ []) ≡ false
@@ -73,17 +71,17 @@ named_apart : (state : State) (session : ℕ) (statement : Statement) (key other
     → key_of statement ≡ Some other → list_any (eq_by_cmp bytes_cmp key) (keys_about state session statement) ≡ false
     → eq_by_cmp bytes_cmp key other ≡ false
 unfolding keys_about
-named_apart state session (Get row) key other is e = alone key other row is e
-named_apart state session (Put row value) key other is e = alone key other row is e
-named_apart state session (Del row) key other is e = alone key other row is e
-named_apart state session (Start xid) key other is e = absurd (none-some other is)
-named_apart state session (End xid) key other is e = absurd (none-some other is)
-named_apart state session (Prepare xid) key other is e = absurd (none-some other is)
-named_apart state session (Commit xid one_phase) key other is e = absurd (none-some other is)
-named_apart state session (Rollback xid) key other is e = absurd (none-some other is)
-named_apart state session (Recover convert) key other is e = absurd (none-some other is)
-named_apart state session Unsupported key other is e = absurd (none-some other is)
-named_apart state session Disconnect key other is e = absurd (none-some other is)
+named_apart state session (Statement.Get row) key other is e = alone key other row is e
+named_apart state session (Statement.Put row value) key other is e = alone key other row is e
+named_apart state session (Statement.Del row) key other is e = alone key other row is e
+named_apart state session (Statement.Start xid) key other is e = absurd (none-some other is)
+named_apart state session (Statement.End xid) key other is e = absurd (none-some other is)
+named_apart state session (Statement.Prepare xid) key other is e = absurd (none-some other is)
+named_apart state session (Statement.Commit xid one_phase) key other is e = absurd (none-some other is)
+named_apart state session (Statement.Rollback xid) key other is e = absurd (none-some other is)
+named_apart state session (Statement.Recover convert) key other is e = absurd (none-some other is)
+named_apart state session Statement.Unsupported key other is e = absurd (none-some other is)
+named_apart state session Statement.Disconnect key other is e = absurd (none-some other is)
 
 -- where the test of `meets` fails, the key isn't among the rows, or both statements are GET
 unmet : (one two among : Bool) → (not (one && two) && among) ≡ false
