@@ -1137,5 +1137,6 @@ still_apart old new third other session act law leads differ away beside its = �
         by : (request : Request) → ((that : Statement) → request ≡ Given that → HasOpen old third that)
             → AreApart (next_state old.state third request) third Disconnect session two
         by Unread has = beside Disconnect two leaves its_opens
-        by (Given that) has = left_later old.state third session that two law (beside that two (has that refl) its_opens)
+        by (Given that) has = left_later old.state third session that two law
+            (beside that two (has that refl) its_opens)
             (beside Disconnect two leaves its_opens)

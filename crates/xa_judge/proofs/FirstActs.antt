@@ -37,7 +37,8 @@ RestsUntil session (Effect other act ∷ moves) = (other ≢ session) × RestsUn
 RestsUntil session moves = Unit {0}
 
 -- an act of the session comes before the next event, or none does
-pub acts_or_rests : (session : ℕ) (moves : List Move) → Reaches (λ other. Unit {0}) session moves ⊎ RestsUntil session moves
+pub acts_or_rests : (session : ℕ) (moves : List Move)
+    → Reaches (λ other. Unit {0}) session moves ⊎ RestsUntil session moves
 acts_or_rests session (Effect other act ∷ moves) = elim (same_number other session) [
   | inl is ↦ inl (inl is)
   | inr apart ↦ elim (acts_or_rests session moves) [
@@ -378,8 +379,8 @@ goes_step hints all has kept run end session events moves there alike persistent
           | inr (inr dead) ↦ inr (record { run = f.first; dead = dead; moves = f.moves; runs = f.runs })
         ]
     by found (inr (inl ahead)) = elim ahead.way [
-      | inl called ↦ elim (answered_first (IsOutside all run kept) hints run end found.session called.0 ahead.seen events
-          moves called.1 ahead.hinted called.2 alike.law found.reaches runs) [
+      | inl called ↦ elim (answered_first (IsOutside all run kept) hints run end found.session called.0 ahead.seen
+          events moves called.1 ahead.hinted called.2 alike.law found.reaches runs) [
             | inl f ↦ inl (
               record {
                 kept = kept;

@@ -83,7 +83,8 @@ expanded_more hints all number one mid new grows before here = λ session below 
           (other.0, still_has mid new other.0 grows other.1, other.2)
       | inr over ↦
           let e : number ≡ session = omega (arith, below, over) in
-          subst (λ n. HasNextFor hints one n new) e (here (subst IsSession (sym e) is) (subst (IsIn all) (sym e) inside))
+          subst (λ n. HasNextFor hints one n new) e
+          (here (subst IsSession (sym e) is) (subst (IsIn all) (sym e) inside))
     ]
 
 -- a list that has what acts of a persistent set lead to (`IsTriedFor`) still has it once extended

@@ -59,7 +59,8 @@ seen_answered hints hint event old new kept run end more moves there alike fits 
               | inl f ↦
                   let like = ahead_answered hints run kept session called.0 f.given alike ahead called.1 in
                   done _ f.moves like
-                  (ap answered_so (get_written run.clients session (Called called.0) (Answered f.given) called.1)) f.runs
+                  (ap answered_so (get_written run.clients session (Called called.0) (Answered f.given) called.1))
+                  f.runs
               | inr left ↦ inr (left_past hints hint event left.run end more left.moves left.dead fits left.runs)
             ]
       ]

@@ -1,5 +1,6 @@
 -- Sets of sessions, as they grow.
---     within_none, within_more, within_set   a set is part of itself;  of what contains a larger one;  of itself with one more
+--     within_none, within_more, within_set   a set is part of itself;  of what contains a larger one;  of itself with
+--                                            one more
 --     apart_still, apart_next                who is outside of a set is still apart from a session;  up to a number
 --     set_in, none_in, replicate_in          a session that was added;  no session is in;  each is
 --     done_more, next_more, all_persistent   one more session is done;  is looked at;  the set of all sessions

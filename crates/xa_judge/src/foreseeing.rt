@@ -180,8 +180,8 @@ fn add_allowed(
     Ok(())
 }
 
-/// Adds what allowed acts (`is_allowed`) of the sessions in `all` lead to from the configuration at this place. `all` has
-/// `true` at the places of their numbers.
+/// Adds what allowed acts (`is_allowed`) of the sessions in `all` lead to from the configuration at this place. `all`
+/// has `true` at the places of their numbers.
 fn add_all(
     known: &mut Vec<Configuration>,
     index: &mut FingerprintIndex,

@@ -100,7 +100,8 @@ returns-clause-row c = λ e other names.
     elim (unmet (is_get one) (is_get two) (list_any (eq_by_cmp bytes_cmp key) c.as_slice.result.now)
     (sym c.meets.ensures ∙ fails c.meets.result e)) [
       | inl none ↦ inl (named_apart state session two key other names
-          (ap (list_any (eq_by_cmp bytes_cmp key)) (sym (c.as_slice.ensures.value ∙ c.in_ok-rows.ensures.listed)) ∙ none))
+          (ap (list_any (eq_by_cmp bytes_cmp key))
+          (sym (c.as_slice.ensures.value ∙ c.in_ok-rows.ensures.listed)) ∙ none))
       | inr gets ↦ inr gets
     ]
 

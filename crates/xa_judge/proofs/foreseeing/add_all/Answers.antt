@@ -17,8 +17,8 @@ loop-number-preserved c =
     record {
       grows = extends_more old now new c.loop-number.invariant.grows c.in_ok-add_number.ensures.grows;
       all = λ one at.
-          expanded_more (hints_of c.args.events.now c.args.places.now) c.args.all.now c.loop-number.number (config_of one) now
-          new
+          expanded_more (hints_of c.args.events.now c.args.places.now) c.args.all.now c.loop-number.number
+          (config_of one) now new
           c.in_ok-add_number.ensures.grows (c.loop-number.invariant.all one at)
           (c.in_ok-add_number.ensures.has one
           (still_at old now c.args.place one c.loop-number.invariant.grows at));
