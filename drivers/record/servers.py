@@ -88,8 +88,8 @@ class MariaDb(Server):
 
     def command(self):
         return ["mariadbd", "--no-defaults", f"--user={getpass.getuser()}", f"--datadir={self.folder / 'data'}",
-                f"--socket={self.socket}", f"--pid-file={self.folder / 'pid'}", "--skip-networking",
-                "--innodb-flush-log-at-trx-commit=2"]
+                f"--socket={self.socket}", f"--pid-file={self.folder / 'pid'}", f"--tmpdir={self.folder}",
+                "--skip-networking", "--innodb-flush-log-at-trx-commit=2"]
 
     def answers(self):
         return subprocess.run(["mariadb-admin", "--no-defaults", f"--socket={self.socket}", "--user=root", "ping"],

@@ -52,7 +52,8 @@ def started(folder, user, data):
     for _ in range(TRIES):
         port = free_port()
         with open(Path(folder) / "log", "wb") as log:
-            process = subprocess.Popen(["mariadbd", "--no-defaults", user, f"--datadir={data}",
+            # One that starts removes temporary tables from its folder, also those of others that run.
+            process = subprocess.Popen(["mariadbd", "--no-defaults", user, f"--datadir={data}", f"--tmpdir={folder}",
                                         f"--socket={folder}/socket", f"--pid-file={folder}/pid", f"--port={port}",
                                         "--bind-address=127.0.0.1", "--innodb-flush-log-at-trx-commit=0",
                                         "--innodb-flush-method=nosync", "--skip-innodb-doublewrite"], stdout=log,
